@@ -1,0 +1,4 @@
+pub mod Day
+pub mod Shift
+pub mod Tenor
+pub mod Text

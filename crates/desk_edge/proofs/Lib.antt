@@ -1,0 +1,5 @@
+pub mod CountLemmas
+pub mod FileListLemmas
+pub mod Rows
+pub mod ShelfLemmas
+pub mod SinkLemmas

@@ -1,0 +1,14 @@
+use Rattle.std.proofs.Common.{length, ◌-◌, ◌≡◌, ◌≤◌}
+use Rattle.desk_edge.specs.Shelf.{put_back}
+use Rattle.desk_edge.proofs.reading.read_begun.Given as goal
+
+abbrev pub invariant-loop : goal.invariant-loop
+invariant-loop g l = record {
+  most : length l.out.items ≤ 8388608;
+  kept : put_back l.out.items (g.H.Shelf.contents l.shelf) ≡ g.H.Shelf.contents l.initial.shelf;
+  faults : g.H.Shelf.faults l.initial.shelf ≤ g.H.Shelf.faults l.shelf;
+  misses : g.H.Shelf.misses l.initial.shelf ≤ g.H.Shelf.misses l.shelf;
+}
+
+abbrev pub decreases-loop : goal.decreases-loop
+decreases-loop g l = 8388608 - length l.out.items

@@ -1,0 +1,106 @@
+// A sink of bytes in memory.
+ghost use Rattle.std.specs.Prelude.{◌≡◌, ◌≤◌, Some, [], IfOk};
+ghost use Rattle.desk_edge.specs.MemorySink.{put_answer, after_put};
+
+use crate::count::one_more;
+use crate::{CallList, Failed, Sink};
+use std::alloc::{AllocError, Global};
+use std::marker::Model;
+
+/// Bytes in memory, of which each call takes at most so many, until the room is used up, and whose
+/// listed calls fail. The calls are numbered from 1. Memory is taken when the sink is made, and by no
+/// call of it.
+#[derive(Drop)]
+pub struct MemorySink {
+    bytes: Vec<u8>,
+    room: usize,
+    most: usize,
+    fails: CallList,
+    calls: u64,
+    faults: u64,
+}
+
+impl Model for MemorySink {
+    ghost use Rattle.std.specs.Prelude.{◌≤◌, vec_len, vec_capacity};
+    ghost use Rattle.desk_edge.specs.MemorySink.{SinkState};
+
+    ghost Value = { SinkState };
+
+    ghost view = { λ s. record {
+      bytes = s.bytes.items;
+      room = s.room;
+      most = s.most;
+      fails = s.fails;
+      calls = s.calls;
+      faults = s.faults;
+    } };
+
+    ghost invariant = { λ s.
+        (1 ≤ s.most) × (vec_len s.bytes ≤ s.room) × (s.room ≤ vec_capacity s.bytes) };
+}
+
+impl MemorySink {
+    /// A sink with room for so many bytes, before any call.
+    pub fn new(
+        alloc: Global,
+        room: usize,
+        most: usize,
+        fails: CallList,
+    ) -> Result<MemorySink, AllocError>
+        requires { 1 ≤ most }
+        ensures { IfOk result (λ sink. sink ≡ record {
+          bytes = [];
+          room = room;
+          most = most;
+          fails = fails;
+          calls = 0;
+          faults = 0;
+        }) }
+    {
+        let bytes = Vec::with_capacity(alloc, room)?;
+        Ok(MemorySink {
+            bytes,
+            room,
+            most,
+            fails,
+            calls: 0,
+            faults: 0,
+        })
+    }
+
+    /// The bytes taken so far.
+    pub fn bytes(&self) -> &[u8]
+        ensures { result.now ≡ self.now.bytes }
+    {
+        self.bytes.as_slice()
+    }
+
+    /// As `Sink::put`. It fails exactly where its number is listed, or the piece is not empty and the
+    /// room is used up.
+    pub fn put(&mut self, piece: &[u8]) -> Result<usize, Failed>
+        ensures answer { result ≡ put_answer self.old piece.now }
+        ensures state { self.new ≡ after_put self.old piece.now }
+        ensures faults { self.old.faults ≤ self.new.faults }
+        ensures some { 1 ≤ self.old.most }
+    {
+        self.calls = one_more(self.calls);
+        let left = self.room - self.bytes.len();
+        if self.fails.lists(self.calls) || (!piece.is_empty() && left == 0) {
+            self.faults = one_more(self.faults);
+            return Err(Failed);
+        }
+        let count = piece.len().min(self.most).min(left);
+        self.bytes.extend_from_slice(&piece[..count]).unwrap();
+        Ok(count)
+    }
+}
+
+impl Sink for MemorySink {
+    ghost bytes = { λ s. Some s.bytes };
+
+    ghost faults = { λ s. s.faults };
+
+    fn put(&mut self, piece: &[u8]) -> Result<usize, Failed> {
+        MemorySink::put(self, piece)
+    }
+}

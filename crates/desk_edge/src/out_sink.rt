@@ -1,0 +1,64 @@
+// A sink over a writer.
+ghost use Rattle.std.specs.Io.KnownBytes.{Appends};
+ghost use Rattle.std.specs.Prelude.{◌≡◌, ◌≤◌, None, [], length, take, IfOk};
+
+use crate::count::one_more;
+use crate::{Failed, Sink};
+use std::io;
+use std::io::{Error, ErrorKind, Write};
+use std::marker::Model;
+
+/// A writer, such as standard output, that is flushed at each put. Contracts see its count of
+/// faults, and no bytes.
+#[derive(Drop)]
+pub struct OutSink<W: Write + Drop> {
+    writer: W,
+    faults: u64,
+}
+
+impl<W: Write + Drop> Model for OutSink<W> {
+    ghost use Rattle.std.specs.Prelude.{ℕ};
+
+    ghost Value = { ℕ };
+
+    ghost view = { λ s. s.faults };
+}
+
+impl<W: Write + Drop> OutSink<W> {
+    pub fn new(writer: W) -> OutSink<W>
+        ensures { result ≡ 0 }
+    {
+        OutSink { writer, faults: 0 }
+    }
+}
+
+impl<W: Write + Drop> Sink for OutSink<W> {
+    ghost bytes = { λ _. None };
+
+    ghost faults = { λ s. s };
+
+    fn put(&mut self, piece: &[u8]) -> Result<usize, Failed> {
+        match write_through(&mut self.writer, piece) {
+            Ok(count) => Ok(count),
+            Err(_) => {
+                self.faults = one_more(self.faults);
+                Err(Failed)
+            }
+        }
+    }
+}
+
+// Writes the first bytes of the piece, and has the writer hand them on. A write of nothing is an error.
+fn write_through<W: Write>(writer: &mut W, piece: &[u8]) -> io::Result<usize>
+    ensures within { IfOk result (λ count. count ≤ length piece.now) }
+    ensures some { IfOk result (λ count. count ≡ 0 → piece.now ≡ []) }
+    ensures bytes { IfOk result (λ count.
+        Appends (W.contents writer.old) (W.contents writer.new) (take count piece.now)) }
+{
+    let count = writer.write(piece)?;
+    if count == 0 && !piece.is_empty() {
+        return Err(Error::from(ErrorKind::WriteZero));
+    }
+    writer.flush()?;
+    Ok(count)
+}

@@ -1,0 +1,118 @@
+// The read of a whole file.
+ghost use Rattle.std.specs.Prelude.{◌≡◌, ◌+◌, ◌-◌, ◌<◌, ◌≤◌, true, false, [], length, IfOk, IfSome, OnOk, OnErr, IsErrOf};
+ghost use Rattle.desk_edge.specs.Count.{Rose};
+ghost use Rattle.desk_edge.specs.declared.reading.ReadFault.TheVariants.{Failed as ReadFailed, NoMemory};
+ghost use Rattle.desk_edge.specs.Shelf.{files_of, passed, put_back, TakesAtMost, IsFront, Reads, Leaves};
+
+use crate::{Failed, Shelf};
+use std::alloc::AllocError;
+use thiserror::Error;
+
+/// The most bytes of a file that is read whole: 8 MiB (this project's profile).
+pub const MOST: usize = 8_388_608;
+
+// How many bytes are asked for at once.
+const PIECE: usize = 4096;
+
+/// Why a file was not read whole.
+#[derive(Clone, Copy, Debug, PartialEq, Eq, Error)]
+pub enum ReadFault {
+    /// A call of the shelf failed.
+    #[error("the read failed")]
+    Failed,
+    /// The file has more than `MOST` bytes.
+    #[error("the file is too long")]
+    TooLong,
+    #[error("out of memory")]
+    NoMemory,
+}
+
+impl From<Failed> for ReadFault {
+    ghost from_gives = { λ _ e. e ≡ ReadFailed };
+
+    fn from(_: Failed) -> Self {
+        ReadFault::Failed
+    }
+}
+
+impl From<AllocError> for ReadFault {
+    ghost from_gives = { λ _ e. e ≡ NoMemory };
+
+    fn from(_: AllocError) -> Self {
+        ReadFault::NoMemory
+    }
+}
+
+/// Reads the file with this path to its end into out. Ok(false): there is none. A file of `MOST`
+/// bytes is read, and of a longer one `MOST` + 1 bytes are taken. After a fault out holds the front
+/// of the file.
+pub fn read_whole<H: Shelf>(shelf: &mut H, path: &str, out: &mut Vec<u8>) -> Result<bool, ReadFault>
+    requires { out.old.items ≡ [] }
+    ensures files { files_of (H.contents shelf.new) ≡ files_of (H.contents shelf.old) }
+    ensures reads { IfSome (files_of (H.contents shelf.old))
+        (λ files. Reads files path.now result out.new.items) }
+    ensures taken { IfSome (H.contents shelf.new) (Leaves path.now result) }
+    ensures most { length out.new.items ≤ MOST }
+    ensures nothing { result ≡ Ok false → out.new.items ≡ [] }
+    ensures missed { result ≡ Ok false → Rose (H.misses shelf.old) (H.misses shelf.new) }
+    ensures failed { IsErrOf result ReadFault.Failed → Rose (H.faults shelf.old) (H.faults shelf.new) }
+    ensures faults { H.faults shelf.old ≤ H.faults shelf.new }
+    ensures misses { H.misses shelf.old ≤ H.misses shelf.new }
+{
+    if !shelf.find(path)? {
+        return Ok(false);
+    }
+    read_begun(shelf, out)?;
+    Ok(true)
+}
+
+// Reads the file begun to its end into out. It takes at most `MOST` + 1 bytes, however it ends.
+fn read_begun<H: Shelf>(shelf: &mut H, out: &mut Vec<u8>) -> Result<(), ReadFault>
+    requires { out.old.items ≡ [] }
+    ensures whole { OnOk result (IfSome (H.contents shelf.old) (λ c. out.new.items ≡ c.rest)) }
+    ensures end { OnOk result (IfSome (H.contents shelf.new) (λ c. c.rest ≡ [])) }
+    ensures front { IfSome (H.contents shelf.old) (λ c. IsFront out.new.items c.rest) }
+    ensures long { IsErrOf result ReadFault.TooLong → IfSome (H.contents shelf.old)
+        (λ c. (MOST < length c.rest) × (H.contents shelf.new ≡ Some (passed (MOST + 1) c))) }
+    ensures files { files_of (H.contents shelf.new) ≡ files_of (H.contents shelf.old) }
+    ensures few { TakesAtMost (MOST + 1) (H.contents shelf.old) (H.contents shelf.new) }
+    ensures most { length out.new.items ≤ MOST }
+    ensures failed { IsErrOf result ReadFault.Failed → Rose (H.faults shelf.old) (H.faults shelf.new) }
+    ensures faults { H.faults shelf.old ≤ H.faults shelf.new }
+    ensures misses { H.misses shelf.old ≤ H.misses shelf.new }
+{
+    let mut buf = [0u8; PIECE];
+    while take_more(shelf, &mut buf, out)? {}
+    Ok(())
+}
+
+// Takes the next bytes of the file begun into out, by way of buf. Ok(false): there are none.
+fn take_more<H: Shelf>(shelf: &mut H, buf: &mut [u8], out: &mut Vec<u8>) -> Result<bool, ReadFault>
+    requires some { 0 < length buf.old }
+    requires most { length out.old.items ≤ MOST }
+    // What out has and what is left make one file.
+    ensures kept { OnOk result (put_back out.new.items (H.contents shelf.new)
+        ≡ put_back out.old.items (H.contents shelf.old)) }
+    ensures more { IfOk result (λ more. more ≡ true → length out.old.items < length out.new.items) }
+    ensures end { IfOk result (λ more. more ≡ false → IfSome (H.contents shelf.new) (λ c. c.rest ≡ [])) }
+    ensures same { OnErr result (out.new.items ≡ out.old.items) }
+    ensures long { IsErrOf result ReadFault.TooLong → IfSome (H.contents shelf.old)
+        (λ c. (MOST < length out.old.items + length c.rest)
+        × (H.contents shelf.new ≡ Some (passed (MOST + 1 - length out.old.items) c))) }
+    ensures files { files_of (H.contents shelf.new) ≡ files_of (H.contents shelf.old) }
+    ensures few { TakesAtMost (MOST + 1 - length out.old.items)
+        (H.contents shelf.old) (H.contents shelf.new) }
+    ensures most { length out.new.items ≤ MOST }
+    ensures failed { IsErrOf result ReadFault.Failed → Rose (H.faults shelf.old) (H.faults shelf.new) }
+    ensures faults { H.faults shelf.old ≤ H.faults shelf.new }
+    ensures misses { H.misses shelf.old ≤ H.misses shelf.new }
+{
+    let room = (MOST + 1 - out.len()).min(buf.len());
+    let piece = &mut buf[..room];
+    let count = shelf.take(piece)?;
+    if count > MOST - out.len() {
+        return Err(ReadFault::TooLong);
+    }
+    out.extend_from_slice(&piece[..count])?;
+    Ok(count > 0)
+}

@@ -1,0 +1,25 @@
+// A sink of bytes, which takes them in order.
+ghost use Rattle.std.specs.Prelude.{◌≡◌, ◌≤◌, ℕ, List, Option, [], length, take, IfOk, OnErr};
+ghost use Rattle.desk_edge.specs.Count.{Rose};
+ghost use Rattle.desk_edge.specs.Sink.{appended};
+
+use crate::Failed;
+
+/// Bytes that are taken in order (this project's profile).
+pub trait Sink {
+    /// The bytes taken so far, where the sink tells them.
+    ghost bytes: { Self → Option (List ℕ) };
+
+    /// How many calls failed, as a u64 that stands still at its last value.
+    ghost faults: { Self → ℕ };
+
+    /// Takes the first bytes of the piece, at least one unless it is empty, and answers how many.
+    fn put(&mut self, piece: &[u8]) -> Result<usize, Failed>
+        ensures within { IfOk result (λ count. count ≤ length piece.now) }
+        ensures some { IfOk result (λ count. count ≡ 0 → piece.now ≡ []) }
+        ensures taken { IfOk result (λ count.
+            bytes self.new ≡ appended (take count piece.now) (bytes self.old)) }
+        ensures same { OnErr result (bytes self.new ≡ bytes self.old) }
+        ensures failed { OnErr result (Rose (faults self.old) (faults self.new)) }
+        ensures faults { faults self.old ≤ faults self.new };
+}

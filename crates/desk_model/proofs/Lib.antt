@@ -1,0 +1,4 @@
+pub mod Asks
+pub mod Changes
+pub mod Flat
+pub mod Moves

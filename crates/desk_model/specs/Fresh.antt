@@ -1,0 +1,54 @@
+-- The price of an object, computed afresh from the market alone: no flag and no stored value occurs here.
+use Rattle.std.specs.Prelude.{◌≡◌, ℕ, zero, suc, List, [], ◌∷◌, length, Option, Some, None, Result, Ok, Err}
+use Rattle.desk_terms.specs.declared.terms.Terms.{Terms}
+use Rattle.desk_terms.specs.declared.value.Value.{Value}
+use Rattle.desk_terms.specs.declared.value.Value.TheVariants.{Money}
+use Rattle.desk_terms.specs.declared.value.Input as input
+use Rattle.desk_terms.specs.declared.cause.Cause.{Cause}
+use Rattle.desk_terms.specs.declared.cause.Cause.TheVariants.{Unset}
+use Rattle.desk_terms.specs.Reading.{Reading, Outcome, Calc}
+use Rattle.desk_model.specs.Market.{Market, terms_at, Entry, uses}
+use Rattle.desk_model.specs.Market.Entry.{Gives, Needs, Refuses}
+
+-- a value as the input of another price
+abbrev pub input_of : Value → input.Input
+input_of (Money amount) = input.TheVariants.Money amount
+
+-- an input before those that follow it; a refusal among them is the answer
+abbrev pub and_inputs : input.Input → Result (List input.Input) Cause → Result (List input.Input) Cause
+and_inputs i (Ok inputs) = Ok (i ∷ inputs)
+and_inputs i (Err cause) = Err cause
+
+abbrev pub and_value : Outcome → Result (List input.Input) Cause → Result (List input.Input) Cause
+and_value (Ok value) inputs = and_inputs (input_of value) inputs
+and_value (Err cause) inputs = Err cause
+
+-- the inputs that the entries give, `answer` being that of the objects needed; the first refusal in order wins
+abbrev pub inputs_by : (ℕ → Outcome) → List Entry → Result (List input.Input) Cause
+inputs_by answer [] = Ok []
+inputs_by answer (Gives i ∷ entries) = and_inputs i (inputs_by answer entries)
+inputs_by answer (Needs x ∷ entries) = and_value (answer x) (inputs_by answer entries)
+inputs_by answer (Refuses cause ∷ entries) = Err cause
+
+-- the price over these inputs
+abbrev pub priced_over : Calc → ℕ → Option Terms → Result (List input.Input) Cause → Outcome
+priced_over calc o (Some terms) (Ok inputs) = calc (record { object = o; terms = terms; inputs = inputs })
+priced_over calc o terms (Err cause) = Err cause
+priced_over calc o None (Ok inputs) = Err (Unset o)
+
+-- the price of o, where the objects that it needs answer by `answer`
+abbrev pub priced_by : Calc → Market → (ℕ → Outcome) → ℕ → Outcome
+priced_by calc market answer o = priced_over calc o (terms_at market o) (inputs_by answer (uses market o))
+
+abbrev pub or_priced : Option Outcome → Outcome → Outcome
+or_priced (Some outcome) priced = outcome
+or_priced None priced = priced
+
+-- what o answers where `held` says which objects answer without a price, over paths of at most n edges
+unfoldable pub answer_by : Calc → Market → (ℕ → Option Outcome) → ℕ → ℕ → Outcome
+answer_by calc market held zero o = or_priced (held o) (Err (Unset o))
+answer_by calc market held (suc n) o = or_priced (held o) (priced_by calc market (answer_by calc market held n) o)
+
+-- The price of o afresh. No path without a repeated object is longer than the number of objects.
+unfoldable pub fresh : Calc → Market → ℕ → Outcome
+fresh calc market o = answer_by calc market (λ x. None) (suc (length market.objects)) o

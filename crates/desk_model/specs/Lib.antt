@@ -1,0 +1,10 @@
+pub mod Effect
+pub mod Examples
+pub mod Fresh
+pub mod Laws
+pub mod Links
+pub mod Market
+pub mod Sound
+pub mod State
+pub mod Told
+pub mod Visit

@@ -1,0 +1,116 @@
+-- The ways in which the reading of words and files ends, against the verdict of the definition.
+use Rattle.std.proofs.Common.{◌≡◌, ◌⊎◌, inl, inr, ⊎_elim, ℕ, ◌<◌, Bool, true, false, ◌||◌, List, length, Option, Some, None, Result, Ok, Err, Vec, refl, sym, ◌∙◌, ap, subst, arith}
+use Rattle.std.specs.Prelude.{IfSome, nat_lt, if◌then◌else◌}
+use Rattle.std.specs.Str.{bytes_eq}
+use Rattle.std.specs.declared.alloc.Global.{Global}
+use Rattle.std.proofs.lemmas.Bool.{cases_eq}
+use Rattle.std.proofs.lemmas.Bool.Decides.{nat_tests}
+use Rattle.std.proofs.lemmas.Slice.Eq.{bytes_eq-Decides}
+use Rattle.desk_edge.specs.Shelf.{most_bytes, file_at}
+use Rattle.desk_top.specs.declared.status.Section.TheVariants.{Top}
+use Rattle.desk_top.specs.declared.status.MarketKind as market
+use Rattle.desk_top.specs.declared.status.ScriptKind as script
+use Rattle.desk_top.specs.declared.status.FileRole as role
+use Rattle.desk_top.specs.declared.status.Status.{Status}
+use Rattle.desk_top.specs.declared.status.Status as status
+use Rattle.desk_top.specs.declared.script.Plan as read
+use Rattle.desk_top.specs.Found.{too_long_of, Finds, Plans, plan_in}
+use Rattle.desk_terms.specs.Reading.{Calc}
+use Rattle.desk_model.specs.Effect.{start}
+use Rattle.desk_top.specs.declared.command.Command.{Command}
+use Rattle.desk_top.specs.Run.{IsReading, Writes}
+use Rattle.desk_top.specs.Transcript.{transcript}
+use Rattle.desk_top.specs.Script.{Plan, most_text, most_lines, lines_of, script_of}
+use Rattle.desk_top.specs.Verdict.{Files, two_lines, with_plan, with_script, with_market, with_request, verdict_of, output_of}
+use Rattle.desk_top.specs.Words.{Request, request_of}
+
+abbrev Bytes : Type 0
+Bytes = List ℕ
+
+-- a text that is too long is no market and no script
+long_market : (text : Bytes) → most_bytes < length text → bytes_eq text two_lines ≡ false
+long_market text long = by_test (bytes_eq text two_lines) refl
+  where
+    by_test : (test : Bool) → bytes_eq text two_lines ≡ test → bytes_eq text two_lines ≡ false
+    by_test false e = e
+    by_test true e = let same : text ≡ two_lines = (bytes_eq-Decides text two_lines).0 e in absurd (omega (arith, long, ap length same))
+
+long_script : (text : Bytes) → most_bytes < length text → script_of text ≡ None
+unfolding script_of
+long_script text long = let e : nat_lt most_text (length text) ≡ true = grind (arith, nat_tests) in rw (script_of, e) refl
+
+-- the market file was not read
+market_fails : (file script : Option Bytes) (s : Status) → Finds file role.TheVariants.Market (Err s) → IsReading s ⊎ (with_market file script ≡ Err s)
+market_fails None script s finds = ⊎_elim (λ r. inl r) (λ e. inr (sym (ap Err e))) finds
+market_fails (Some bytes) script s finds = ⊎_elim (λ r. inl r) (λ e. inr (rw (long_market bytes e.0) (sym (ap Err e.1)))) finds
+
+market_refused : (file script : Option Bytes) (text : Vec ℕ Global) → Finds file role.TheVariants.Market (Ok text) → bytes_eq text.items two_lines ≡ false → with_market file script ≡ Err (status.TheVariants.Market Top 0 market.TheVariants.Unbuilt)
+market_refused None script text finds test = absurd finds
+market_refused (Some bytes) script text finds test = let e : bytes_eq bytes two_lines ≡ false = ap (λ (b : Bytes). bytes_eq b two_lines) (sym finds) ∙ test in rw e refl
+
+market_passes : (file script : Option Bytes) (text : Vec ℕ Global) → Finds file role.TheVariants.Market (Ok text) → bytes_eq text.items two_lines ≡ true → with_market file script ≡ with_script script
+market_passes None script text finds test = absurd finds
+market_passes (Some bytes) script text finds test = let e : bytes_eq bytes two_lines ≡ true = ap (λ (b : Bytes). bytes_eq b two_lines) (sym finds) ∙ test in rw e refl
+
+script_fails : (file : Option Bytes) (s : Status) → Finds file role.TheVariants.Script (Err s) → IsReading s ⊎ (with_script file ≡ Err s)
+script_fails None s finds = ⊎_elim (λ r. inl r) (λ e. inr (sym (ap Err e))) finds
+script_fails (Some bytes) s finds = ⊎_elim (λ r. inl r) (λ e. inr (ap with_plan (long_script bytes e.0) ∙ sym (ap Err e.1))) finds
+
+script_read : (file : Option Bytes) (text : Vec ℕ Global) (plan : Option Plan) → Finds file role.TheVariants.Script (Ok text) → plan ≡ script_of text.items → with_script file ≡ with_plan plan
+script_read None text plan finds is = absurd finds
+script_read (Some bytes) text plan finds is = ap with_plan (ap script_of (sym finds) ∙ sym is)
+
+verdict_with : (files : Files) (words : List Bytes) (request : Request) → request_of words ≡ Some request → verdict_of files words ≡ with_market (file_at files request.market) (file_at files request.script)
+unfolding verdict_of
+verdict_with files words request is = ap (with_request files) is
+
+-- no request
+pub plan_usage : (told : Option (List (List ℕ × List ℕ))) (words : List (List ℕ)) → request_of words ≡ None → IfSome told (λ files. Plans (verdict_of files words) (Err status.TheVariants.Usage))
+unfolding verdict_of
+plan_usage None words none = tt
+plan_usage (Some files) words none = inr (ap (with_request files) none)
+
+module _ (words : List (List ℕ)) (request : Request) (is : request_of words ≡ Some request) where
+  pub plan_market_fails : (told : Option (List (List ℕ × List ℕ))) (s : Status) → IfSome told (λ files. Finds (file_at files request.market) role.TheVariants.Market (Err s)) → IfSome told (λ files. Plans (verdict_of files words) (Err s))
+  plan_market_fails None s finds = tt
+  plan_market_fails (Some files) s finds = ⊎_elim (λ r. inl r) (λ e. inr (verdict_with files words request is ∙ e)) (market_fails (file_at files request.market) (file_at files request.script) s finds)
+
+  pub plan_market_refused : (told : Option (List (List ℕ × List ℕ))) (text : Vec ℕ Global) → IfSome told (λ files. Finds (file_at files request.market) role.TheVariants.Market (Ok text)) → bytes_eq text.items two_lines ≡ false
+      → IfSome told (λ files. Plans (verdict_of files words) (Err (status.TheVariants.Market Top 0 market.TheVariants.Unbuilt)))
+  plan_market_refused None text finds test = tt
+  plan_market_refused (Some files) text finds test = inr (verdict_with files words request is ∙ market_refused (file_at files request.market) (file_at files request.script) text finds test)
+
+  pub plan_script_fails : (told mid : Option (List (List ℕ × List ℕ))) (text : Vec ℕ Global) (s : Status) → mid ≡ told → IfSome told (λ files. Finds (file_at files request.market) role.TheVariants.Market (Ok text)) → bytes_eq text.items two_lines ≡ true
+      → IfSome mid (λ files. Finds (file_at files request.script) role.TheVariants.Script (Err s)) → IfSome told (λ files. Plans (verdict_of files words) (Err s))
+  plan_script_fails None mid text s same finds test fails = tt
+  plan_script_fails (Some files) mid text s same finds test fails =
+      ⊎_elim (λ r. inl r) (λ e. inr (verdict_with files words request is ∙ market_passes (file_at files request.market) (file_at files request.script) text finds test ∙ e))
+      (script_fails (file_at files request.script) s (subst (λ (m : Option (List (List ℕ × List ℕ))). IfSome m (λ f. Finds (file_at f request.script) role.TheVariants.Script (Err s))) same fails))
+
+  pub plan_script_read : (told mid : Option (List (List ℕ × List ℕ))) (market_text script_text : Vec ℕ Global) (plan : Option Plan) → mid ≡ told → IfSome told (λ files. Finds (file_at files request.market) role.TheVariants.Market (Ok market_text)) → bytes_eq market_text.items two_lines ≡ true
+      → IfSome mid (λ files. Finds (file_at files request.script) role.TheVariants.Script (Ok script_text)) → plan ≡ script_of script_text.items → IfSome told (λ files. verdict_of files words ≡ with_plan plan)
+  plan_script_read None mid market_text script_text plan same finds test found of = tt
+  plan_script_read (Some files) mid market_text script_text plan same finds test found of =
+      verdict_with files words request is ∙ market_passes (file_at files request.market) (file_at files request.script) market_text finds test
+      ∙ script_read (file_at files request.script) script_text plan (subst (λ (m : Option (List (List ℕ × List ℕ))). IfSome m (λ f. Finds (file_at f request.script) role.TheVariants.Script (Ok script_text))) same found) of
+
+-- a verdict that is told is the plan's, or the refusal's
+pub told_plan : (told : Option (List (List ℕ × List ℕ))) (words : List (List ℕ)) (plan : read.Plan) → IfSome told (λ files. verdict_of files words ≡ with_plan (Some (plan_in plan))) → IfSome told (λ files. Plans (verdict_of files words) (Ok plan))
+told_plan None words plan e = tt
+told_plan (Some files) words plan e = e
+
+pub told_refusal : (told : Option (List (List ℕ × List ℕ))) (words : List (List ℕ)) → IfSome told (λ files. verdict_of files words ≡ with_plan None) → IfSome told (λ files. Plans (verdict_of files words) (Err (status.TheVariants.Script 0 script.TheVariants.Unbuilt)))
+told_refusal None words e = tt
+told_refusal (Some files) words e = inr e
+
+pub told_memory : (told : Option (List (List ℕ × List ℕ))) (words : List (List ℕ)) → IfSome told (λ files. Plans (verdict_of files words) (Err status.TheVariants.NoMemory))
+told_memory None words = tt
+told_memory (Some files) words = inl tt
+
+-- what was written of a plan's transcript was written of the verdict's
+pub told_written : (told : Option (List (List ℕ × List ℕ))) (words : List (List ℕ)) (calc : Calc) (plan : read.Plan) (commands : List Command) (old new : Option (List ℕ)) (s : Status)
+    → IfSome told (λ files. Plans (verdict_of files words) (Ok plan)) → commands ≡ plan.commands.items → Writes old new (transcript calc plan.names start commands) s
+    → IfSome told (λ files. Writes old new (output_of calc (verdict_of files words)) s)
+told_written None words calc plan commands old new s plans are writes = tt
+told_written (Some files) words calc plan commands old new s plans are writes =
+    subst (λ v. Writes old new (output_of calc v) s) (sym plans) (subst (λ (l : List Command). Writes old new (transcript calc plan.names start l) s) are writes)

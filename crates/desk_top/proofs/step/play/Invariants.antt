@@ -1,0 +1,11 @@
+use Rattle.std.proofs.Common.{◌≡◌, ◌≤◌, drop}
+use Rattle.desk_top.proofs.Progress.{Progress}
+use Rattle.desk_top.proofs.step.play.Given as goal
+
+abbrev pub invariant-loop-command : goal.invariant-loop-command
+invariant-loop-command g l = record {
+  same : g.B.Bench.calc l.bench ≡ g.B.Bench.calc l.initial.bench;
+  progress : Progress (g.B.Bench.calc l.initial.bench) l.names l.commands (drop l.command-index l.commands) l.session
+      (g.K.Sink.bytes l.initial.out) (g.K.Sink.bytes l.out) (g.B.Bench.count l.initial.bench) (g.B.Bench.count l.bench) (g.B.Bench.log l.initial.bench) (g.B.Bench.log l.bench);
+  faults : g.K.Sink.faults l.initial.out ≤ g.K.Sink.faults l.out;
+}

@@ -1,0 +1,41 @@
+-- What the reading of the files gives.
+use Rattle.std.specs.Prelude.{◌≡◌, ◌⊎◌, ◌<◌, ℕ, List, length, Option, None, Some, Result, Ok, Err, Vec}
+use Rattle.std.specs.declared.alloc.Global.{Global}
+use Rattle.desk_edge.specs.Shelf.{most_bytes}
+use Rattle.desk_top.specs.declared.status.Section.TheVariants.{Top}
+use Rattle.desk_top.specs.declared.status.MarketKind as market
+use Rattle.desk_top.specs.declared.status.ScriptKind as script
+use Rattle.desk_top.specs.declared.status.FileRole.{FileRole}
+use Rattle.desk_top.specs.declared.status.FileRole as role
+use Rattle.desk_top.specs.declared.status.Status.{Status}
+use Rattle.desk_top.specs.declared.status.Status.TheVariants.{Done, Usage, Market, Script, ReadFault, WriteFault, NoMemory, Absent}
+use Rattle.desk_top.specs.declared.script.Plan as read
+use Rattle.desk_top.specs.Run.{IsReading}
+use Rattle.desk_top.specs.Script.{Plan}
+
+-- the status of a file that is longer than the most bytes
+abbrev pub too_long_of : FileRole → Status
+too_long_of role.TheVariants.Market = Market Top 0 market.TheVariants.Unbuilt
+too_long_of role.TheVariants.Script = Script 0 script.TheVariants.Unbuilt
+
+-- the answer of a read of a whole file, where this is the file
+abbrev pub Finds : Option (List ℕ) → FileRole → Result (Vec ℕ Global) Status → Type 0
+Finds (Some bytes) role (Ok text) = text.items ≡ bytes
+Finds (Some bytes) role (Err status) = IsReading status ⊎ ((most_bytes < length bytes) × (status ≡ too_long_of role))
+Finds None role (Ok text) = ⊥
+Finds None role (Err status) = IsReading status ⊎ (status ≡ Absent role)
+
+-- a status that may come before the first command is done
+abbrev pub IsBefore : Status → Type 0
+IsBefore Done = ⊥
+IsBefore WriteFault = ⊥
+IsBefore status = Unit {0}
+
+-- a plan of the code, as the definition sees it
+abbrev pub plan_in : read.Plan → Plan
+plan_in plan = record { names = plan.names; commands = plan.commands.items }
+
+-- the answer is this verdict, but for a fault of reading or want of memory
+abbrev pub Plans : Result Plan Status → Result read.Plan Status → Type 0
+Plans verdict (Ok plan) = verdict ≡ Ok (plan_in plan)
+Plans verdict (Err status) = IsReading status ⊎ (verdict ≡ Err status)

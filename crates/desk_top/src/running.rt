@@ -1,0 +1,131 @@
+// The top call.
+ghost use Rattle.std.specs.Prelude.{◌≡◌, ◌≢◌, ◌⊎◌, ◌↔◌, ◌≤◌, [], ◌∷◌, length, map, None, IfSome, IfOk, IfErr, OnErr, IsErrOf, OnOk};
+ghost use Rattle.std.specs.String.{string_bytes};
+ghost use Rattle.desk_edge.specs.Count.{Rose};
+ghost use Rattle.desk_edge.specs.Shelf.{files_of, file_at};
+ghost use Rattle.desk_terms.specs.Bench.{counted, logged};
+ghost use Rattle.desk_top.specs.declared.status.FileRole.{FileRole};
+ghost use Rattle.desk_top.specs.Fit.{AreFit};
+ghost use Rattle.desk_top.specs.Found.{too_long_of, Finds, IsBefore, Plans};
+ghost use Rattle.desk_top.specs.Run.{IsOutside, IsEarly, IsReading, Writes};
+ghost use Rattle.desk_top.specs.Script.{script_of};
+ghost use Rattle.desk_top.specs.Verdict.{verdict_of, status_of, output_of, computed_by};
+ghost use Rattle.desk_top.specs.Words.{request_of};
+
+use crate::market::is_market;
+use crate::script::{Plan, read_script};
+use crate::step::play;
+use crate::words::{Request, read_words};
+use crate::{FileRole, MarketKind, ScriptKind, Section, Status};
+use desk_edge::{ReadFault, Shelf, Sink, read_whole};
+use desk_terms::Bench;
+use std::alloc::{AllocError, Global};
+
+/// Does what the words ask for over the files of the shelf, writes the transcript to `out`, and answers how that went.
+/// The words are those behind the program's name. The prices are those of the bench.
+///
+/// The first failure in this order is the answer: the words, the market's file, the market, the script's file, the
+/// script; then each command, whose lines are written before the next begins. Nothing is written before the first
+/// command. A fault outside, or want of memory, may come at any time.
+pub fn run<H: Shelf, K: Sink, B: Bench>(
+    alloc: Global,
+    words: &[String],
+    shelf: &mut H,
+    out: &mut K,
+    bench: &mut B,
+) -> Status
+    // The status is that of the words and the files, but for a fault outside or want of memory.
+    ensures status { IfSome (files_of (H.contents shelf.old)) (λ files.
+        IsOutside result ⊎ (result ≡ status_of (verdict_of files (map string_bytes words.now)))) }
+    ensures usage { (result ≡ Status.Usage) ↔ (request_of (map string_bytes words.now) ≡ None) }
+
+    // At Done the bytes written are the transcript; after a fault of writing or want of memory they are a front of it.
+    ensures written { IfSome (files_of (H.contents shelf.old)) (λ files.
+        Writes (K.bytes out.old) (K.bytes out.new) (output_of (B.calc bench.old) (verdict_of files (map string_bytes words.now))) result) }
+    ensures nothing { IsEarly result → K.bytes out.new ≡ K.bytes out.old }
+
+    // At Done the bench was called for the computations of the transcript, in their order, and for no other.
+    ensures count { IfSome (files_of (H.contents shelf.old)) (λ files. result ≡ Status.Done
+        → B.count bench.new ≡ counted (B.count bench.old) (length (computed_by (B.calc bench.old) (verdict_of files (map string_bytes words.now))))) }
+    ensures log { IfSome (files_of (H.contents shelf.old)) (λ files. result ≡ Status.Done
+        → B.log bench.new ≡ logged (B.log bench.old) (computed_by (B.calc bench.old) (verdict_of files (map string_bytes words.now)))) }
+    ensures alone { IsEarly result → bench.new ≡ bench.old }
+    ensures same { B.calc bench.new ≡ B.calc bench.old }
+
+    // Each fault was counted.
+    ensures read { result ≡ Status.ReadFault → Rose (H.faults shelf.old) (H.faults shelf.new) }
+    ensures write { result ≡ Status.WriteFault → Rose (K.faults out.old) (K.faults out.new) }
+    ensures absent { (role : FileRole) → result ≡ Status.Absent role → Rose (H.misses shelf.old) (H.misses shelf.new) }
+    ensures files { files_of (H.contents shelf.new) ≡ files_of (H.contents shelf.old) }
+{
+    let plan = match plan_of(alloc, words, shelf) {
+        Ok(plan) => plan,
+        Err(status) => return status,
+    };
+    if let Err(status) = play(alloc, &plan.names, &plan.commands, out, bench) {
+        return status;
+    }
+    Status::Done
+}
+
+// The whole of a file that the words name.
+fn read_file<H: Shelf>(
+    alloc: Global,
+    shelf: &mut H,
+    path: &str,
+    role: FileRole,
+) -> Result<Vec<u8>, Status>
+    ensures finds { IfSome (files_of (H.contents shelf.old)) (λ files. Finds (file_at files path.now) role result) }
+    ensures files { files_of (H.contents shelf.new) ≡ files_of (H.contents shelf.old) }
+    ensures before { IfErr result (λ status. IsBefore status × (status ≢ Status.Usage)) }
+    ensures read { IsErrOf result Status.ReadFault → Rose (H.faults shelf.old) (H.faults shelf.new) }
+    ensures absent { (other : FileRole) → IsErrOf result (Status.Absent other) → Rose (H.misses shelf.old) (H.misses shelf.new) }
+    ensures faults { H.faults shelf.old ≤ H.faults shelf.new }
+    ensures misses { H.misses shelf.old ≤ H.misses shelf.new }
+{
+    let mut text = Vec::new(alloc);
+    match read_whole(shelf, path, &mut text) {
+        Ok(true) => Ok(text),
+        Ok(false) => Err(Status::Absent(role)),
+        Err(ReadFault::Failed) => Err(Status::ReadFault),
+        Err(ReadFault::TooLong) => Err(too_long(role)),
+        Err(ReadFault::NoMemory) => Err(Status::NoMemory),
+    }
+}
+
+// The status of a file that is longer than the most bytes.
+fn too_long(role: FileRole) -> Status
+    ensures { result ≡ too_long_of role }
+{
+    match role {
+        FileRole::Market => Status::Market(Section::Top, 0, MarketKind::Unbuilt),
+        FileRole::Script => Status::Script(0, ScriptKind::Unbuilt),
+    }
+}
+
+// What the words and the files ask for.
+fn plan_of<H: Shelf>(alloc: Global, words: &[String], shelf: &mut H) -> Result<Plan, Status>
+    ensures plans { IfSome (files_of (H.contents shelf.old)) (λ files. Plans (verdict_of files (map string_bytes words.now)) result) }
+    ensures fit { IfOk result (λ plan. AreFit (None ∷ []) plan.commands.items) }
+    ensures usage { IsErrOf result Status.Usage ↔ (request_of (map string_bytes words.now) ≡ None) }
+    ensures before { IfErr result IsBefore }
+    ensures files { files_of (H.contents shelf.new) ≡ files_of (H.contents shelf.old) }
+    ensures read { IsErrOf result Status.ReadFault → Rose (H.faults shelf.old) (H.faults shelf.new) }
+    ensures absent { (role : FileRole) → IsErrOf result (Status.Absent role) → Rose (H.misses shelf.old) (H.misses shelf.new) }
+    ensures faults { H.faults shelf.old ≤ H.faults shelf.new }
+    ensures misses { H.misses shelf.old ≤ H.misses shelf.new }
+{
+    let request = match read_words(words) {
+        Some(request) => request,
+        None => return Err(Status::Usage),
+    };
+    let market = read_file(alloc, shelf, request.market, FileRole::Market)?;
+    if !is_market(&market) {
+        return Err(Status::Market(Section::Top, 0, MarketKind::Unbuilt));
+    }
+    let script = read_file(alloc, shelf, request.script, FileRole::Script)?;
+    match read_script(alloc, &script)? {
+        Some(plan) => Ok(plan),
+        None => Err(Status::Script(0, ScriptKind::Unbuilt)),
+    }
+}

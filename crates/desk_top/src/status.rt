@@ -1,0 +1,160 @@
+// How a call of `run` ended.
+ghost use Rattle.std.specs.Prelude.{◌≡◌, Some};
+ghost use Rattle.desk_top.specs.Status.{code_of, status_text};
+
+use std::alloc::AllocError;
+use std::fmt;
+
+/// A part of the market that a fault is in.
+#[derive(Clone, Copy, Debug, PartialEq, Eq)]
+pub enum Section {
+    /// The market file itself.
+    Top,
+}
+
+/// What is wrong with a market.
+#[derive(Clone, Copy, Debug, PartialEq, Eq)]
+pub enum MarketKind {
+    /// It is not the one market that this version takes.
+    Unbuilt,
+}
+
+/// What is wrong with a script.
+#[derive(Clone, Copy, Debug, PartialEq, Eq)]
+pub enum ScriptKind {
+    /// It is not in the form that this version takes.
+    Unbuilt,
+}
+
+/// A file that the words name.
+#[derive(Clone, Copy, Debug, PartialEq, Eq)]
+pub enum FileRole {
+    Market,
+    Script,
+}
+
+/// How a call of `run` ended.
+#[derive(Clone, Copy, Debug, PartialEq, Eq)]
+pub enum Status {
+    /// The request was carried out, each file read to its end.
+    Done,
+    /// The words are no request.
+    Usage,
+    /// The market is refused: where, at which entry, and why.
+    Market(Section, u32, MarketKind),
+    /// The script is refused: at which line, and why.
+    Script(u32, ScriptKind),
+    /// A file could not be read.
+    ReadFault,
+    /// The output could not be written.
+    WriteFault,
+    /// Memory ran out.
+    NoMemory,
+    /// There is no such file.
+    Absent(FileRole),
+}
+
+impl Status {
+    /// The exit status of the program.
+    pub fn code(&self) -> u8
+        ensures { result ≡ code_of self.now }
+    {
+        match self {
+            Status::Done => 0,
+            Status::Usage => 2,
+            Status::Market(..) => 3,
+            Status::Script(..) => 4,
+            Status::ReadFault => 5,
+            Status::WriteFault => 6,
+            Status::NoMemory => 7,
+            Status::Absent(_) => 8,
+        }
+    }
+}
+
+impl From<AllocError> for Status {
+    ghost use Rattle.std.specs.Prelude.{◌≡◌};
+    ghost use Rattle.desk_top.specs.declared.status.Status.TheVariants.{NoMemory};
+
+    ghost from_gives = { λ _ e. e ≡ NoMemory };
+
+    fn from(_: AllocError) -> Self {
+        Status::NoMemory
+    }
+}
+
+impl fmt::Display for Section {
+    ghost use Rattle.std.specs.Prelude.{Some};
+    ghost use Rattle.desk_top.specs.Status.{section_text};
+
+    ghost output = { λ s. Some (section_text s) };
+
+    fn fmt<W: fmt::Write>(&self, f: &mut fmt::Formatter<W>) -> fmt::Result {
+        match self {
+            Section::Top => write!(f, "top"),
+        }
+    }
+}
+
+impl fmt::Display for MarketKind {
+    ghost use Rattle.std.specs.Prelude.{Some};
+    ghost use Rattle.desk_top.specs.Status.{market_kind_text};
+
+    ghost output = { λ k. Some (market_kind_text k) };
+
+    fn fmt<W: fmt::Write>(&self, f: &mut fmt::Formatter<W>) -> fmt::Result {
+        match self {
+            MarketKind::Unbuilt => write!(f, "unbuilt"),
+        }
+    }
+}
+
+impl fmt::Display for ScriptKind {
+    ghost use Rattle.std.specs.Prelude.{Some};
+    ghost use Rattle.desk_top.specs.Status.{script_kind_text};
+
+    ghost output = { λ k. Some (script_kind_text k) };
+
+    fn fmt<W: fmt::Write>(&self, f: &mut fmt::Formatter<W>) -> fmt::Result {
+        match self {
+            ScriptKind::Unbuilt => write!(f, "unbuilt"),
+        }
+    }
+}
+
+impl fmt::Display for FileRole {
+    ghost use Rattle.std.specs.Prelude.{Some};
+    ghost use Rattle.desk_top.specs.Status.{role_text};
+
+    ghost output = { λ r. Some (role_text r) };
+
+    fn fmt<W: fmt::Write>(&self, f: &mut fmt::Formatter<W>) -> fmt::Result {
+        match self {
+            FileRole::Market => write!(f, "market"),
+            FileRole::Script => write!(f, "script"),
+        }
+    }
+}
+
+// The line on standard error, without its newline: nothing for Done.
+impl fmt::Display for Status {
+    ghost use Rattle.std.specs.Prelude.{Some};
+    ghost use Rattle.desk_top.specs.Status.{status_text};
+
+    ghost output = { λ s. Some (status_text s) };
+
+    fn fmt<W: fmt::Write>(&self, f: &mut fmt::Formatter<W>) -> fmt::Result {
+        match self {
+            Status::Done => write!(f, ""),
+            Status::Usage => write!(f, "desk: usage"),
+            Status::Market(section, entry, kind) => {
+                write!(f, "desk: market {section} {entry} {kind}")
+            }
+            Status::Script(line, kind) => write!(f, "desk: script {line} {kind}"),
+            Status::ReadFault => write!(f, "desk: read fault"),
+            Status::WriteFault => write!(f, "desk: write fault"),
+            Status::NoMemory => write!(f, "desk: no memory"),
+            Status::Absent(role) => write!(f, "desk: no file {role}"),
+        }
+    }
+}

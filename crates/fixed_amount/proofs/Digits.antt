@@ -1,0 +1,88 @@
+-- Lemmas on the digits that a text begins with, and on the last digits of a number.
+use Rattle.std.proofs.Common.{◌≡◌, ℕ, zero, suc, ◌+◌, ◌-◌, ◌*◌, ◌/◌, ◌%◌, ◌^◌, ◌<◌, ◌≤◌, Bool, true, false, List, [], ◌∷◌, ◌++◌, length, take, drop, refl, arith, get_or, append_assoc, length-append, add-one, nat_le}
+use Rattle.std.specs.Str.Parse.{digits_value}
+use Rattle.std.proofs.lemmas.Nat.{mod_below}
+use Rattle.std.proofs.lemmas.Int.Digits.{digits_value_push}
+use Rattle.std.proofs.Math.Arith.{mod-mul}
+use Rattle.std.proofs.Math.Numerals.{one-add}
+use Rattle.std.proofs.lemmas.Bool.{and_parts, and_from, leb-true, le-ltb, lt-ltb, le-leb, true_from_ne_false, both_ways}
+use Rattle.std.proofs.lemmas.List.Folds.{list_all_at, list_all-append}
+use Rattle.std.specs.Char.{is_ascii_digit, digit_value}
+use Rattle.std.specs.List.{list_all, prefix_len}
+use Rattle.std.proofs.Math.Nat.{div-div-eq-div-mul, pow-suc, one-le-pow}
+use Rattle.fixed_amount.specs.Decimal.{all_digits, point_text, last_digits}
+
+-- the elements that a list begins with and that pass all pass
+pub list_all-front : {X : Type 0} (p : X → Bool) (xs : List X) → list_all p (take (prefix_len p xs) xs) ≡ true
+list_all-front p [] = refl
+list_all-front p (x ∷ xs) = by_test (p x) refl (list_all-front p xs) where
+  by_test : (b : Bool) → p x ≡ b → list_all p (take (prefix_len p xs) xs) ≡ true → list_all p (take (prefix_len p (x ∷ xs)) (x ∷ xs)) ≡ true
+  by_test true e rest = simp (e, one-add) rest
+  by_test false e rest = simp e
+
+-- one digit more at the end
+pub last_digits_more : (number count next place : ℕ) → place ≡ next + 1 → next < count → last_digits (count - next) (number / 10 ^ next) ≡ last_digits (count - place) (number / 10 ^ place) ++ (48 + number / 10 ^ next % 10) ∷ []
+last_digits_more number count next place h l =
+    let steps : count - next ≡ suc (count - place) = omega arith in
+    let power : 10 ^ place ≡ 10 ^ next * 10 = rw (h, add-one, pow-suc) refl in
+    rw (steps, power, ← div-div-eq-div-mul number (10 ^ next) 10)
+
+-- a list that grew by one element, which its continuation has
+pub pushed_more : (old before after digits more : List ℕ) (d : ℕ) → after ≡ before ++ d ∷ [] → before ≡ old ++ digits → more ≡ digits ++ d ∷ [] → after ≡ old ++ more
+pushed_more old before after digits more d p q r = rw (p, q, r) (append_assoc old digits (d ∷ []))
+
+-- as many digits as asked for
+pub length-last_digits : (count n : ℕ) → length (last_digits count n) ≡ count
+length-last_digits zero n = refl
+length-last_digits (suc count) n = rw (length-append, length-last_digits count (n / 10)) (omega arith)
+
+-- digits behind a point
+pub point_text_some : (digits : List ℕ) → 0 < length digits → point_text digits ≡ 46 ∷ digits
+point_text_some [] h = absurd (omega arith)
+point_text_some (digit ∷ digits) h = refl
+
+-- the value of a digit
+pub digit_value_is : (c : ℕ) → is_ascii_digit c ≡ true → (48 ≤ c) × (c ≤ 57) × (digit_value c ≡ c - 48)
+digit_value_is c h =
+    let low : 48 ≤ c = leb-true 48 c (and_parts (nat_le 48 c) (nat_le c 57) h).0 in
+    let high : c ≤ 57 = leb-true c 57 (and_parts (nat_le 48 c) (nat_le c 57) h).1 in
+    let below : c < 58 = omega arith in
+    (low, high, simp (le-ltb c 48 low, lt-ltb c 58 below))
+
+-- each of a list's elements passes where all do
+pub list_all-read : {X : Type 0} (p : X → Bool) (xs : List X) (i : ℕ) (d : X) → list_all p xs ≡ true → i < length xs → p (get_or xs i d) ≡ true
+list_all-read p xs i d all l = true_from_ne_false (p (get_or xs i d)) (λ no. both_ways (list_all p xs) (list_all_at p xs i d l no) all)
+
+-- digits before what begins with none are the digits that the whole begins with
+pub prefix_len-all : {X : Type 0} (p : X → Bool) (xs rest : List X) → list_all p xs ≡ true → prefix_len p rest ≡ 0 → prefix_len p (xs ++ rest) ≡ length xs
+prefix_len-all p [] rest all none = none
+prefix_len-all p (x ∷ xs) rest all none = let h = and_parts (p x) (list_all p xs) all in
+    rw (h.0, one-add, prefix_len-all p xs rest h.1 none)
+
+-- what follows the digits that a text begins with begins with none
+pub prefix_len-behind : {X : Type 0} (p : X → Bool) (xs : List X) → prefix_len p (drop (prefix_len p xs) xs) ≡ 0
+prefix_len-behind p [] = refl
+prefix_len-behind p (x ∷ xs) = by_test (p x) refl (prefix_len-behind p xs) where
+  by_test : (b : Bool) → p x ≡ b → prefix_len p (drop (prefix_len p xs) xs) ≡ 0 → prefix_len p (drop (prefix_len p (x ∷ xs)) (x ∷ xs)) ≡ 0
+  by_test true e rest = simp (e, one-add) rest
+  by_test false e rest = simp e
+
+-- the last digits are digits
+pub all_digits-last : (count n : ℕ) → all_digits (last_digits count n) ≡ true
+all_digits-last zero n = refl
+all_digits-last (suc count) n =
+    let below = mod_below n 10 (omega arith) in
+    let low : nat_le 48 (48 + n % 10) ≡ true = le-leb _ _ (omega arith) in
+    let high : nat_le (48 + n % 10) 57 ≡ true = le-leb _ _ (omega arith) in
+    rw (list_all-append is_ascii_digit (last_digits count (n / 10)) ((48 + n % 10) ∷ []), all_digits-last count (n / 10)) (simp (low, high))
+
+-- and write the number's rest by the power of ten
+pub digits_value-last : (count n : ℕ) → digits_value 10 (last_digits count n) ≡ n % 10 ^ count
+digits_value-last zero n = let rest = mod_below n 1 (omega arith) in omega arith
+digits_value-last (suc count) n =
+    let below = mod_below n 10 (omega arith) in
+    let digit : is_ascii_digit (48 + n % 10) ≡ true = and_from _ _ (le-leb 48 (48 + n % 10) (omega arith)) (le-leb (48 + n % 10) 57 (omega arith)) in
+    let value = (digit_value_is (48 + n % 10) digit).2 in
+    let ten : 0 < 10 = omega arith in
+    let power : 0 < 10 ^ count = omega (arith, one-le-pow count 10 ten) in
+    rw (digits_value_push 10 (last_digits count (n / 10)) (48 + n % 10), digits_value-last count (n / 10), pow-suc, mod-mul n power ten) (omega (arith, value))

@@ -1,0 +1,59 @@
+-- Lemmas on the range of 64 bits.
+use Rattle.std.proofs.Common.{◌≡◌, ℕ, zero, suc, ◌+◌, ◌-◌, ◌*◌, ◌^◌, ◌<◌, ◌≤◌, ℤ, pos, negsuc, neg_ℤ, Bool, true, false, refl, sym, ◌∙◌, arith, min, Ok, Err, inl, inr, ◌≤ℤ◌, ◌<ℤ◌, ◌⊎◌}
+use Rattle.std.proofs.lemmas.Int.{ints, by_lt_z}
+use Rattle.std.proofs.Math.Nat.{le-mul_of_pos_right}
+use Rattle.std.proofs.lemmas.Bool.{cases_lt, lt-ltb, le-ltb, le-leb, lt-leb}
+use Rattle.fixed_amount.specs.declared.decimal.DecimalFault.TheVariants.{Range}
+use Rattle.fixed_amount.specs.Decimal.{in_range, signed}
+
+-- a size fits below zero up to 2^63
+pub in_range_minus : (size : ℕ) → size ≤ 2 ^ 63 → in_range (neg_ℤ (pos size)) ≡ Ok (neg_ℤ (pos size))
+in_range_minus zero h = refl
+in_range_minus (suc size) h = simp (le-leb size (2 ^ 63 - 1) (omega arith))
+
+pub in_range_far_minus : (size : ℕ) → 2 ^ 63 < size → in_range (neg_ℤ (pos size)) ≡ Err Range
+in_range_far_minus zero h = absurd (omega arith)
+in_range_far_minus (suc size) h = simp (lt-leb size (2 ^ 63 - 1) (omega arith))
+
+-- a size fits above zero below 2^63
+pub in_range_plus : (size : ℕ) → size < 2 ^ 63 → in_range (pos size) ≡ Ok (pos size)
+in_range_plus size h = simp (lt-ltb size (2 ^ 63) h)
+
+pub in_range_far_plus : (size : ℕ) → 2 ^ 63 ≤ size → in_range (pos size) ≡ Err Range
+in_range_far_plus size h = simp (le-ltb size (2 ^ 63) h)
+
+-- a size beyond 2^63 fits on neither side
+pub in_range_far : (negative : Bool) (size : ℕ) → 2 ^ 63 < size → in_range (signed negative size) ≡ Err Range
+in_range_far true size h = in_range_far_minus size h
+in_range_far false size h = in_range_far_plus size (omega arith)
+
+-- numbers cut to 64 bits fit where the numbers do, also as parts of a sum
+pub in_range_capped : (negative : Bool) (whole part p q : ℕ) → 0 < p → 0 < q → in_range (signed negative (min whole (2 ^ 64 - 1) * p + min part (2 ^ 64 - 1) * q)) ≡ in_range (signed negative (whole * p + part * q))
+in_range_capped negative whole part p q hp hq =
+    elim (cases_lt whole (2 ^ 64)) as (λ _. in_range (signed negative (min whole (2 ^ 64 - 1) * p + min part (2 ^ 64 - 1) * q)) ≡ in_range (signed negative (whole * p + part * q))) [
+      | inl a ↦ elim (cases_lt part (2 ^ 64)) as (λ _. in_range (signed negative (min whole (2 ^ 64 - 1) * p + min part (2 ^ 64 - 1) * q)) ≡ in_range (signed negative (whole * p + part * q))) [
+        | inl b ↦ (let e : min whole (2 ^ 64 - 1) ≡ whole = omega arith in let f : min part (2 ^ 64 - 1) ≡ part = omega arith in rw (e, f))
+        | inr b ↦ in_range_far negative (min whole (2 ^ 64 - 1) * p + min part (2 ^ 64 - 1) * q) (omega (arith, le-mul_of_pos_right (min part (2 ^ 64 - 1)) hq))
+            ∙ sym (in_range_far negative (whole * p + part * q) (omega (arith, le-mul_of_pos_right part hq)))
+      ]
+      | inr a ↦ in_range_far negative (min whole (2 ^ 64 - 1) * p + min part (2 ^ 64 - 1) * q) (omega (arith, le-mul_of_pos_right (min whole (2 ^ 64 - 1)) hp))
+          ∙ sym (in_range_far negative (whole * p + part * q) (omega (arith, le-mul_of_pos_right whole hp)))
+    ]
+
+-- a number of 64 bits is in range
+pub in_range_fits : (units : ℤ) → neg_ℤ (pos (2 ^ 63)) ≤ℤ units → units <ℤ pos (2 ^ 63) → in_range units ≡ Ok units
+in_range_fits (pos n) low high = in_range_plus n (omega (arith, ints))
+in_range_fits (negsuc n) low high = in_range_minus (suc n) (omega (arith, ints))
+
+-- and another is not
+pub in_range_out : (units : ℤ) → (units <ℤ neg_ℤ (pos (2 ^ 63))) ⊎ (pos (2 ^ 63) ≤ℤ units) → in_range units ≡ Err Range
+in_range_out (pos n) (inl h) = absurd (omega (arith, ints))
+in_range_out (pos n) (inr h) = in_range_far_plus n (omega (arith, ints))
+in_range_out (negsuc n) (inl h) = in_range_far_minus (suc n) (omega (arith, ints))
+in_range_out (negsuc n) (inr h) = absurd (omega (arith, ints))
+
+-- a number is one of 64 bits, or below them or above
+pub range_cases : (units : ℤ) → ((neg_ℤ (pos (2 ^ 63)) ≤ℤ units) × (units <ℤ pos (2 ^ 63))) ⊎ ((units <ℤ neg_ℤ (pos (2 ^ 63))) ⊎ (pos (2 ^ 63) ≤ℤ units))
+range_cases units = by_lt_z units (neg_ℤ (pos (2 ^ 63)))
+    (λ below. inr (inl below))
+    (λ low. by_lt_z units (pos (2 ^ 63)) (λ high. inl (low, high)) (λ above. inr (inr above)))

@@ -1,0 +1,51 @@
+// One rounded quotient of whole numbers.
+ghost use Rattle.std.specs.Prelude.{◌≡◌, ℕ, ◌≤◌, ℤ, pos, ◌≤ℤ◌, unsigned_abs};
+ghost use Rattle.fixed_amount.specs.Rounding.{rounded, down, up, closest, IsDown, IsUp, IsClosest};
+
+/// How a quotient becomes a whole number: towards zero, away from zero, or to the nearest, a half away from zero
+/// (QuantLib's `Rounding`).
+#[derive(Clone, Copy, Debug, PartialEq, Eq)]
+pub enum Rounding {
+    Down,
+    Up,
+    Closest,
+}
+
+/// `num / den`, rounded to a whole number. Any `num` will do, `i128::MIN` too.
+pub fn div_round(num: i128, den: i128, how: Rounding) -> i128
+    requires { pos 1 ≤ℤ den }
+    ensures { result ≡ rounded how num (unsigned_abs den) }
+{
+    let size = rounded_size(num.unsigned_abs(), den.unsigned_abs(), how);
+    if num >= 0 {
+        return size as i128;
+    }
+    if size == 0 {
+        return 0;
+    }
+    -((size - 1) as i128) - 1
+}
+
+// The magnitude of a rounded quotient, which is at most the numerator's.
+fn rounded_size(num: u128, den: u128, how: Rounding) -> u128
+    requires { 1 ≤ den }
+    ensures value { pos result ≡ rounded how (pos num) den }
+    ensures bound { result ≤ num }
+{
+    let whole = num / den;
+    let rest = num % den;
+    let more = match how {
+        Rounding::Down => false,
+        Rounding::Up => rest > 0,
+        Rounding::Closest => rest >= den - rest,
+    };
+    if more { whole + 1 } else { whole }
+}
+
+// Law: each rounding in its own words, and the nearest quotient never exceeds its numerator.
+fn rounding_law()
+    ensures down { (n : ℤ) (d : ℕ) → 1 ≤ d → IsDown n d (down n d) }
+    ensures up { (n : ℤ) (d : ℕ) → 1 ≤ d → IsUp n d (up n d) }
+    ensures closest { (n : ℤ) (d : ℕ) → 1 ≤ d → IsClosest n d (closest n d) }
+    ensures bound { (n : ℤ) (d : ℕ) → 1 ≤ d → unsigned_abs (closest n d) ≤ unsigned_abs n }
+{}

@@ -1,0 +1,156 @@
+// Decimal text read as a whole number of units.
+ghost use Rattle.std.specs.Prelude.{◌≡◌, ℕ, ℤ, List, [], ◌↔◌, Ok, Err, ◌+◌, ◌-◌, ◌^◌, ◌<◌, ◌≤◌, min, true, length};
+ghost use Rattle.std.specs.Str.Parse.{digits_value};
+ghost use Rattle.fixed_amount.specs.declared.decimal.DecimalFault.TheVariants.{Empty, Char, Places, Range};
+ghost use Rattle.fixed_amount.specs.Decimal.{WritesUnits, HasManyPlaces, IsOutOfRange, IsFirstFault};
+ghost use Rattle.fixed_amount.specs.Decimal.{all_digits, digit_count, decimal_value, whole_value, point_value, fraction_value, in_units, in_range, signed};
+
+use crate::decimal::DecimalFault;
+use crate::power::power_of_ten;
+
+/// The number that a decimal writes, times 10^places: an optional `-`, one or more digits, and optionally a `.` with
+/// one or more digits, at most `places` of them. Leading zeros are accepted, and `-0` is 0. The first fault in the
+/// order of [`DecimalFault`] is the error. It takes no memory, and time in proportion to the text.
+#[tactic(auto, unfolding(crate::specs::Decimal::decimal_value))]
+pub fn read_decimal(text: &[u8], places: u8) -> Result<i64, DecimalFault>
+    requires { places ≤ 18 }
+    ensures { result ≡ decimal_value text.now places }
+{
+    match text {
+        [] => Err(DecimalFault::Empty),
+        [b'-', rest @ ..] => read_whole(1, true, rest, places),
+        _ => read_whole(0, false, text, places),
+    }
+}
+
+// What stands behind the sign, `at` bytes into the text.
+fn read_whole(at: usize, negative: bool, text: &[u8], places: u8) -> Result<i64, DecimalFault>
+    requires few { places ≤ 18 }
+    requires room { at + length text.now < 2 ^ 64 }
+    ensures { result ≡ whole_value at negative text.now places }
+{
+    let count = leading_digits(text);
+    if count == 0 {
+        return Err(DecimalFault::Char(at));
+    }
+    let (whole, rest) = text.split_at(count);
+    read_point(at + count, negative, whole, rest, places)
+}
+
+// What stands behind the whole part, `at` bytes into the text.
+fn read_point(
+    at: usize,
+    negative: bool,
+    whole: &[u8],
+    text: &[u8],
+    places: u8,
+) -> Result<i64, DecimalFault>
+    requires few { places ≤ 18 }
+    requires room { at + length text.now < 2 ^ 64 }
+    requires digits { all_digits whole.now ≡ true }
+    ensures { result ≡ point_value at negative whole.now text.now places }
+{
+    match text {
+        [] => units(negative, whole, text, places),
+        [b'.', fraction @ ..] => read_fraction(at + 1, negative, whole, fraction, places),
+        _ => Err(DecimalFault::Char(at)),
+    }
+}
+
+// What stands behind the point, `at` bytes into the text.
+fn read_fraction(
+    at: usize,
+    negative: bool,
+    whole: &[u8],
+    text: &[u8],
+    places: u8,
+) -> Result<i64, DecimalFault>
+    requires few { places ≤ 18 }
+    requires room { at + length text.now < 2 ^ 64 }
+    requires digits { all_digits whole.now ≡ true }
+    ensures { result ≡ fraction_value at negative whole.now text.now places }
+{
+    if !text.is_empty() && is_digits(text) {
+        return units(negative, whole, text, places);
+    }
+    Err(DecimalFault::Char(at + leading_digits(text)))
+}
+
+// Each byte is a digit.
+fn is_digits(text: &[u8]) -> bool
+    ensures { result ≡ all_digits text.now }
+{
+    text.iter().all(|byte| byte.is_ascii_digit())
+}
+
+// How many digits the text begins with.
+fn leading_digits(text: &[u8]) -> usize
+    ensures value { result ≡ digit_count text.now }
+    ensures bound { result ≤ length text.now }
+{
+    text.iter().take_while(|byte| byte.is_ascii_digit()).count()
+}
+
+// The units that the digits of a whole part and of a fraction write.
+fn units(negative: bool, whole: &[u8], fraction: &[u8], places: u8) -> Result<i64, DecimalFault>
+    requires few { places ≤ 18 }
+    requires whole_digits { all_digits whole.now ≡ true }
+    requires fraction_digits { all_digits fraction.now ≡ true }
+    ensures { result ≡ in_units negative whole.now fraction.now places }
+{
+    if fraction.len() > places as usize {
+        return Err(DecimalFault::Places);
+    }
+    let missing = places - fraction.len() as u8;
+    let size = capped_number(whole) as u128 * power_of_ten(places) as u128
+        + capped_number(fraction) as u128 * power_of_ten(missing) as u128;
+    ranged(negative, size)
+}
+
+// The number of this size and sign, where 64 bits hold it.
+fn ranged(negative: bool, size: u128) -> Result<i64, DecimalFault>
+    ensures { result ≡ in_range (signed negative size) }
+{
+    if negative {
+        if size > 1 << 63 {
+            return Err(DecimalFault::Range);
+        }
+        return Ok(if size == 0 {
+            0
+        } else {
+            -((size - 1) as i64) - 1
+        });
+    }
+    if size >= 1 << 63 {
+        return Err(DecimalFault::Range);
+    }
+    Ok(size as i64)
+}
+
+// The number that the digits write, or the greatest of 64 bits where it is beyond that.
+fn capped_number(digits: &[u8]) -> u64
+    requires { all_digits digits.now ≡ true }
+    ensures { result ≡ min (digits_value 10 digits.now) (2 ^ 64 - 1) }
+{
+    let mut number: u64 = 0;
+    for digit in digits {
+        number = number
+            .saturating_mul(10)
+            .saturating_add((*digit - b'0') as u64);
+    }
+    number
+}
+
+// Law: what `decimal_value` answers, by the grammar. Each answer comes exactly where the text is of its kind.
+fn reading_law()
+    ensures value { (text : List ℕ) (places : ℕ) (units : ℤ)
+        → (decimal_value text places ≡ Ok units) ↔ WritesUnits text places units }
+    ensures empty { (text : List ℕ) (places : ℕ)
+        → (decimal_value text places ≡ Err Empty) ↔ (text ≡ []) }
+    ensures character { (text : List ℕ) (places at : ℕ)
+        → (decimal_value text places ≡ Err (Char at)) ↔ IsFirstFault text at }
+    ensures many_places { (text : List ℕ) (places : ℕ)
+        → (decimal_value text places ≡ Err Places) ↔ HasManyPlaces text places }
+    ensures out_of_range { (text : List ℕ) (places : ℕ)
+        → (decimal_value text places ≡ Err Range) ↔ IsOutOfRange text places }
+{}

@@ -49,6 +49,6 @@ unfoldable pub answer_by : Calc → Market → (ℕ → Option Outcome) → ℕ 
 answer_by calc market held zero o = or_priced (held o) (Err (Unset o))
 answer_by calc market held (suc n) o = or_priced (held o) (priced_by calc market (answer_by calc market held n) o)
 
--- The price of o afresh. No path without a repeated object is longer than the number of objects.
+-- The price of o afresh, over paths of at most as many edges as there are objects.
 unfoldable pub fresh : Calc → Market → ℕ → Outcome
 fresh calc market o = answer_by calc market (λ x. None) (suc (length market.objects)) o

@@ -6,6 +6,7 @@ use Rattle.std.specs.declared.alloc.Global.{Global}
 use Rattle.std.proofs.lemmas.Bool.{cases_eq}
 use Rattle.std.proofs.lemmas.Bool.Decides.{nat_tests}
 use Rattle.std.proofs.lemmas.Slice.Eq.{bytes_eq-Decides}
+use Rattle.desk_edge.specs.Count.{Rose}
 use Rattle.desk_edge.specs.Shelf.{most_bytes, file_at}
 use Rattle.desk_top.specs.declared.status.Section.TheVariants.{Top}
 use Rattle.desk_top.specs.declared.status.MarketKind as market
@@ -18,7 +19,7 @@ use Rattle.desk_top.specs.Found.{too_long_of, Finds, Plans, plan_in}
 use Rattle.desk_terms.specs.Reading.{Calc}
 use Rattle.desk_model.specs.Effect.{start}
 use Rattle.desk_top.specs.declared.command.Command.{Command}
-use Rattle.desk_top.specs.Run.{IsReading, Writes}
+use Rattle.desk_top.specs.Run.{IsReading, IsLate, IsAccepted, IsQuiet, Writes}
 use Rattle.desk_top.specs.Transcript.{transcript}
 use Rattle.desk_top.specs.Script.{Plan, most_text, most_lines, lines_of, script_of}
 use Rattle.desk_top.specs.Verdict.{Files, two_lines, with_plan, with_script, with_market, with_request, verdict_of, output_of}
@@ -114,3 +115,39 @@ pub told_written : (told : Option (List (List ℕ × List ℕ))) (words : List (
 told_written None words calc plan commands old new s plans are writes = tt
 told_written (Some files) words calc plan commands old new s plans are writes =
     subst (λ v. Writes old new (output_of calc v) s) (sym plans) (subst (λ (l : List Command). Writes old new (transcript calc plan.names start l) s) are writes)
+
+-- a count that is quiet did not rise
+quiet : (before now : ℕ) → IsQuiet before now → Rose before now → ⊥
+quiet before now still rose = ⊎_elim (λ up. omega (arith, still.0)) (λ last. omega (arith, still.0, still.1)) rose
+
+-- accepted words and files end before the first command by a fault of reading or want of memory alone
+early : (verdict : Result Plan Status) (s : Status) (before now : ℕ) → IsReading s ⊎ (verdict ≡ Err s) → IsAccepted verdict → (s ≡ status.TheVariants.ReadFault → Rose before now) → IsQuiet before now
+    → (s ≡ status.TheVariants.Done) ⊎ (s ≡ status.TheVariants.NoMemory)
+early verdict status.TheVariants.NoMemory before now plans accepted rose still = inr refl
+early verdict status.TheVariants.ReadFault before now plans accepted rose still = absurd (quiet before now still (rose refl))
+early verdict status.TheVariants.Done before now plans accepted rose still = inl refl
+early verdict status.TheVariants.Usage before now plans accepted rose still = absurd (⊎_elim (λ r. r) (λ e. subst IsAccepted e accepted) plans)
+early verdict (status.TheVariants.Market section entry kind) before now plans accepted rose still = absurd (⊎_elim (λ r. r) (λ e. subst IsAccepted e accepted) plans)
+early verdict (status.TheVariants.Script line kind) before now plans accepted rose still = absurd (⊎_elim (λ r. r) (λ e. subst IsAccepted e accepted) plans)
+early verdict status.TheVariants.WriteFault before now plans accepted rose still = absurd (⊎_elim (λ r. r) (λ e. subst IsAccepted e accepted) plans)
+early verdict (status.TheVariants.Absent role) before now plans accepted rose still = absurd (⊎_elim (λ r. r) (λ e. subst IsAccepted e accepted) plans)
+
+pub complete_early : (told : Option (List (List ℕ × List ℕ))) (words : List (List ℕ)) (s : Status) (before now a b : ℕ) → IfSome told (λ files. Plans (verdict_of files words) (Err s)) → (s ≡ status.TheVariants.ReadFault → Rose before now)
+    → IfSome told (λ files. IsAccepted (verdict_of files words) → IsQuiet before now → IsQuiet a b → (s ≡ status.TheVariants.Done) ⊎ (s ≡ status.TheVariants.NoMemory))
+complete_early None words s before now a b plans rose = tt
+complete_early (Some files) words s before now a b plans rose = λ accepted still other. early (verdict_of files words) s before now plans accepted rose still
+
+late : (s : Status) (before now : ℕ) → IsLate s → (s ≡ status.TheVariants.WriteFault → Rose before now) → IsQuiet before now → (s ≡ status.TheVariants.Done) ⊎ (s ≡ status.TheVariants.NoMemory)
+late status.TheVariants.NoMemory before now is rose still = inr refl
+late status.TheVariants.WriteFault before now is rose still = absurd (quiet before now still (rose refl))
+late status.TheVariants.Done before now is rose still = absurd is
+late status.TheVariants.Usage before now is rose still = absurd is
+late (status.TheVariants.Market section entry kind) before now is rose still = absurd is
+late (status.TheVariants.Script line kind) before now is rose still = absurd is
+late status.TheVariants.ReadFault before now is rose still = absurd is
+late (status.TheVariants.Absent role) before now is rose still = absurd is
+
+pub complete_late : (told : Option (List (List ℕ × List ℕ))) (words : List (List ℕ)) (s : Status) (before now a b : ℕ) → IsLate s → (s ≡ status.TheVariants.WriteFault → Rose before now)
+    → IfSome told (λ files. IsAccepted (verdict_of files words) → IsQuiet a b → IsQuiet before now → (s ≡ status.TheVariants.Done) ⊎ (s ≡ status.TheVariants.NoMemory))
+complete_late None words s before now a b is rose = tt
+complete_late (Some files) words s before now a b is rose = λ accepted other still. late s before now is rose still

@@ -9,7 +9,7 @@ use Rattle.desk_terms.specs.Cause.{object_of}
 use Rattle.desk_terms.specs.Reading.{Outcome}
 use Rattle.fixed_amount.specs.Decimal.{decimal_text}
 
--- the name of an object: names and objects are numbered alike
+-- the name of an object: in the scripts of today each name is an object's, given in the order in which objects are made
 abbrev pub name_of : List (List ℕ) → ℕ → List ℕ
 name_of names o = slice_index_or names o []
 

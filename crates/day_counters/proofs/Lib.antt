@@ -1,0 +1,4 @@
+pub mod CastLemmas
+pub mod Rows
+pub mod ThirtyLemmas
+pub mod YearLemmas

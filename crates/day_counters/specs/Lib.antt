@@ -1,0 +1,3 @@
+pub mod CivilDate
+pub mod Counter
+pub mod Day

@@ -1,0 +1,26 @@
+// The year fraction between two days.
+ghost use Rattle.std.specs.Prelude.{◌≡◌, pos, ◌≤ℤ◌};
+ghost use Rattle.day_counters.specs.Counter.{frac};
+
+use crate::act_act::parts_before;
+use crate::thirty::{bond_basis_days, european_days};
+use day_number::Day;
+use year_parts::{Basis, Counter, YearParts, of_days};
+
+/// The part of the year from a day to one that is not before it, the last day not counted, as the counter counts it
+/// (QuantLib's `Actual360`, `Actual365Fixed`, `ActualActual` with ISDA's rule, and `Thirty360` with Bond Basis and with
+/// the European rule). At most 489,830,000 parts, those of 110,000 days over 360.
+#[tactic(auto, unfolding(crate::specs::Counter::frac))]
+pub fn fraction(counter: Counter, from: Day, to: Day) -> YearParts
+    requires { from ≤ℤ to }
+    ensures value { result ≡ pos (frac counter from to) }
+    ensures high { result ≤ℤ pos 489_830_000 }
+{
+    match counter {
+        Counter::Act360 => of_days(to.number() - from.number(), Basis::D360),
+        Counter::Act365 => of_days(to.number() - from.number(), Basis::D365),
+        Counter::ActAct => YearParts(parts_before(to) - parts_before(from)),
+        Counter::Thirty360 => of_days(bond_basis_days(from, to), Basis::D360),
+        Counter::ThirtyE360 => of_days(european_days(from, to), Basis::D360),
+    }
+}

@@ -1,0 +1,14 @@
+//! Year fractions between two days by QuantLib's day counters, as whole numbers of parts: Actual/360, Actual/365,
+//! Actual/Actual (ISDA), and 30/360 as Bond Basis and as the European rule count it.
+//!
+//! `fraction`.
+#![tactic(auto)]
+
+mod act_act;
+mod counted;
+mod laws;
+#[cfg(test)]
+mod tests;
+mod thirty;
+
+pub use counted::fraction;

@@ -1,0 +1,21 @@
+-- The length of the year over which days are counted.
+use Rattle.std.specs.Prelude.{◌≡◌, ℕ, ◌*◌}
+use Rattle.year_parts.specs.declared.bases.Basis.{Basis}
+use Rattle.year_parts.specs.declared.bases.Basis.TheVariants.{D360, D365, D366}
+use Rattle.year_parts.specs.Parts.{parts_in_year}
+
+-- the days of a year (Actual/360, Actual/365 and the leap year of ISDA's Actual/Actual)
+abbrev pub days_of : Basis → ℕ
+days_of D360 = 360
+days_of D365 = 365
+days_of D366 = 366
+
+-- the parts of one day over such a year (this project's unit)
+abbrev pub parts_in_day : Basis → ℕ
+parts_in_day D360 = 4_453
+parts_in_day D365 = 4_392
+parts_in_day D366 = 4_380
+
+-- a year of each length has the parts of a year
+abbrev pub EachYearIsWhole : Type 0
+EachYearIsWhole = (basis : Basis) → days_of basis * parts_in_day basis ≡ parts_in_year

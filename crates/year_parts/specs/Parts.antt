@@ -1,0 +1,10 @@
+-- Year fractions as whole numbers of parts.
+use Rattle.std.specs.Prelude.{ℕ, ◌*◌, ◌^◌, ℤ, pos, ◌≤ℤ◌}
+
+-- the parts of a year (this project's unit: 360 * 4,453 = 365 * 4,392 = 366 * 4,380)
+abbrev pub parts_in_year : ℕ
+parts_in_year = 1_603_080
+
+-- a year fraction in parts, from 0 to 2 * 10^12 (this project's range: two terms of 10^12 fit)
+abbrev pub IsYearParts : ℤ → Type 0
+IsYearParts parts = (pos 0 ≤ℤ parts) × (parts ≤ℤ pos (2 * 10 ^ 12))

@@ -1,0 +1,35 @@
+// The length of the year over which days are counted.
+ghost use Rattle.std.specs.Prelude.{◌≡◌, pos, ◌≤ℤ◌, ◌*ℤ◌};
+ghost use Rattle.year_parts.specs.Basis.{parts_in_day};
+
+use crate::YearParts;
+
+/// A year of 360, 365 or 366 days.
+#[derive(Clone, Copy, Debug, PartialEq, Eq)]
+pub enum Basis {
+    D360,
+    D365,
+    D366,
+}
+
+impl Basis {
+    /// The parts of a day: 4,453 over 360, 4,392 over 365 and 4,380 over 366.
+    pub fn parts_in_day(self) -> i64
+        ensures { result ≡ pos (parts_in_day self) }
+    {
+        match self {
+            Basis::D360 => 4_453,
+            Basis::D365 => 4_392,
+            Basis::D366 => 4_380,
+        }
+    }
+}
+
+/// `n` days, 0 to 110,000, as a fraction of a year of that many days.
+pub fn of_days(n: i32, basis: Basis) -> YearParts
+    requires low { pos 0 ≤ℤ n }
+    requires high { n ≤ℤ pos 110_000 }
+    ensures { result ≡ n *ℤ pos (parts_in_day basis) }
+{
+    YearParts(i64::from(n) * basis.parts_in_day())
+}

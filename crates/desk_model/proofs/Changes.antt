@@ -58,6 +58,7 @@ sound_valued calc state o inputs value within are is sound x current = elim (cas
   where
     stored_here : kept_at (valued o value state) o ≡ record { current = true; last = Some value }
     stored_here = get_or-set_same state.kept o (record { current = true; last = Some value }) unpriced within
+
     here : IsPriced calc (valued o value state) o
     here = record {
       value = value;
@@ -65,6 +66,7 @@ sound_valued calc state o inputs value within are is sound x current = elim (cas
       price = sym (seen_priced calc state (last_answer (valued o value state)) o) ∙ is;
       needs = inputs_current (valued o value state) (uses state.market o) inputs (flat_uses state.market o) are;
     }
+
     there : x ≢ o → IsPriced calc (valued o value state) x
     there other =
         let same : kept_at (valued o value state) x ≡ kept_at state x = get_or-set_other state.kept o x (record { current = true; last = Some value }) unpriced other in
@@ -162,6 +164,7 @@ links_added terms s fits links = record {
       where
         none_some : None ≡ Some (Stock q) → ⊥
         none_some e = cc
+
     now_stock : (o : ℕ) → (kept_at s o).current ≡ true → is_stock (terms_at (added terms s).market o) ≡ true
     now_stock o current = ap is_stock (added_terms terms s o (stock_within s.market o (links.current o current))) ∙ links.current o current
 
@@ -185,5 +188,6 @@ links_none = record {
   where
     none_some : (q : ℕ) → None ≡ Some (Stock q) → ⊥
     none_some q e = cc
+
     false_true : false ≡ true → ⊥
     false_true e = cc

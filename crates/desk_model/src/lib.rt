@@ -7,20 +7,18 @@
 
 mod kept;
 
-pub use kept::Kept;
-
 ghost use Rattle.desk_model.specs.Examples.{AreWorked};
+
+pub use kept::Kept;
 
 /// The definitions give what a hand works out for a quote and a stock.
 fn a_quote_and_a_stock_are_worked_through()
     ensures { AreWorked }
-{
-}
+{}
 
 ghost use Rattle.desk_model.specs.Laws.{SeenIsFresh};
 
 /// Where nothing is held, an ask shows the price afresh from the market of that moment.
 pub fn what_is_seen_is_fresh()
     ensures { SeenIsFresh }
-{
-}
+{}

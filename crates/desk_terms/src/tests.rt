@@ -11,7 +11,10 @@ fn a_list_keeps_its_inputs(rt: HostRuntime) -> Result<(), Fail> {
     inputs.push(Input::Money(Amount(-7)))?;
     assert_eq!(rt; inputs.len(), 2);
     assert_eq!(rt; *inputs.get(1), Input::Money(Amount(-7)));
-    assert_eq!(rt; inputs.items(), [Input::Rate(Rate(15)), Input::Money(Amount(-7))].as_slice());
+    assert_eq!(rt;
+        inputs.items(),
+        [Input::Rate(Rate(15)), Input::Money(Amount(-7))].as_slice()
+    );
     Ok(())
 }
 

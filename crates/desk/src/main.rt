@@ -5,7 +5,8 @@
 #![tactic(auto)]
 
 use desk_edge::{FileShelf, OutSink};
-use desk_top::{DeskBench, Status, run};
+use desk_session::DeskBench;
+use desk_top::{Status, run};
 use std::process::ExitCode;
 use std::{env, io};
 

@@ -1,22 +1,20 @@
 -- What an ask computes and leaves, case by case: the object is current, an input is refused, or the bench is called.
-use Rattle.std.proofs.Common.{◌≡◌, ◌⊎◌, inl, inr, ℕ, zero, suc, ◌+◌, ◌<◌, Bool, true, false, ◌||◌, List, [], ◌∷◌, ◌++◌, length, Option, Some, None, Result, Ok, Err, refl, sym, ◌∙◌, ap, subst, arith}
-use Rattle.std.specs.Prelude.{is_ok, slice_set, slice_index_or}
-use Rattle.std.proofs.lemmas.List.{set-get_or, get_or-set_same, get_or-set_other}
-use Rattle.std.proofs.lemmas.Bool.{cases_eq}
+use Rattle.std.proofs.Common.{◌≡◌, ℕ, Bool, true, false, List, [], ◌∷◌, length, Option, Some, None, Result, Ok, Err, refl, sym, ◌∙◌, ap}
+use Rattle.std.specs.Prelude.{is_ok, slice_set}
+use Rattle.std.proofs.lemmas.List.{set-get_or}
 use Rattle.desk_terms.specs.declared.terms.Terms.{Terms}
 use Rattle.desk_terms.specs.declared.value.Value.{Value}
 use Rattle.desk_terms.specs.declared.value.Input as input
 use Rattle.desk_terms.specs.declared.cause.Cause.{Cause}
-use Rattle.desk_terms.specs.declared.cause.Cause.TheVariants.{Unset, Unpriced}
-use Rattle.desk_terms.specs.Reading.{Reading, Outcome, Calc}
+use Rattle.desk_terms.specs.declared.cause.Cause.TheVariants.{Unset}
+use Rattle.desk_terms.specs.Reading.{Outcome, Calc}
 use Rattle.desk_model.specs.declared.kept.Kept.{Kept}
-use Rattle.desk_model.specs.Market.{Market, terms_at, Entry, uses}
+use Rattle.desk_model.specs.Market.{terms_at, Entry, uses}
 use Rattle.desk_model.specs.Market.Entry.{Gives, Needs, Refuses}
-use Rattle.desk_model.specs.Fresh.{and_inputs, inputs_by, priced_over, priced_by, answer_by, fresh}
-use Rattle.desk_model.specs.State.{State, kept_at, held, unpriced, seen, now}
-use Rattle.desk_model.specs.Visit.{Visit, Walk, settle_all, settle, is_idle, idle, visit_by, runs, with_value, stored, asked}
-use Rattle.desk_model.specs.Sound.{last_answer, AreCurrent, IsPriced, IsSound}
-use Rattle.desk_model.proofs.Flat.{IsFlat, flat_uses, flat_inputs, flat_priced, seen_priced, now_priced}
+use Rattle.desk_model.specs.Fresh.{and_inputs, inputs_by, priced_over}
+use Rattle.desk_model.specs.State.{State, kept_at, unpriced, seen, now}
+use Rattle.desk_model.specs.Visit.{Visit, Walk, settle_all, settle, is_idle, visit_by, runs, with_value, stored, asked}
+use Rattle.desk_model.proofs.Flat.{IsFlat, flat_uses, seen_priced, now_priced}
 
 abbrev Inputs : Type 0
 Inputs = Result (List input.Input) Cause

@@ -1,26 +1,22 @@
 -- What keeps a state sound: an ask, a new object, the move of a quote.
-use Rattle.std.proofs.Common.{◌≡◌, ◌≢◌, ◌⊎◌, inl, inr, ℕ, zero, suc, ◌+◌, ◌<◌, ◌≤◌, Bool, true, false, ◌||◌, ◌&&◌, cond, List, [], ◌∷◌, ◌++◌, length, Option, Some, None, Result, Ok, Err, ℤ, refl, sym, ◌∙◌, ap, subst, arith}
-use Rattle.std.specs.Prelude.{is_ok, slice_set, slice_index_or, ◌==◌, if◌then◌else◌}
-use Rattle.std.proofs.lemmas.List.{set-get_or, get_or-set_same, get_or-set_other, get_or_append_left, get_or_past, get_or_push, length-append, length-set}
+use Rattle.std.proofs.Common.{◌≡◌, ◌≢◌, inl, inr, ℕ, ◌<◌, ◌≤◌, Bool, true, false, List, [], ◌∷◌, ◌++◌, length, Option, Some, None, Result, Ok, Err, refl, sym, ◌∙◌, ap, subst, arith}
+use Rattle.std.proofs.lemmas.List.{get_or-set_same, get_or-set_other, get_or_append_left, get_or_past, get_or_push, length-append, length-set}
 use Rattle.std.proofs.lemmas.Bool.{cases_eq, cases_lt}
 use Rattle.desk_terms.specs.declared.terms.Terms.{Terms}
 use Rattle.desk_terms.specs.declared.terms.Terms.TheVariants.{Quote, Stock}
 use Rattle.desk_terms.specs.declared.value.Value.{Value}
 use Rattle.desk_terms.specs.declared.value.Input as input
 use Rattle.desk_terms.specs.declared.cause.Cause.{Cause}
-use Rattle.desk_terms.specs.Reading.{Reading, Outcome, Calc}
-use Rattle.walks.specs.Walk.{below_by}
+use Rattle.desk_terms.specs.Reading.{Outcome, Calc}
 use Rattle.desk_model.specs.declared.kept.Kept.{Kept}
-use Rattle.desk_model.specs.Market.{Market, terms_at, Entry, quote_entry, uses, uses_of, edges, role_of}
+use Rattle.desk_model.specs.Market.{Market, terms_at, Entry, quote_entry, uses, uses_of}
 use Rattle.desk_model.specs.Market.Entry.{Gives, Needs, Refuses}
-use Rattle.desk_model.specs.Fresh.{and_inputs, inputs_by, priced_over, priced_by, fresh}
+use Rattle.desk_model.specs.Fresh.{and_inputs, inputs_by, priced_over, priced_by}
 use Rattle.desk_model.specs.State.{State, kept_at, unpriced, seen, valued}
-use Rattle.desk_model.specs.Visit.{runs, with_value, stored, asked}
 use Rattle.desk_model.specs.Sound.{last_answer, AreCurrent, IsPriced, IsSound}
 use Rattle.desk_model.specs.Links.{is_quote, is_stock, HasLinks, FitsIn}
-use Rattle.desk_model.specs.Effect.{added, with_quote}
-use Rattle.desk_model.specs.Told.{forwards, told, unsettled, changed}
-use Rattle.desk_model.proofs.Flat.{IsFlat, flat_uses, flat_inputs, flat_priced, seen_priced}
+use Rattle.desk_model.specs.Effect.{added}
+use Rattle.desk_model.proofs.Flat.{IsFlat, flat_uses, flat_priced, seen_priced}
 use Rattle.desk_model.proofs.Asks.{unasked, inputs_at}
 
 -- entries that need no object need none that is current

@@ -1,19 +1,12 @@
 -- Objects whose price takes values at hand alone: what they answer does not depend on what other objects answer.
-use Rattle.std.proofs.Common.{◌≡◌, ◌⊎◌, inl, inr, ℕ, zero, suc, ◌+◌, ◌<◌, Bool, true, false, ◌||◌, List, [], ◌∷◌, ◌++◌, length, Option, Some, None, Result, Ok, Err, refl, sym, ◌∙◌, ap, subst, arith}
-use Rattle.std.specs.Prelude.{is_ok, slice_set, slice_index_or}
+use Rattle.std.proofs.Common.{◌≡◌, ℕ, List, [], ◌∷◌, Option, Some, None, refl, ap}
 use Rattle.desk_terms.specs.declared.terms.Terms.{Terms}
 use Rattle.desk_terms.specs.declared.terms.Terms.TheVariants.{Quote, Stock}
-use Rattle.desk_terms.specs.declared.value.Value.{Value}
-use Rattle.desk_terms.specs.declared.value.Input as input
-use Rattle.desk_terms.specs.declared.cause.Cause.{Cause}
-use Rattle.desk_terms.specs.declared.cause.Cause.TheVariants.{Unset}
-use Rattle.desk_terms.specs.Reading.{Reading, Outcome, Calc}
-use Rattle.desk_model.specs.declared.kept.Kept.{Kept}
+use Rattle.desk_terms.specs.Reading.{Outcome, Calc}
 use Rattle.desk_model.specs.Market.{Market, terms_at, Entry, quote_entry, uses, uses_of}
 use Rattle.desk_model.specs.Market.Entry.{Gives, Needs, Refuses}
 use Rattle.desk_model.specs.Fresh.{and_inputs, inputs_by, priced_over, priced_by, answer_by, fresh}
-use Rattle.desk_model.specs.State.{State, kept_at, held, unpriced, seen, now}
-use Rattle.desk_model.specs.Visit.{Visit, Walk, settle_all, settle, is_idle, idle, visit_by, runs, with_value, stored, asked}
+use Rattle.desk_model.specs.State.{State, seen, now}
 
 -- no other object is needed
 abbrev pub IsFlat : List Entry → Type 0

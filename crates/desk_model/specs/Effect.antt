@@ -1,11 +1,10 @@
 -- What the commands that make and move objects do to a state.
-use Rattle.std.specs.Prelude.{◌≡◌, ℕ, Bool, true, false, if◌then◌else◌, List, [], ◌∷◌, ◌++◌, ℤ, Option, Some, None, slice_set}
+use Rattle.std.specs.Prelude.{ℕ, Bool, false, if◌then◌else◌, [], ◌∷◌, ◌++◌, ℤ, Option, Some, None, slice_set}
 use Rattle.std.specs.Option.{option_eq}
 use Rattle.std.specs.Ordering.{int_eq}
 use Rattle.desk_terms.specs.declared.terms.Terms.{Terms}
-use Rattle.desk_terms.specs.declared.terms.Terms.TheVariants.{Quote, Stock}
-use Rattle.desk_model.specs.declared.kept.Kept.{Kept}
-use Rattle.desk_model.specs.Market.{Market, terms_at}
+use Rattle.desk_terms.specs.declared.terms.Terms.TheVariants.{Quote}
+use Rattle.desk_model.specs.Market.{terms_at}
 use Rattle.desk_model.specs.State.{State, unpriced}
 use Rattle.desk_model.specs.Told.{changed}
 

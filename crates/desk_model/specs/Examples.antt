@@ -1,10 +1,9 @@
 -- A quote of 1.5 and a stock on it, worked through by hand: object 0 is `today`, 1 the quote, 2 the stock.
-use Rattle.std.specs.Prelude.{◌≡◌, ℕ, Bool, true, false, List, [], ◌∷◌, pos, Option, Some, None, Result, Ok, Err}
+use Rattle.std.specs.Prelude.{◌≡◌, true, false, [], ◌∷◌, pos, Some, None, Ok, Err}
 use Rattle.desk_terms.specs.declared.terms.Terms.TheVariants.{Quote, Stock}
 use Rattle.desk_terms.specs.declared.value.Value.TheVariants.{Money}
-use Rattle.desk_terms.specs.declared.value.Input as input
 use Rattle.desk_terms.specs.declared.cause.Cause.TheVariants.{Unset, TooLarge}
-use Rattle.desk_terms.specs.Reading.{Reading, Outcome, Calc}
+use Rattle.desk_terms.specs.Reading.{Calc}
 use Rattle.desk_model.specs.Market.{Market}
 use Rattle.desk_model.specs.Fresh.{fresh}
 use Rattle.desk_model.specs.State.{State, unpriced, seen}

@@ -1,9 +1,9 @@
 -- When stored values may be answered: a sound state.
-use Rattle.std.specs.Prelude.{◌≡◌, ℕ, Bool, true, false, List, [], ◌∷◌, Option, Some, None, Result, Ok, Err}
+use Rattle.std.specs.Prelude.{◌≡◌, ℕ, true, List, [], ◌∷◌, Option, Some, None, Ok, Err}
 use Rattle.desk_terms.specs.declared.value.Value.{Value}
 use Rattle.desk_terms.specs.declared.cause.Cause.TheVariants.{Unpriced}
 use Rattle.desk_terms.specs.Reading.{Outcome, Calc}
-use Rattle.desk_model.specs.Market.{Market, Entry, uses}
+use Rattle.desk_model.specs.Market.{Entry, uses}
 use Rattle.desk_model.specs.Market.Entry.{Gives, Needs, Refuses}
 use Rattle.desk_model.specs.Fresh.{priced_by}
 use Rattle.desk_model.specs.State.{State, kept_at}

@@ -1,5 +1,5 @@
 -- The state of a session: its market and what it stores of each object.
-use Rattle.std.specs.Prelude.{◌≡◌, ℕ, suc, Bool, true, false, List, [], ◌∷◌, length, Option, Some, None, slice_index_or, slice_set}
+use Rattle.std.specs.Prelude.{ℕ, suc, true, false, List, length, Option, Some, None, slice_index_or, slice_set}
 use Rattle.desk_terms.specs.declared.value.Value.{Value}
 use Rattle.desk_terms.specs.Reading.{Outcome, Calc}
 use Rattle.desk_model.specs.declared.kept.Kept.{Kept}

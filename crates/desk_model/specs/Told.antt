@@ -1,8 +1,8 @@
 -- What a change of an object tells, and the state after it (QuantLib's `Observable::notifyObservers`).
-use Rattle.std.specs.Prelude.{◌≡◌, ℕ, suc, Bool, true, false, ◌==◌, ◌+◌, if◌then◌else◌, List, [], ◌∷◌, length}
+use Rattle.std.specs.Prelude.{ℕ, suc, Bool, true, false, ◌==◌, ◌+◌, if◌then◌else◌, List, [], ◌∷◌, length}
 use Rattle.walks.specs.Walk.{below_by}
 use Rattle.desk_model.specs.declared.kept.Kept.{Kept}
-use Rattle.desk_model.specs.Market.{Market, terms_at, edges, Role, role_of}
+use Rattle.desk_model.specs.Market.{terms_at, edges, Role, role_of}
 use Rattle.desk_model.specs.Market.Role.{Source, Forwarder, Lazy}
 use Rattle.desk_model.specs.State.{State, kept_at}
 

@@ -1,12 +1,11 @@
 -- Which computations an ask makes, and the state after it: what an ask computes is what it uses and has no current
 -- value (QuantLib's `LazyObject::calculate`).
-use Rattle.std.specs.Prelude.{◌≡◌, ℕ, zero, suc, Bool, true, false, ◌||◌, ◌==◌, if◌then◌else◌, List, [], ◌∷◌, ◌++◌, length, Option, Some, None, Result, Ok, Err, is_ok, slice_set}
+use Rattle.std.specs.Prelude.{ℕ, zero, suc, Bool, true, ◌||◌, ◌==◌, if◌then◌else◌, List, [], ◌∷◌, ◌++◌, length, Option, Some, None, Ok, Err, is_ok, slice_set}
 use Rattle.std.specs.List.{list_any}
-use Rattle.desk_terms.specs.declared.value.Value.{Value}
 use Rattle.desk_terms.specs.declared.cause.Cause.{Cause}
 use Rattle.desk_terms.specs.Reading.{Outcome, Calc}
 use Rattle.desk_model.specs.declared.kept.Kept.{Kept}
-use Rattle.desk_model.specs.Market.{Market, Entry, uses}
+use Rattle.desk_model.specs.Market.{Entry, uses}
 use Rattle.desk_model.specs.Market.Entry.{Gives, Needs, Refuses}
 use Rattle.desk_model.specs.State.{State, kept_at, seen, now}
 

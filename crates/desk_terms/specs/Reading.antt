@@ -1,7 +1,7 @@
 -- What a price depends on, and what it is.
-use Rattle.std.specs.Prelude.{◌≡◌, ◌⊎◌, ℕ, ◌^◌, Bool, true, false, List, [], ◌∷◌, ℤ, pos, neg_ℤ, ◌≤ℤ◌, Result, Ok, Err}
+use Rattle.std.specs.Prelude.{◌≡◌, ℕ, ◌^◌, List, [], ◌∷◌, pos, neg_ℤ, ◌≤ℤ◌, Result, Ok, Err}
 use Rattle.desk_terms.specs.declared.terms.Terms.{Terms}
-use Rattle.desk_terms.specs.declared.terms.Terms.TheVariants.{Quote, Stock}
+use Rattle.desk_terms.specs.declared.terms.Terms.TheVariants.{Stock}
 use Rattle.desk_terms.specs.declared.value.Value.{Value}
 use Rattle.desk_terms.specs.declared.value.Value.TheVariants.{Money}
 use Rattle.desk_terms.specs.declared.value.Input as input

@@ -1,7 +1,7 @@
 -- Commands that fit some objects fit others of the same kinds.
-use Rattle.std.proofs.Common.{◌≡◌, ◌⊎◌, inl, inr, ℕ, ◌+◌, ◌<◌, ◌≤◌, Bool, true, false, List, [], ◌∷◌, ◌++◌, length, Option, Some, None, ℤ, refl, sym, ◌∙◌, ap, subst, arith}
-use Rattle.std.specs.Prelude.{slice_index_or, slice_set, if◌then◌else◌}
-use Rattle.std.proofs.lemmas.List.{get_or_append_left, get_or_past, get_or_push, length-append, length-set, get_or-set_same, get_or-set_other}
+use Rattle.std.proofs.Common.{◌≡◌, inl, inr, ℕ, Bool, true, false, List, [], ◌∷◌, ◌++◌, length, Option, Some, None, ℤ, refl, sym, ◌∙◌, ap, arith}
+use Rattle.std.specs.Prelude.{slice_index_or, if◌then◌else◌}
+use Rattle.std.proofs.lemmas.List.{get_or_append_left, get_or_past, get_or_push, length-append, length-set}
 use Rattle.std.proofs.lemmas.Bool.{cases_eq, cases_lt}
 use Rattle.desk_terms.specs.declared.terms.Terms.{Terms}
 use Rattle.desk_terms.specs.declared.terms.Terms.TheVariants.{Quote, Stock}
@@ -10,12 +10,12 @@ use Rattle.desk_model.specs.Market.{terms_at}
 use Rattle.desk_model.specs.State.{State}
 use Rattle.desk_model.specs.Told.{changed}
 use Rattle.desk_model.specs.Visit.{asked}
-use Rattle.desk_model.specs.Links.{is_quote, is_stock, FitsIn}
-use Rattle.desk_model.specs.Effect.{added, is_held, with_quote, quote_set}
+use Rattle.desk_model.specs.Links.{is_quote, is_stock}
+use Rattle.desk_model.specs.Effect.{is_held, with_quote, quote_set}
 use Rattle.desk_model.proofs.Moves.{moved_kind}
-use Rattle.desk_top.specs.declared.command.Command.{Command}
-use Rattle.desk_top.specs.declared.command.Command.TheVariants.{Make, Set, Ask}
-use Rattle.desk_top.specs.Fit.{IsFit, with_made, AreFit}
+use Rattle.desk_forms.specs.declared.command.Command.{Command}
+use Rattle.desk_forms.specs.declared.command.Command.TheVariants.{Make, Set, Ask}
+use Rattle.desk_forms.specs.Fit.{IsFit, with_made, AreFit}
 use Rattle.desk_top.specs.Transcript.{turn}
 
 abbrev Objects : Type 0

@@ -1,9 +1,8 @@
 -- The ways in which the reading of words and files ends, against the verdict of the definition.
-use Rattle.std.proofs.Common.{◌≡◌, ◌⊎◌, inl, inr, ⊎_elim, ℕ, ◌<◌, Bool, true, false, ◌||◌, List, length, Option, Some, None, Result, Ok, Err, Vec, refl, sym, ◌∙◌, ap, subst, arith}
-use Rattle.std.specs.Prelude.{IfSome, nat_lt, if◌then◌else◌}
+use Rattle.std.proofs.Common.{◌≡◌, ◌⊎◌, inl, inr, ⊎_elim, ℕ, ◌<◌, Bool, true, false, List, length, Option, Some, None, Result, Ok, Err, Vec, refl, sym, ◌∙◌, ap, subst, arith}
+use Rattle.std.specs.Prelude.{IfSome, nat_lt}
 use Rattle.std.specs.Str.{bytes_eq}
 use Rattle.std.specs.declared.alloc.Global.{Global}
-use Rattle.std.proofs.lemmas.Bool.{cases_eq}
 use Rattle.std.proofs.lemmas.Bool.Decides.{nat_tests}
 use Rattle.std.proofs.lemmas.Slice.Eq.{bytes_eq-Decides}
 use Rattle.desk_edge.specs.Count.{Rose}
@@ -14,16 +13,17 @@ use Rattle.desk_top.specs.declared.status.ScriptKind as script
 use Rattle.desk_top.specs.declared.status.FileRole as role
 use Rattle.desk_top.specs.declared.status.Status.{Status}
 use Rattle.desk_top.specs.declared.status.Status as status
-use Rattle.desk_top.specs.declared.script.Plan as read
-use Rattle.desk_top.specs.Found.{too_long_of, Finds, Plans, plan_in}
+use Rattle.desk_forms.specs.declared.script.Plan as read
+use Rattle.desk_top.specs.Found.{Finds, Plans, plan_in}
 use Rattle.desk_terms.specs.Reading.{Calc}
 use Rattle.desk_model.specs.Effect.{start}
-use Rattle.desk_top.specs.declared.command.Command.{Command}
+use Rattle.desk_forms.specs.declared.command.Command.{Command}
 use Rattle.desk_top.specs.Run.{IsReading, IsLate, IsAccepted, IsQuiet, Writes}
 use Rattle.desk_top.specs.Transcript.{transcript}
-use Rattle.desk_top.specs.Script.{Plan, most_text, most_lines, lines_of, script_of}
-use Rattle.desk_top.specs.Verdict.{Files, two_lines, with_plan, with_script, with_market, with_request, verdict_of, output_of}
-use Rattle.desk_top.specs.Words.{Request, request_of}
+use Rattle.desk_forms.specs.Script.{Plan, most_text, script_of}
+use Rattle.desk_forms.specs.Market.{two_lines}
+use Rattle.desk_top.specs.Verdict.{Files, with_plan, with_script, with_market, with_request, verdict_of, output_of}
+use Rattle.desk_forms.specs.Words.{Request, request_of}
 
 abbrev Bytes : Type 0
 Bytes = List ℕ

@@ -1,6 +1,5 @@
 -- How far a session has come: what is written and computed so far, and what is left.
 use Rattle.std.proofs.Common.{◌≡◌, ℕ, zero, suc, ◌+◌, ◌-◌, ◌^◌, ◌<◌, ◌≤◌, min, Bool, List, [], ◌∷◌, ◌++◌, length, get_or, take, drop, Option, Some, None, refl, sym, ◌∙◌, ap, subst, arith, append_assoc, length-append}
-use Rattle.std.specs.Option.{option_map}
 use Rattle.std.proofs.lemmas.List.{append-nil, take-append-le, take_at, drop_more, drop_all}
 use Rattle.desk_edge.specs.Sink.{appended}
 use Rattle.desk_edge.proofs.SinkLemmas.{appended-appended, appended-nil}
@@ -9,11 +8,11 @@ use Rattle.desk_terms.specs.Bench.{counted, logged}
 use Rattle.desk_model.specs.State.{State}
 use Rattle.desk_model.specs.Effect.{start}
 use Rattle.desk_model.specs.Sound.{IsSound}
-use Rattle.desk_top.specs.declared.command.Command.{Command}
-use Rattle.desk_top.specs.Fit.{IsFit, with_made, AreFit}
+use Rattle.desk_forms.specs.declared.command.Command.{Command}
+use Rattle.desk_forms.specs.Fit.{AreFit}
 use Rattle.desk_top.specs.Steps.{Steps}
 use Rattle.desk_top.specs.Transcript.{Turn, turn, transcript, calls_of}
-use Rattle.desk_top.proofs.Exits.{logged_nothing}
+use Rattle.desk_session.proofs.Exits.{logged_nothing}
 use Rattle.desk_top.proofs.Fitting.{fit_after}
 
 abbrev Log : Type 0

@@ -1,28 +1,21 @@
 -- What each command does to a sound session.
-use Rattle.std.proofs.Common.{◌≡◌, ℕ, Bool, true, List, [], ◌∷◌, ◌++◌, length, Option, Some, None, Result, Ok, Err, ℤ, refl, sym, ◌∙◌, ap, subst}
-use Rattle.std.proofs.lemmas.List.{append-nil}
+use Rattle.std.proofs.Common.{◌≡◌, ℕ, Bool, List, [], ◌++◌, Option, Some, None, ℤ, refl, sym, ◌∙◌, ap}
 use Rattle.desk_terms.specs.declared.terms.Terms.{Terms}
 use Rattle.desk_terms.specs.declared.value.Value.{Value}
 use Rattle.desk_terms.specs.declared.cause.Cause.{Cause}
 use Rattle.desk_terms.specs.declared.asked.Asked.{Asked}
 use Rattle.desk_terms.specs.declared.asked.Mark.TheVariants.{Fresh}
 use Rattle.desk_terms.specs.Reading.{Outcome, Calc}
-use Rattle.desk_terms.specs.Bench.{counted, logged}
-use Rattle.desk_model.specs.Market.{terms_at}
 use Rattle.desk_model.specs.Fresh.{fresh}
 use Rattle.desk_model.specs.State.{State, kept_at, seen}
-use Rattle.desk_model.specs.Visit.{runs, asked}
-use Rattle.desk_model.specs.Sound.{IsSound}
-use Rattle.desk_model.specs.Links.{is_quote, HasLinks}
 use Rattle.desk_model.specs.Effect.{added, quote_set}
 use Rattle.desk_model.proofs.Flat.{seen_is_fresh}
-use Rattle.desk_top.specs.declared.command.Command.{Command}
-use Rattle.desk_top.specs.declared.command.Command.TheVariants.{Make, Set, Ask}
-use Rattle.desk_top.specs.Asks.{Shows, Asks, answer_of}
+use Rattle.desk_forms.specs.declared.command.Command.TheVariants.{Make, Set, Ask}
+use Rattle.desk_session.specs.Asks.{Shows, Asks, answer_of}
 use Rattle.desk_top.specs.Line.{asked_line}
 use Rattle.desk_top.specs.Steps.{Steps}
 use Rattle.desk_top.specs.Transcript.{turn}
-use Rattle.desk_top.proofs.Exits.{logged_nothing}
+use Rattle.desk_session.proofs.Exits.{logged_nothing}
 
 abbrev Log : Type 0
 Log = Option (List (ℕ × Bool))

@@ -8,10 +8,10 @@ use Rattle.desk_top.specs.declared.status.ScriptKind as script
 use Rattle.desk_top.specs.declared.status.FileRole.{FileRole}
 use Rattle.desk_top.specs.declared.status.FileRole as role
 use Rattle.desk_top.specs.declared.status.Status.{Status}
-use Rattle.desk_top.specs.declared.status.Status.TheVariants.{Done, Usage, Market, Script, ReadFault, WriteFault, NoMemory, Absent}
-use Rattle.desk_top.specs.declared.script.Plan as read
+use Rattle.desk_top.specs.declared.status.Status.TheVariants.{Done, Market, Script, WriteFault, Absent}
+use Rattle.desk_forms.specs.declared.script.Plan as read
 use Rattle.desk_top.specs.Run.{IsReading}
-use Rattle.desk_top.specs.Script.{Plan}
+use Rattle.desk_forms.specs.Script.{Plan}
 
 -- the status of a file that is longer than the most bytes
 abbrev pub too_long_of : FileRole → Status

@@ -1,17 +1,8 @@
-pub mod Asking
-pub mod Asks
-pub mod Drafts
-pub mod Fit
-pub mod Fits
 pub mod Found
 pub mod Line
-pub mod Log
-pub mod Pricing
 pub mod Rows
 pub mod Run
-pub mod Script
 pub mod Status
 pub mod Steps
 pub mod Transcript
 pub mod Verdict
-pub mod Words

@@ -1,10 +1,10 @@
 -- Sessions worked through by hand.
-use Rattle.std.specs.Prelude.{◌≡◌, ℕ, Bool, true, false, List, [], ◌∷◌, ◌++◌, codes, ℤ, pos, negsuc, Some, None}
+use Rattle.std.specs.Prelude.{◌≡◌, ℕ, Bool, true, List, [], ◌∷◌, codes, ℤ, pos, negsuc, Some}
 use Rattle.desk_terms.specs.declared.terms.Terms.TheVariants.{Quote, Stock}
 use Rattle.desk_model.specs.Effect.{start}
-use Rattle.desk_top.specs.declared.command.Command.{Command}
-use Rattle.desk_top.specs.declared.command.Command.TheVariants.{Make, Set, Ask}
-use Rattle.desk_top.specs.Pricing.{desk_calc}
+use Rattle.desk_forms.specs.declared.command.Command.{Command}
+use Rattle.desk_forms.specs.declared.command.Command.TheVariants.{Make, Set, Ask}
+use Rattle.desk_session.specs.Pricing.{desk_calc}
 use Rattle.desk_top.specs.Transcript.{transcript, calls_of}
 
 abbrev pub some_names : List (List ℕ)

@@ -1,5 +1,5 @@
 -- The exit codes and the lines on standard error (this project's profile).
-use Rattle.std.specs.Prelude.{ℕ, List, [], ◌∷◌, ◌++◌, codes, decimal}
+use Rattle.std.specs.Prelude.{ℕ, List, [], ◌++◌, codes, decimal}
 use Rattle.desk_top.specs.declared.status.Section.{Section}
 use Rattle.desk_top.specs.declared.status.Section.TheVariants.{Top}
 use Rattle.desk_top.specs.declared.status.MarketKind.{MarketKind}

@@ -3,7 +3,7 @@ use Rattle.std.specs.Prelude.{◌≡◌, ℕ, Bool, List, length, Option}
 use Rattle.desk_terms.specs.Reading.{Calc}
 use Rattle.desk_terms.specs.Bench.{counted, logged}
 use Rattle.desk_model.specs.State.{State}
-use Rattle.desk_top.specs.declared.command.Command.{Command}
+use Rattle.desk_forms.specs.declared.command.Command.{Command}
 use Rattle.desk_top.specs.Transcript.{turn}
 
 -- The lines, the computations and the next state are those of the definition: an ask makes the bench calls of the

@@ -7,8 +7,8 @@ use Rattle.desk_model.specs.Fresh.{fresh}
 use Rattle.desk_model.specs.State.{State}
 use Rattle.desk_model.specs.Visit.{runs, asked}
 use Rattle.desk_model.specs.Effect.{added, quote_set}
-use Rattle.desk_top.specs.declared.command.Command.{Command}
-use Rattle.desk_top.specs.declared.command.Command.TheVariants.{Make, Set, Ask}
+use Rattle.desk_forms.specs.declared.command.Command.{Command}
+use Rattle.desk_forms.specs.declared.command.Command.TheVariants.{Make, Set, Ask}
 use Rattle.desk_top.specs.Line.{asked_line}
 
 -- what one command gives: its lines, the computations that it makes, and the state after it

@@ -1,6 +1,6 @@
 -- Whether words and files are accepted, and what is done then: the first failure in the order in which files are read
 -- (this project's profile).
-use Rattle.std.specs.Prelude.{ℕ, Bool, List, [], ◌∷◌, ◌++◌, codes, if◌then◌else◌, Option, None, Some, Result, Ok, Err}
+use Rattle.std.specs.Prelude.{ℕ, Bool, List, [], if◌then◌else◌, Option, None, Some, Result, Ok, Err}
 use Rattle.std.specs.Str.{bytes_eq}
 use Rattle.desk_edge.specs.Shelf.{file_at}
 use Rattle.desk_terms.specs.Reading.{Calc}
@@ -11,17 +11,14 @@ use Rattle.desk_top.specs.declared.status.ScriptKind as script
 use Rattle.desk_top.specs.declared.status.FileRole as role
 use Rattle.desk_top.specs.declared.status.Status.{Status}
 use Rattle.desk_top.specs.declared.status.Status as status
-use Rattle.desk_top.specs.Script.{Plan, script_of}
+use Rattle.desk_forms.specs.Market.{two_lines}
+use Rattle.desk_forms.specs.Script.{Plan, script_of}
 use Rattle.desk_top.specs.Transcript.{transcript, calls_of}
-use Rattle.desk_top.specs.Words.{Request, request_of}
+use Rattle.desk_forms.specs.Words.{Request, request_of}
 
 -- files by path; of several with a path the first counts
 abbrev pub Files : Type 0
 Files = List (List ℕ × List ℕ)
-
--- the one market that this version takes: its version and its evaluation date
-abbrev pub two_lines : List ℕ
-two_lines = codes "version = 1\ntoday = " ++ 34 ∷ codes "2024-01-02" ++ 34 ∷ 10 ∷ []
 
 -- the script, once the market is accepted
 abbrev pub with_plan : Option Plan → Result Plan Status

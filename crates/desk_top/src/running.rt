@@ -5,19 +5,17 @@ ghost use Rattle.desk_edge.specs.Count.{Rose};
 ghost use Rattle.desk_edge.specs.Shelf.{files_of, file_at};
 ghost use Rattle.desk_terms.specs.Bench.{counted, logged};
 ghost use Rattle.desk_top.specs.declared.status.FileRole.{FileRole};
-ghost use Rattle.desk_top.specs.Fit.{AreFit};
+ghost use Rattle.desk_forms.specs.Fit.{AreFit};
 ghost use Rattle.desk_top.specs.Found.{too_long_of, Finds, IsBefore, Plans};
 ghost use Rattle.desk_top.specs.Run.{IsOutside, IsEarly, IsReading, IsAccepted, IsQuiet, Writes};
-ghost use Rattle.desk_top.specs.Script.{script_of};
+ghost use Rattle.desk_forms.specs.Script.{script_of};
 ghost use Rattle.desk_top.specs.Verdict.{verdict_of, status_of, output_of, computed_by};
-ghost use Rattle.desk_top.specs.Words.{request_of};
+ghost use Rattle.desk_forms.specs.Words.{request_of};
 
-use crate::market::is_market;
-use crate::script::{Plan, read_script};
 use crate::step::play;
-use crate::words::{Request, read_words};
 use crate::{FileRole, MarketKind, ScriptKind, Section, Status};
 use desk_edge::{ReadFault, Shelf, Sink, read_whole};
+use desk_forms::{Plan, Request, is_market, read_script, read_words};
 use desk_terms::Bench;
 use std::alloc::{AllocError, Global};
 

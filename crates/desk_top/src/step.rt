@@ -5,17 +5,19 @@ ghost use Rattle.desk_terms.specs.Bench.{counted, logged};
 ghost use Rattle.desk_model.specs.Market.{terms_at};
 ghost use Rattle.desk_model.specs.Effect.{start};
 ghost use Rattle.desk_model.specs.Links.{is_stock};
-ghost use Rattle.desk_top.specs.declared.command.Command.TheVariants.{Ask};
+ghost use Rattle.desk_forms.specs.declared.command.Command.TheVariants.{Ask};
 ghost use Rattle.desk_model.specs.Sound.{IsSound};
-ghost use Rattle.desk_top.specs.Fit.{IsFit, AreFit};
+ghost use Rattle.desk_forms.specs.Fit.{IsFit, AreFit};
 ghost use Rattle.desk_top.specs.Run.{IsLate, Writes, ended};
 ghost use Rattle.desk_top.specs.Steps.{Steps};
 ghost use Rattle.desk_top.specs.Transcript.{transcript, calls_of};
 
+use crate::Status;
 use crate::report::push_asked;
-use crate::{Command, Session, Status};
 use desk_edge::{Sink, write_whole};
+use desk_forms::Command;
 use desk_names::{Names, ObjId};
+use desk_session::Session;
 use desk_terms::Bench;
 use std::alloc::{AllocError, Global};
 

@@ -1,8 +1,8 @@
 ghost use Rattle.std.specs.Prelude.{◌≤◌};
 
-use crate::scripts::SCRIPTS;
-use crate::{DeskBench, FileRole, ListBench, MarketKind, ScriptKind, Section, Status, run};
+use crate::{FileRole, MarketKind, ScriptKind, Section, Status, run};
 use desk_edge::{CallList, FileList, MemoryFile, MemoryShelf, MemorySink};
+use desk_session::{DeskBench, ListBench};
 use desk_terms::{Bench, BenchFault, Cause, Job, Value};
 use std::alloc::Global;
 use std::test::Fail;
@@ -59,16 +59,6 @@ fn two_asks_compute_once(rt: HostRuntime) -> Result<(), Fail> {
     let (status, bytes) = outcome(rt.alloc(), MARKET, TWO_ASKS)?;
     assert_eq!(rt; status, Status::Done);
     assert_eq!(rt; bytes.as_slice(), TWO_LINES);
-    Ok(())
-}
-
-#[test]
-fn scripts_agree_with_the_model(rt: HostRuntime) -> Result<(), Fail> {
-    for (script, lines) in SCRIPTS.iter() {
-        let (status, bytes) = outcome(rt.alloc(), MARKET, script)?;
-        assert_eq!(rt; status, Status::Done);
-        assert_eq!(rt; bytes.as_slice(), *lines);
-    }
     Ok(())
 }
 

@@ -1,7 +1,7 @@
 -- A bounded walk and the relation of lying below say the same.
-use Rattle.std.proofs.Common.{◌≡◌, ◌⊎◌, inl, inr, ℕ, zero, suc, ◌+◌, Bool, true, false, ◌||◌, ◌&&◌, List, [], ◌∷◌, refl, sym, ◌∙◌, ap, arith}
+use Rattle.std.proofs.Common.{◌≡◌, ◌⊎◌, inl, inr, ℕ, zero, suc, Bool, true, false, ◌||◌, ◌&&◌, List, [], ◌∷◌, refl}
 use Rattle.std.specs.List.{list_any}
-use Rattle.walks.specs.Walk.{below_by, Among, Below, FindsOnlyBelow, FindsAllBelow, FindsMoreFurther}
+use Rattle.walks.specs.Walk.{below_by, Among, FindsOnlyBelow, FindsAllBelow, FindsMoreFurther}
 use Rattle.walks.specs.Walk.Among.{first, later}
 use Rattle.walks.specs.Walk.Below.{next, beyond}
 

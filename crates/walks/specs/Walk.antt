@@ -1,5 +1,5 @@
 -- Walks over edge lists: `reads o` lists the nodes to which o has an edge.
-use Rattle.std.specs.Prelude.{◌≡◌, ℕ, zero, suc, ◌+◌, Bool, true, false, ◌||◌, ◌&&◌, List, [], ◌∷◌}
+use Rattle.std.specs.Prelude.{◌≡◌, ℕ, zero, suc, Bool, true, false, ◌||◌, ◌&&◌, List, ◌∷◌}
 use Rattle.std.specs.List.{list_any}
 
 -- whether a node that passes `found` lies below o, on a path of at most n edges whose inner nodes pass `through`

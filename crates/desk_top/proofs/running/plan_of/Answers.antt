@@ -3,12 +3,12 @@ use Rattle.std.specs.Str.{bytes_eq}
 use Rattle.std.proofs.lemmas.Result.{err_from_is_err_and}
 use Rattle.desk_edge.specs.Shelf.{files_of}
 use Rattle.desk_top.specs.Found.{plan_in}
-use Rattle.desk_top.specs.Drafts.{read_to}
-use Rattle.desk_top.specs.Script.{script_of}
-use Rattle.desk_top.specs.Words.{Request}
-use Rattle.desk_top.specs.Verdict.{two_lines}
-use Rattle.desk_top.proofs.Drafting.{script_fits}
-use Rattle.desk_top.proofs.Planning.{plan_usage, plan_market_fails, plan_market_refused, plan_script_fails, plan_script_read, told_plan, told_refusal, told_memory}
+use Rattle.desk_forms.specs.Drafts.{read_to}
+use Rattle.desk_forms.specs.Script.{script_of}
+use Rattle.desk_forms.specs.Words.{Request}
+use Rattle.desk_forms.specs.Market.{two_lines}
+use Rattle.desk_forms.proofs.Drafting.{script_fits}
+use Rattle.desk_top.proofs.Planning.{plan_usage, plan_market_fails, plan_market_refused, plan_script_fails, plan_script_read, told_plan, told_refusal}
 use Rattle.desk_top.proofs.running.plan_of.Goals as goal
 
 pub returns-in-None-clause-plans : goal.returns-in-None-clause-plans

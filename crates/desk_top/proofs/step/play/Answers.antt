@@ -1,4 +1,4 @@
-use Rattle.std.proofs.Common.{◌≡◌, [], ◌∷◌, ◌+◌, ℕ, List, drop, refl, sym, ◌∙◌, ap, subst, arith}
+use Rattle.std.proofs.Common.{◌+◌, ℕ, List, drop, refl, sym, ◌∙◌, ap, subst, arith}
 use Rattle.std.proofs.lemmas.Result.{err_from_is_err_and}
 use Rattle.desk_edge.specs.Sink.{appended}
 use Rattle.desk_terms.specs.Reading.{Calc}
@@ -10,7 +10,7 @@ use Rattle.desk_top.proofs.step.play.Goals as goal
 pub loop-command-init : goal.loop-command-init
 loop-command-init g c = record {
   same = refl;
-  progress = subst (λ s. Progress (g.B.Bench.calc c.args.bench.now) c.args.names.now c.args.commands.now c.args.commands.now s (g.K.Sink.bytes c.args.out.now) (g.K.Sink.bytes c.args.out.now) (g.B.Bench.count c.args.bench.now) (g.B.Bench.count c.args.bench.now) (g.B.Bench.log c.args.bench.now) (g.B.Bench.log c.args.bench.now)) (sym c.in_ok-session.ensures)
+  progress = subst (λ s. Progress (g.B.Bench.calc c.args.bench.now) c.args.names.now c.args.commands.now c.args.commands.now s (g.K.Sink.bytes c.args.out.now) (g.K.Sink.bytes c.args.out.now) (g.B.Bench.count c.args.bench.now) (g.B.Bench.count c.args.bench.now) (g.B.Bench.log c.args.bench.now) (g.B.Bench.log c.args.bench.now)) (sym c.in_ok-session.ensures.start)
       (progress_none (g.B.Bench.calc c.args.bench.now) c.args.names.now c.args.commands.now (g.K.Sink.bytes c.args.out.now) (g.B.Bench.count c.args.bench.now) (g.B.Bench.log c.args.bench.now) c.requires);
   faults = omega arith;
 }

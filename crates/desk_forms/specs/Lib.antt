@@ -1,0 +1,6 @@
+pub mod Asking
+pub mod Drafts
+pub mod Fit
+pub mod Market
+pub mod Script
+pub mod Words

@@ -1,0 +1,4 @@
+pub mod Asks
+pub mod Fits
+pub mod Log
+pub mod Pricing

@@ -1,0 +1,4 @@
+mod CastLemmas
+pub mod ListedLemmas
+pub mod Rows
+mod SundayLaw

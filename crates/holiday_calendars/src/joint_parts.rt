@@ -1,0 +1,105 @@
+// Several calendars in one.
+ghost use Rattle.std.specs.Prelude.{◌≡◌, ◌↔◌, ◌<◌, length, IfOk};
+ghost use Rattle.std.specs.List.{list_all, list_any};
+ghost use Rattle.holiday_calendars.specs.Base.{is_base_day};
+
+use crate::{Base, BaseList, Calendar};
+use day_number::Day;
+use std::alloc::{AllocError, Global};
+use std::marker::Model;
+use thiserror::Error;
+
+/// How a joint calendar goes by its parts (QuantLib's JointCalendarRule).
+#[derive(Clone, Copy, Debug, PartialEq, Eq)]
+pub enum JointRule {
+    /// A holiday where any part has a holiday.
+    Holidays,
+    /// A business day where any part has a business day.
+    BusinessDays,
+}
+
+/// Why there is no such joint calendar.
+#[derive(Clone, Copy, Debug, PartialEq, Eq, Error)]
+pub enum JointFault {
+    /// There are no parts.
+    #[error("a joint calendar of no parts")]
+    NoParts,
+    /// There are more than 8 parts.
+    #[error("a joint calendar of more than 8 parts")]
+    TooMany,
+}
+
+/// The rule and the parts, one to eight, of a joint calendar. A clause sees it as these.
+#[derive(Debug, Drop)]
+pub struct JointParts {
+    rule: JointRule,
+    parts: BaseList,
+}
+
+impl Model for JointParts {
+    ghost use Rattle.std.specs.Prelude.{length};
+    ghost use Rattle.std.specs.Int.{IsInRange};
+    ghost use Rattle.holiday_calendars.specs.Joined.{Joined};
+
+    ghost Value = { Joined };
+
+    ghost view = { λ j. record { rule = j.rule; parts = j.parts } };
+
+    ghost invariant = { λ j. IsInRange 1 8 (length j.parts) };
+}
+
+impl JointParts {
+    ghost use Rattle.std.specs.Prelude.{◌≡◌, IfOk};
+    ghost use Rattle.holiday_calendars.specs.Joined.{is_joint_day};
+
+    // Whether the rule makes the day a business day.
+    pub(crate) fn is_business(&self, day: Day) -> bool
+        ensures { result ≡ is_joint_day self.now day }
+    {
+        let parts = self.parts.items();
+        match self.rule {
+            JointRule::Holidays => all_open(parts, day),
+            JointRule::BusinessDays => any_open(parts, day),
+        }
+    }
+
+    // The same rule and equal parts.
+    pub(crate) fn copy(&self, alloc: Global) -> Result<JointParts, AllocError>
+        ensures { IfOk result (λ joined. joined ≡ self.now) }
+    {
+        let parts = self.parts.copy(alloc)?;
+        Ok(JointParts {
+            rule: self.rule,
+            parts,
+        })
+    }
+}
+
+// Whether the day is a business day of each part.
+fn all_open(parts: &[Base], day: Day) -> bool
+    ensures { result ≡ list_all (λ part. is_base_day part day) parts.now }
+{
+    parts.iter().all(|part| part.is_business(day))
+}
+
+// Whether the day is a business day of some part.
+fn any_open(parts: &[Base], day: Day) -> bool
+    ensures { result ≡ list_any (λ part. is_base_day part day) parts.now }
+{
+    parts.iter().any(|part| part.is_business(day))
+}
+
+/// The calendar that goes by its parts: at least one, else `NoParts`, and at most 8, else `TooMany`.
+pub fn joint(rule: JointRule, parts: BaseList) -> Result<Calendar, JointFault>
+    ensures ok { IfOk result (λ calendar. calendar ≡ Calendar.Joint (record { rule = rule; parts = parts })) }
+    ensures none { (result ≡ Err JointFault.NoParts) ↔ (length parts ≡ 0) }
+    ensures many { (result ≡ Err JointFault.TooMany) ↔ (8 < length parts) }
+{
+    if parts.len() == 0 {
+        return Err(JointFault::NoParts);
+    }
+    if parts.len() > 8 {
+        return Err(JointFault::TooMany);
+    }
+    Ok(Calendar::Joint(JointParts { rule, parts }))
+}

@@ -1,0 +1,15 @@
+pub mod Interning
+pub mod Lines
+pub mod Walk
+pub mod Blocks
+pub mod TableLaws
+pub mod Words
+pub mod Sorts
+pub mod Rows
+pub mod WordBytes
+pub mod PrintedLines
+pub mod Fields
+pub mod RowFacts
+pub mod CommandLines
+pub mod Tells
+pub mod ScriptBack

@@ -1,0 +1,10 @@
+pub mod Table
+pub mod Given
+pub mod Field
+pub mod Sorts
+pub mod Parts
+pub mod Line
+pub mod Statement
+pub mod Reading
+pub mod Printing
+pub mod Whole

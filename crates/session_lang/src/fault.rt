@@ -1,0 +1,109 @@
+// What is wrong with a script.
+ghost use Rattle.std.specs.Prelude.{◌≡◌};
+
+use std::alloc::{AllocError, AllocFailed};
+use thiserror::Error;
+
+/// What is wrong with a line of a script. Within a line the first that holds is told, in this order; `Name`, `Number`,
+/// `Date` and `Choice` word by word from the left. (This project's profile.)
+#[derive(Clone, Copy, Debug, Error, PartialEq, Eq)]
+pub enum ScriptKind {
+    /// The script is over 8,388,608 bytes; told with line 0.
+    #[error("toolong")]
+    TooLong,
+    /// A byte that is neither tab nor one from 32 to 126 stands in the line.
+    #[error("byte")]
+    Byte,
+    /// The first word is no word of the language.
+    #[error("word")]
+    Word,
+    /// The number of words is another.
+    #[error("count")]
+    Count,
+    /// `action` stands inside a block.
+    #[error("nested")]
+    Nested,
+    /// `end` stands outside a block.
+    #[error("end")]
+    End,
+    /// A word in a name's place is no name.
+    #[error("name")]
+    Name,
+    /// An action of that name was begun before.
+    #[error("twice")]
+    Twice,
+    /// A decimal or whole number is not in its form or its limit.
+    #[error("number")]
+    Number,
+    /// A day is not in its form or its range.
+    #[error("date")]
+    Date,
+    /// A word is not one of those listed.
+    #[error("choice")]
+    Choice,
+    /// The name would be the 65,537th.
+    #[error("names")]
+    Names,
+    /// The script ends inside a block; told with the line of its `action`.
+    #[error("unclosed")]
+    Unclosed,
+    /// An action is named that no block defines; told with the least such line.
+    #[error("noaction")]
+    NoAction,
+}
+
+/// Why a script is not read: its first fault, with the line counted from 1, or want of memory.
+#[derive(Clone, Copy, Debug, Error, PartialEq, Eq)]
+pub enum ScriptFault {
+    #[error("line {line}: {kind}")]
+    At { line: u32, kind: ScriptKind },
+    #[error("out of memory")]
+    NoMemory,
+}
+
+impl From<AllocError> for ScriptFault {
+    ghost use Rattle.session_lang.specs.declared.fault.ScriptFault.TheVariants.{NoMemory};
+
+    ghost from_gives = { λ _ e. e ≡ NoMemory };
+
+    fn from(_e: AllocError) -> ScriptFault {
+        ScriptFault::NoMemory
+    }
+}
+
+impl<T: Drop> From<AllocFailed<T>> for ScriptFault {
+    ghost use Rattle.session_lang.specs.declared.fault.ScriptFault.TheVariants.{NoMemory};
+
+    ghost from_gives = { λ _ e. e ≡ NoMemory };
+
+    fn from(_e: AllocFailed<T>) -> ScriptFault {
+        ScriptFault::NoMemory
+    }
+}
+
+/// Why one line is not read.
+#[derive(Clone, Copy, Debug, PartialEq, Eq)]
+pub(crate) enum LineFault {
+    Kind(ScriptKind),
+    NoMemory,
+}
+
+impl From<AllocError> for LineFault {
+    ghost use Rattle.session_lang.specs.declared.fault.LineFault.TheVariants.{NoMemory};
+
+    ghost from_gives = { λ _ e. e ≡ NoMemory };
+
+    fn from(_e: AllocError) -> LineFault {
+        LineFault::NoMemory
+    }
+}
+
+impl<T: Drop> From<AllocFailed<T>> for LineFault {
+    ghost use Rattle.session_lang.specs.declared.fault.LineFault.TheVariants.{NoMemory};
+
+    ghost from_gives = { λ _ e. e ≡ NoMemory };
+
+    fn from(_e: AllocFailed<T>) -> LineFault {
+        LineFault::NoMemory
+    }
+}

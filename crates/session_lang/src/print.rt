@@ -1,0 +1,223 @@
+// Scripts, printed.
+ghost use Rattle.std.specs.Prelude.{◌≡◌, ◌≤◌, ◌++◌, OnOk, OnErr, IfOk};
+ghost use Rattle.fixed_amount.specs.Decimal.{decimal_text};
+ghost use Rattle.session_lang.specs.Table.{row_of};
+ghost use Rattle.session_lang.specs.Parts.{parts_of};
+ghost use Rattle.session_lang.specs.Printing.{action_text, value_text, engine_text, flag_text, field_text, word_text, row_text, command_text, commands_text, block_text, blocks_text, script_text};
+
+use crate::field::Field;
+use crate::parts::Parts;
+use crate::steps::text_at;
+use crate::table::Kind;
+use crate::{ActionId, Actions, Command, Script};
+use day_number::print_day;
+use desk_names::{NameId, NameList, Names};
+use fixed_amount::{Rate, print_decimal};
+use std::alloc::{AllocError, Global};
+
+// What is printed: a vector, and what the names stand for.
+fn action_text<'a>(names: &'a Names, actions: &NameList, action: usize) -> &'a [u8]
+    ensures { result.now ≡ action_text names.now actions.now action }
+{
+    if action < actions.len() {
+        return text_at(names, actions.get(action));
+    }
+    &[]
+}
+
+fn push_units(alloc: Global, units: i64, places: u8, out: &mut Vec<u8>) -> Result<(), AllocError>
+    requires { places ≤ 18 }
+    ensures { OnOk result (out.new.items ≡ out.old.items ++ decimal_text units places) }
+{
+    print_decimal(alloc, i128::from(units), places, out)
+}
+
+fn push_rate(alloc: Global, rate: Rate, out: &mut Vec<u8>) -> Result<(), AllocError>
+    ensures { OnOk result (out.new.items ≡ out.old.items ++ decimal_text rate 9) }
+{
+    push_units(alloc, rate.0, 9, out)
+}
+
+fn push_value(alloc: Global, value: Option<Rate>, out: &mut Vec<u8>) -> Result<(), AllocError>
+    ensures { OnOk result (out.new.items ≡ out.old.items ++ value_text value) }
+{
+    match value {
+        Some(rate) => push_rate(alloc, rate, out),
+        None => out.extend_from_slice(b"unset"),
+    }
+}
+
+fn push_engine(names: &Names, engine: Option<NameId>, out: &mut Vec<u8>) -> Result<(), AllocError>
+    ensures { OnOk result (out.new.items ≡ out.old.items ++ engine_text names.now engine) }
+{
+    match engine {
+        Some(name) => out.extend_from_slice(text_at(names, name)),
+        None => out.extend_from_slice(b"none"),
+    }
+}
+
+fn flag_text(kind: Kind, flag: bool) -> &'static [u8]
+    ensures { result.now ≡ flag_text kind flag }
+{
+    match (kind, flag) {
+        (Kind::Target, true) => b"curve",
+        (Kind::Target, false) => b"quote",
+        (_, true) => b"on",
+        (_, false) => b"off",
+    }
+}
+
+// The word of a field.
+fn push_field(
+    alloc: Global,
+    names: &Names,
+    actions: &NameList,
+    kind: Kind,
+    field: Field,
+    out: &mut Vec<u8>,
+) -> Result<(), AllocError>
+    ensures { OnOk result (out.new.items ≡ out.old.items ++ field_text names.now actions.now kind field) }
+{
+    match field {
+        Field::Nothing => Ok(()),
+        Field::Name(name) => out.extend_from_slice(text_at(names, name)),
+        Field::Value(value) => push_value(alloc, value, out),
+        Field::Number(rate) => push_rate(alloc, rate, out),
+        Field::Day(day) => print_day(alloc, day, out),
+        Field::Weight(weight) => push_units(alloc, weight, 0, out),
+        Field::Engine(engine) => push_engine(names, engine, out),
+        Field::Flag(flag) => out.extend_from_slice(flag_text(kind, flag)),
+        Field::Action(action) => out.extend_from_slice(action_text(names, actions, action.place())),
+    }
+}
+
+// The word of a field with a space before it, where its row has one there.
+#[tactic(auto, unfolding(crate::specs::Printing::word_text))]
+fn push_word(
+    alloc: Global,
+    names: &Names,
+    actions: &NameList,
+    kind: Kind,
+    field: Field,
+    out: &mut Vec<u8>,
+) -> Result<(), AllocError>
+    ensures { OnOk result (out.new.items ≡ out.old.items ++ word_text names.now actions.now kind field) }
+{
+    if kind == Kind::Nothing {
+        return Ok(());
+    }
+    out.push(b' ')?;
+    push_field(alloc, names, actions, kind, field, out)
+}
+
+// The line of a command.
+#[tactic(auto, unfolding(crate::specs::Printing::command_text))]
+fn push_command(
+    alloc: Global,
+    names: &Names,
+    actions: &NameList,
+    command: Command,
+    out: &mut Vec<u8>,
+) -> Result<(), AllocError>
+    ensures { OnOk result (out.new.items ≡ out.old.items ++ command_text names.now actions.now command) }
+{
+    let parts = Parts::of(command);
+    let (word, first, second, third) = parts.verb.row();
+    out.extend_from_slice(word)?;
+    push_word(alloc, names, actions, first, parts.first, out)?;
+    push_word(alloc, names, actions, second, parts.second, out)?;
+    push_word(alloc, names, actions, third, parts.third, out)?;
+    out.extend_from_slice(b"\n")
+}
+
+// The lines of commands.
+fn push_commands(
+    alloc: Global,
+    names: &Names,
+    actions: &NameList,
+    commands: &[Command],
+    out: &mut Vec<u8>,
+) -> Result<(), AllocError>
+    ensures { OnOk result (out.new.items ≡ out.old.items ++ commands_text names.now actions.now commands.now) }
+{
+    for command in commands {
+        push_command(alloc, names, actions, *command, out)?;
+    }
+    Ok(())
+}
+
+// The lines of a block.
+#[tactic(auto, unfolding(crate::specs::Printing::block_text))]
+fn push_block(
+    alloc: Global,
+    names: &Names,
+    actions: &NameList,
+    action: usize,
+    commands: &[Command],
+    out: &mut Vec<u8>,
+) -> Result<(), AllocError>
+    ensures { OnOk result (out.new.items ≡ out.old.items ++ block_text names.now actions.now action commands.now) }
+{
+    out.extend_from_slice(b"action ")?;
+    out.extend_from_slice(action_text(names, actions, action))?;
+    out.extend_from_slice(b"\n")?;
+    push_commands(alloc, names, actions, commands, out)?;
+    out.extend_from_slice(b"end\n")
+}
+
+// The blocks of a script.
+#[tactic(auto, unfolding(crate::specs::Printing::blocks_text))]
+fn push_blocks(
+    alloc: Global,
+    names: &Names,
+    action_names: &NameList,
+    actions: &Actions,
+    out: &mut Vec<u8>,
+) -> Result<(), AllocError>
+    ensures { OnOk result (out.new.items ≡ out.old.items ++ blocks_text names.now action_names.now 0 actions.now) }
+{
+    for at in 0..actions.len() {
+        push_block(alloc, names, action_names, at, actions.get(at).items(), out)?;
+    }
+    Ok(())
+}
+
+// The script in a vector of its own.
+#[tactic(auto, unfolding(crate::specs::Printing::script_text))]
+fn script_bytes(alloc: Global, script: &Script, names: &Names) -> Result<Vec<u8>, AllocError>
+    ensures { IfOk result (λ text. text.items ≡ script_text names.now script.now) }
+{
+    let mut text = Vec::new(alloc);
+    push_blocks(
+        alloc,
+        names,
+        &script.action_names,
+        &script.actions,
+        &mut text,
+    )?;
+    push_commands(
+        alloc,
+        names,
+        &script.action_names,
+        script.commands.items(),
+        &mut text,
+    )?;
+    Ok(text)
+}
+
+/// Appends the text of a script: its actions in order of their blocks, each as `action A`, its commands and `end`,
+/// and then its commands; words are parted by one space, decimals have nine places, and each line ends with a newline
+/// (this project's profile). A number that stands for no name of the lists is printed as no bytes. After want of
+/// memory `out` has its old bytes.
+pub fn print_script(
+    alloc: Global,
+    script: &Script,
+    names: &Names,
+    out: &mut Vec<u8>,
+) -> Result<(), AllocError>
+    ensures ok { OnOk result (out.new.items ≡ out.old.items ++ script_text names.now script.now) }
+    ensures err { OnErr result (out.new.items ≡ out.old.items) }
+{
+    let text = script_bytes(alloc, script, names)?;
+    out.extend_from_slice(text.as_slice())
+}

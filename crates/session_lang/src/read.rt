@@ -1,0 +1,143 @@
+// Scripts, read.
+ghost use Rattle.std.specs.Prelude.{◌≡◌, ◌<◌, ◌^◌, ◌+◌, ◌∷◌, ℕ, List, length, None, IfOk};
+ghost use Rattle.std.specs.Str.Lines.{lines};
+ghost use Rattle.session_lang.specs.Given.{GivesAt, Grows, at_number};
+ghost use Rattle.session_lang.specs.Reading.{onto, Takes, lines_meaning, together_of, script_meaning};
+
+use crate::fault::LineFault;
+use crate::line::next_line;
+use crate::statement::read_line;
+use crate::steps::{Step, action_names_of, actions_of, add, commands_of, first_lacking, is_open};
+use crate::{Script, ScriptFault, ScriptKind};
+use desk_names::Names;
+use std::alloc::Global;
+
+/// The most bytes of a script.
+const MOST_BYTES: usize = 8_388_608;
+
+// The statements of a text, and the line of a block that stands open behind them.
+#[derive(Drop)]
+struct Read {
+    steps: Vec<Step>,
+    open_at: Option<u32>,
+}
+
+// A line's fault with the number of the line.
+fn at_number(number: u32, fault: LineFault) -> ScriptFault
+    ensures { result ≡ at_number number fault }
+{
+    match fault {
+        LineFault::Kind(kind) => ScriptFault::At { line: number, kind },
+        LineFault::NoMemory => ScriptFault::NoMemory,
+    }
+}
+
+// Reads one line and puts its statement behind the others; tells the line of the block that stands open after it.
+fn take_line(
+    alloc: Global,
+    line: &[u8],
+    number: u32,
+    names: &mut Names,
+    begun: &mut Names,
+    steps: &mut Vec<Step>,
+    open_at: Option<u32>,
+) -> Result<Option<u32>, ScriptFault>
+    ensures takes { (rest : List (List ℕ)) → Takes result
+        (λ o. onto steps.new.items (lines_meaning (record { names = names.new; begun = begun.new }) o (number + 1) rest))
+        (onto steps.old.items (lines_meaning (record { names = names.old; begun = begun.old }) open_at number (line.now ∷ rest))) }
+    ensures grows { Grows names.old names.new }
+{
+    match read_line(alloc, line, names, begun, is_open(open_at)) {
+        Ok(statement) => Ok(add(steps, number, statement, open_at)?),
+        Err(fault) => Err(at_number(number, fault)),
+    }
+}
+
+// What the lines of a text say, up to the first fault.
+fn read_lines(
+    alloc: Global,
+    text: &[u8],
+    names: &mut Names,
+    begun: &mut Names,
+) -> Result<Read, ScriptFault>
+    requires { length text.now < 2 ^ 31 }
+    ensures gives { GivesAt (λ read. record { steps = read.steps.items; known = record { names = names.new; begun = begun.new }; open_at = read.open_at }) result
+        (lines_meaning (record { names = names.old; begun = begun.old }) None 1 (lines text.now)) }
+    ensures grows { Grows names.old names.new }
+{
+    let mut steps = Vec::new(alloc);
+    let mut open_at = None;
+    let mut number = 1;
+    let mut rest = text;
+    while !rest.is_empty() {
+        let (line, after) = next_line(rest);
+        open_at = take_line(alloc, line, number, names, begun, &mut steps, open_at)?;
+        number += 1;
+        rest = after;
+    }
+    Ok(Read { steps, open_at })
+}
+
+// What statements say together where no block stands open.
+#[tactic(auto, using(crate::proofs::Blocks::one_name_each))]
+fn script_of(
+    alloc: Global,
+    names: &Names,
+    begun: &Names,
+    steps: &[Step],
+) -> Result<Script, ScriptFault>
+    ensures paired { IfOk result (λ s. length s.actions ≡ length s.action_names) }
+    ensures gives { GivesAt (λ s. (s, names.now)) result (together_of (record { names = names.now; begun = begun.now }) steps.now None) }
+{
+    if let Some(line) = first_lacking(names, begun, steps) {
+        return Err(ScriptFault::At {
+            line,
+            kind: ScriptKind::NoAction,
+        });
+    }
+    let actions = actions_of(alloc, names, begun, steps)?;
+    let commands = commands_of(alloc, names, begun, steps)?;
+    let action_names = action_names_of(alloc, steps)?;
+    Ok(Script {
+        actions,
+        commands,
+        action_names,
+    })
+}
+
+// What statements say together.
+fn finished(alloc: Global, names: &Names, begun: &Names, read: &Read) -> Result<Script, ScriptFault>
+    ensures paired { IfOk result (λ s. length s.actions ≡ length s.action_names) }
+    ensures gives { GivesAt (λ s. (s, names.now)) result
+        (together_of (record { names = names.now; begun = begun.now }) read.now.steps.items read.now.open_at) }
+{
+    match read.open_at {
+        Some(line) => Err(ScriptFault::At {
+            line,
+            kind: ScriptKind::Unclosed,
+        }),
+        None => script_of(alloc, names, begun, read.steps.as_slice()),
+    }
+}
+
+/// The script that a text says, or its first fault with the line, counted from 1 (this project's profile).
+///
+/// The names of its lines get numbers in order of first use, those of actions too; a line with a fault adds none.
+/// After a fault the names may have grown, and the old ones keep their numbers. It takes time in proportion to the
+/// text, with one look-up of a name for each word.
+#[tactic(auto, unfolding(crate::specs::Reading::script_meaning), using(crate::proofs::Interning::grows_same))]
+pub fn read_script(alloc: Global, text: &[u8], names: &mut Names) -> Result<Script, ScriptFault>
+    ensures gives { GivesAt (λ s. (s, names.new)) result (script_meaning names.old text.now) }
+    ensures paired { IfOk result (λ s. length s.actions ≡ length s.action_names) }
+    ensures grows { Grows names.old names.new }
+{
+    if text.len() > MOST_BYTES {
+        return Err(ScriptFault::At {
+            line: 0,
+            kind: ScriptKind::TooLong,
+        });
+    }
+    let mut begun = Names::new(alloc);
+    let read = read_lines(alloc, text, names, &mut begun)?;
+    finished(alloc, names, &begun, &read)
+}

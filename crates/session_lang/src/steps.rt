@@ -1,0 +1,264 @@
+// The statements of a script, and what they say together.
+ghost use Rattle.std.specs.Prelude.{◌≡◌, ◌∷◌, ◌++◌, [], ℕ, List, IfOk, OnOk, slice_index_or, cond, false, is_some};
+ghost use Rattle.std.specs.List.{find};
+ghost use Rattle.desk_names.specs.Names.{place_of};
+ghost use Rattle.session_lang.specs.Statement.{Known};
+ghost use Rattle.session_lang.specs.Reading.{kept, opened, text_of, action_of, lacks, linked, line_of, block_of, actions_of, action_with, action_names_of, command_with, commands_of, inside_after};
+ghost use Rattle.session_lang.specs.declared.command.Command.{Command};
+
+use crate::statement::Statement;
+use crate::{ActionId, Actions, Command, CommandList};
+use desk_names::{NameId, NameList, Names};
+use std::alloc::{AllocError, Global};
+
+/// A statement with the number of its line.
+#[derive(Clone, Copy)]
+pub(crate) struct Step {
+    pub(crate) line: u32,
+    pub(crate) what: Statement,
+}
+
+/// The line of the block that stands open after a statement.
+pub(crate) fn opened(statement: &Statement, line: u32, open_at: Option<u32>) -> Option<u32>
+    ensures { result ≡ opened statement.now line open_at }
+{
+    match statement {
+        Statement::Begin(_) => Some(line),
+        Statement::End => None,
+        Statement::Blank | Statement::Run(_) => open_at,
+    }
+}
+
+/// Whether a block stands open.
+pub(crate) fn is_open(open_at: Option<u32>) -> bool
+    ensures { result ≡ is_some open_at }
+{
+    match open_at {
+        Some(_) => true,
+        None => false,
+    }
+}
+
+fn is_blank(statement: &Statement) -> bool
+    ensures { (line : ℕ) → kept line statement.now [] ≡ cond result [] (record { line = line; what = statement.now } ∷ []) }
+{
+    match statement {
+        Statement::Blank => true,
+        _ => false,
+    }
+}
+
+fn step_at(line: u32, what: Statement) -> Step
+    ensures { result ≡ record { line = line; what = what } }
+{
+    Step { line, what }
+}
+
+/// Puts a statement behind the others, unless its line is blank.
+pub(crate) fn keep(
+    steps: &mut Vec<Step>,
+    line: u32,
+    statement: &Statement,
+) -> Result<(), AllocError>
+    ensures { OnOk result (steps.new.items ≡ steps.old.items ++ kept line statement.now []) }
+{
+    if is_blank(statement) {
+        return Ok(());
+    }
+    steps.extend_from_slice(&[step_at(line, *statement)])
+}
+
+/// Puts a statement behind the others, and tells the line of the block that stands open after it.
+pub(crate) fn add(
+    steps: &mut Vec<Step>,
+    line: u32,
+    statement: Statement,
+    open_at: Option<u32>,
+) -> Result<Option<u32>, AllocError>
+    ensures kept { OnOk result (steps.new.items ≡ steps.old.items ++ kept line statement []) }
+    ensures open_at { IfOk result (λ o. o ≡ opened statement line open_at) }
+{
+    keep(steps, line, &statement)?;
+    Ok(opened(&statement, line, open_at))
+}
+
+// The text of a name, or no bytes where there is no name of that number.
+pub(crate) fn text_at(names: &Names, name: NameId) -> &[u8]
+    ensures { result.now ≡ slice_index_or names.now name [] }
+{
+    if name.0 < names.len() {
+        names.text(name)
+    } else {
+        &[]
+    }
+}
+
+// The name of the action that a command names.
+fn action_of(command: Command) -> Option<ActionId>
+    ensures { result ≡ action_of command }
+{
+    match command {
+        Command::Watch(_, action) => Some(action),
+        _ => None,
+    }
+}
+
+/// Whether a statement names an action that no block defines.
+pub(crate) fn lacks(names: &Names, begun: &Names, statement: Statement) -> bool
+    ensures { result ≡ lacks (record { names = names.now; begun = begun.now }) statement }
+{
+    match statement {
+        Statement::Run(command) => match action_of(command) {
+            Some(action) => begun.find(text_at(names, NameId(action.0))).is_none(),
+            None => false,
+        },
+        _ => false,
+    }
+}
+
+// The place of an action's block, by the number of its name.
+fn linked_action(names: &Names, begun: &Names, action: ActionId) -> ActionId
+    ensures { result ≡ place_of begun.now (slice_index_or names.now action []) }
+{
+    match begun.find(text_at(names, NameId(action.0))) {
+        Some(place) => ActionId(place.0),
+        None => ActionId(begun.len()),
+    }
+}
+
+// The command, a watch with the place of its action's block.
+fn linked(names: &Names, begun: &Names, command: Command) -> Command
+    ensures { result ≡ linked (record { names = names.now; begun = begun.now }) command }
+{
+    match command {
+        Command::Watch(watcher, action) => Command::Watch(
+            watcher,
+            linked_action(names, begun, action),
+        ),
+        other => other,
+    }
+}
+
+/// The first line that names an action that no block defines.
+pub(crate) fn first_lacking(names: &Names, begun: &Names, steps: &[Step]) -> Option<u32>
+    ensures { result ≡ line_of (find (λ step. lacks (record { names = names.now; begun = begun.now }) step.what) steps.now) }
+{
+    for step in steps {
+        if lacks(names, begun, step.what) {
+            return Some(step.line);
+        }
+    }
+    None
+}
+
+// The commands of a block, up to its `end`.
+#[tactic(auto, unfolding(crate::specs::Reading::block_of))]
+fn block_of(
+    alloc: Global,
+    names: &Names,
+    begun: &Names,
+    steps: &[Step],
+) -> Result<CommandList, AllocError>
+    ensures { IfOk result (λ block. block ≡ block_of (record { names = names.now; begun = begun.now }) steps.now) }
+{
+    let mut block = CommandList::new(alloc);
+    for step in steps {
+        match step.what {
+            Statement::Run(command) => block.push(linked(names, begun, command))?,
+            Statement::End => return Ok(block),
+            Statement::Blank | Statement::Begin(_) => {}
+        }
+    }
+    Ok(block)
+}
+
+fn begins(statement: Statement) -> bool
+    ensures { (block : List Command) (more : List (List Command)) → action_with statement block more ≡ cond result (block ∷ more) more }
+{
+    match statement {
+        Statement::Begin(_) => true,
+        _ => false,
+    }
+}
+
+/// The blocks, in order.
+#[tactic(auto, unfolding(crate::specs::Reading::actions_of))]
+pub(crate) fn actions_of(
+    alloc: Global,
+    names: &Names,
+    begun: &Names,
+    steps: &[Step],
+) -> Result<Actions, AllocError>
+    ensures { IfOk result (λ actions. actions ≡ actions_of (record { names = names.now; begun = begun.now }) steps.now) }
+{
+    let mut actions = Actions::new(alloc);
+    for at in 0..steps.len() {
+        if begins(steps[at].what) {
+            let (_, after) = steps.split_at(at + 1);
+            actions.push(block_of(alloc, names, begun, after)?)?;
+        }
+    }
+    Ok(actions)
+}
+
+/// The names of the blocks, in order.
+#[tactic(auto, unfolding(crate::specs::Reading::action_names_of))]
+pub(crate) fn action_names_of(alloc: Global, steps: &[Step]) -> Result<NameList, AllocError>
+    ensures { IfOk result (λ names. names ≡ action_names_of steps.now) }
+{
+    let mut names = NameList::new(alloc);
+    for step in steps {
+        if let Statement::Begin(name) = step.what {
+            names.push(name)?;
+        }
+    }
+    Ok(names)
+}
+
+fn inside_after(statement: Statement, inside: bool) -> bool
+    ensures { result ≡ inside_after statement inside }
+{
+    match statement {
+        Statement::Begin(_) => true,
+        Statement::End => false,
+        Statement::Blank | Statement::Run(_) => inside,
+    }
+}
+
+// Puts a command behind the others.
+fn put(
+    commands: &mut CommandList,
+    names: &Names,
+    begun: &Names,
+    inside: bool,
+    statement: Statement,
+) -> Result<(), AllocError>
+    ensures { OnOk result (commands.new ≡ commands.old ++ command_with (record { names = names.now; begun = begun.now }) inside statement []) }
+{
+    if inside {
+        return Ok(());
+    }
+    if let Statement::Run(command) = statement {
+        commands.push(linked(names, begun, command))?;
+    }
+    Ok(())
+}
+
+/// The commands outside of blocks.
+#[tactic(auto, unfolding(crate::specs::Reading::commands_of))]
+pub(crate) fn commands_of(
+    alloc: Global,
+    names: &Names,
+    begun: &Names,
+    steps: &[Step],
+) -> Result<CommandList, AllocError>
+    ensures { IfOk result (λ commands. commands ≡ commands_of (record { names = names.now; begun = begun.now }) false steps.now) }
+{
+    let mut commands = CommandList::new(alloc);
+    let mut inside = false;
+    for step in steps {
+        put(&mut commands, names, begun, inside, step.what)?;
+        inside = inside_after(step.what, inside);
+    }
+    Ok(commands)
+}

@@ -1,5 +1,5 @@
-// Days counted by QuantLib 1.29: all of them, those in leap years, the others, and those of 30/360 by Bond Basis and by
-// the European rule.
+// Days counted by QuantLib 1.29, and by hand from 2023-11-01: all of them, those in leap years, the others, and those of
+// 30/360 by Bond Basis and by the European rule.
 use crate::fraction;
 use day_number::Day;
 use std::test::Fail;
@@ -11,7 +11,7 @@ fn parts(days: i32, each: i64) -> i64 {
 
 #[test]
 fn fractions_are_quantlibs(rt: HostRuntime) -> Result<(), Fail> {
-    let rows: [((i32, u8, u8), (i32, u8, u8), [i32; 5]); 21] = [
+    let rows: [((i32, u8, u8), (i32, u8, u8), [i32; 5]); 22] = [
         ((2024, 1, 30), (2024, 3, 30), [60, 60, 0, 60, 60]),
         ((2024, 1, 30), (2025, 3, 30), [425, 337, 88, 420, 420]),
         ((2024, 1, 30), (2024, 3, 31), [61, 61, 0, 60, 60]),
@@ -29,6 +29,7 @@ fn fractions_are_quantlibs(rt: HostRuntime) -> Result<(), Fail> {
         ((2024, 2, 29), (2024, 3, 31), [31, 31, 0, 32, 31]),
         ((2024, 2, 29), (2025, 3, 31), [396, 307, 89, 392, 391]),
         ((2024, 3, 31), (2024, 3, 31), [0, 0, 0, 0, 0]),
+        ((2023, 11, 1), (2024, 2, 15), [106, 45, 61, 104, 104]),
         ((2099, 12, 31), (2101, 1, 1), [366, 0, 366, 361, 361]),
         (
             (2076, 10, 31),

@@ -13,3 +13,7 @@ pub mod RowFacts
 pub mod CommandLines
 pub mod Tells
 pub mod ScriptBack
+pub mod ReadFields
+pub mod RowLinks
+pub mod ReadLines
+pub mod ReadScript

@@ -42,9 +42,15 @@ fn row_law()
         → (made : Command) × (command_of (together v a b c) ≡ Some made) }
 {}
 
-// What is printed of a whole script reads back to that script, over the same names, where it is no longer than a script
-// may be.
+// A script that is read is whole: its names and actions are there and its values are within their limits. What is printed
+// of a whole script reads back to that script, over the same names, where it is no longer than a script may be; so it
+// does of each script that was read.
 fn round_trip_law()
-    ensures { (names : List (List ℕ)) (s : Script) → IsScript names s → length (script_text names s) ≤ most_bytes
+    ensures whole { (names : List (List ℕ)) (text : List ℕ) (s : Script) (after : List (List ℕ)) → IsNames names
+        → script_meaning names text ≡ Ok (s, after) → IsScript after s }
+    ensures back { (names : List (List ℕ)) (s : Script) → IsScript names s → length (script_text names s) ≤ most_bytes
         → script_meaning names (script_text names s) ≡ Ok (s, names) }
+    ensures again { (names : List (List ℕ)) (text : List ℕ) (s : Script) (after : List (List ℕ)) → IsNames names
+        → script_meaning names text ≡ Ok (s, after) → length (script_text after s) ≤ most_bytes
+        → script_meaning after (script_text after s) ≡ Ok (s, after) }
 {}

@@ -1,5 +1,7 @@
 // Scripts, printed.
-ghost use Rattle.std.specs.Prelude.{◌≡◌, ◌≤◌, ◌++◌, OnOk, OnErr, IfOk};
+ghost use Rattle.std.specs.Prelude.{◌≡◌, ◌≤◌, ◌++◌, Ok, OnOk, OnErr, IfOk, length};
+ghost use Rattle.session_lang.specs.Reading.{most_bytes, script_meaning};
+ghost use Rattle.session_lang.specs.Whole.{IsScript};
 ghost use Rattle.fixed_amount.specs.Decimal.{decimal_text};
 ghost use Rattle.session_lang.specs.Table.{row_of};
 ghost use Rattle.session_lang.specs.Parts.{parts_of};
@@ -209,6 +211,7 @@ fn script_bytes(alloc: Global, script: &Script, names: &Names) -> Result<Vec<u8>
 /// and then its commands; words are parted by one space, decimals have nine places, and each line ends with a newline
 /// (this project's profile). A number that stands for no name of the lists is printed as no bytes. After want of
 /// memory `out` has its old bytes.
+#[tactic(auto, using(crate::proofs::ScriptBack::script_back))]
 pub fn print_script(
     alloc: Global,
     script: &Script,
@@ -217,6 +220,8 @@ pub fn print_script(
 ) -> Result<(), AllocError>
     ensures ok { OnOk result (out.new.items ≡ out.old.items ++ script_text names.now script.now) }
     ensures err { OnErr result (out.new.items ≡ out.old.items) }
+    ensures read_back { IsScript names.now script.now → length (script_text names.now script.now) ≤ most_bytes
+        → script_meaning names.now (script_text names.now script.now) ≡ Ok (script.now, names.now) }
 {
     let text = script_bytes(alloc, script, names)?;
     out.extend_from_slice(text.as_slice())

@@ -2,6 +2,8 @@
 ghost use Rattle.std.specs.Prelude.{◌≡◌, ◌<◌, ◌^◌, ◌+◌, ◌∷◌, ℕ, List, length, None, IfOk};
 ghost use Rattle.std.specs.Str.Lines.{lines};
 ghost use Rattle.session_lang.specs.Given.{GivesAt, Grows, at_number};
+ghost use Rattle.desk_names.specs.Names.{IsNames};
+ghost use Rattle.session_lang.specs.Whole.{IsScript};
 ghost use Rattle.session_lang.specs.Reading.{onto, Takes, lines_meaning, together_of, script_meaning};
 
 use crate::fault::LineFault;
@@ -120,13 +122,9 @@ fn finished(alloc: Global, names: &Names, begun: &Names, read: &Read) -> Result<
     }
 }
 
-/// The script that a text says, or its first fault with the line, counted from 1 (this project's profile).
-///
-/// The names of its lines get numbers in order of first use, those of actions too; a line with a fault adds none.
-/// After a fault the names may have grown, and the old ones keep their numbers. It takes time in proportion to the
-/// text, with one look-up of a name for each word.
+// The script that a text says, where the text is no longer than a script may be.
 #[tactic(auto, unfolding(crate::specs::Reading::script_meaning), using(crate::proofs::Interning::grows_same))]
-pub fn read_script(alloc: Global, text: &[u8], names: &mut Names) -> Result<Script, ScriptFault>
+fn read_text(alloc: Global, text: &[u8], names: &mut Names) -> Result<Script, ScriptFault>
     ensures gives { GivesAt (λ s. (s, names.new)) result (script_meaning names.old text.now) }
     ensures paired { IfOk result (λ s. length s.actions ≡ length s.action_names) }
     ensures grows { Grows names.old names.new }
@@ -140,4 +138,19 @@ pub fn read_script(alloc: Global, text: &[u8], names: &mut Names) -> Result<Scri
     let mut begun = Names::new(alloc);
     let read = read_lines(alloc, text, names, &mut begun)?;
     finished(alloc, names, &begun, &read)
+}
+
+/// The script that a text says, or its first fault with the line, counted from 1 (this project's profile).
+///
+/// The names of its lines get numbers in order of first use, those of actions too; a line with a fault adds none.
+/// After a fault the names may have grown, and the old ones keep their numbers. The numbers in a script that is read
+/// stand for names and actions that are there. It takes time in proportion to the text, with one look-up of a name for
+/// each word.
+pub fn read_script(alloc: Global, text: &[u8], names: &mut Names) -> Result<Script, ScriptFault>
+    ensures gives { GivesAt (λ s. (s, names.new)) result (script_meaning names.old text.now) }
+    ensures whole { IsNames names.old → IfOk result (λ s. IsScript names.new s) }
+    ensures paired { IfOk result (λ s. length s.actions ≡ length s.action_names) }
+    ensures grows { Grows names.old names.new }
+{
+    read_text(alloc, text, names)
 }

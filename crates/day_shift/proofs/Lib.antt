@@ -1,0 +1,9 @@
+pub mod AdvanceLemmas
+pub mod CountLemmas
+pub mod DaysBackLemmas
+pub mod DaysLemmas
+pub mod MonthLemmas
+pub mod NearestLemmas
+pub mod Rows
+pub mod SearchLemmas
+pub mod SetLemmas

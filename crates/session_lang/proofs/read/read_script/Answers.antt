@@ -1,0 +1,5 @@
+use Rattle.session_lang.proofs.ReadScript.{whole_answer}
+use Rattle.session_lang.proofs.read.read_script.Goals as goal
+
+pub returns-clause-whole : goal.returns-clause-whole
+returns-clause-whole c = λ sound. whole_answer c.args.names.now c.read_text.new.names c.args.text.now c.read_text.result sound c.read_text.ensures.gives

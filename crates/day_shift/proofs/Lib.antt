@@ -1,7 +1,13 @@
+pub mod AdjustedLemmas
 pub mod AdvanceLemmas
+pub mod AdvancedLemmas
 pub mod CountLemmas
 pub mod DaysBackLemmas
 pub mod DaysLemmas
+pub mod FoundLemmas
+pub mod InMonthLemmas
+pub mod ListedLemmas
+pub mod MonthEndLemmas
 pub mod MonthLemmas
 pub mod NearestLemmas
 pub mod Rows

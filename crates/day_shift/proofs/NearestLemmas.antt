@@ -1,9 +1,10 @@
 -- Nearest finds the business day at the least distance, the later of two.
-use Rattle.std.proofs.Common.{◌≡◌, ◌≤◌, Bool, if◌then◌else◌, Option, Some, None, sym, ap, ◌∙◌, arith, ◌<ℤ◌, ◌≤ℤ◌, ℤ, ◌-ℤ◌, unsigned_abs}
+use Rattle.std.proofs.Common.{◌≡◌, ◌↔◌, ◌≤◌, Bool, if◌then◌else◌, Option, Some, None, sym, ap, ◌∙◌, arith, ◌<ℤ◌, ◌≤ℤ◌, ℤ, ◌-ℤ◌, unsigned_abs}
 use Rattle.std.proofs.lemmas.Int.{ints, by_lt_z}
+use Rattle.day_number.specs.declared.conventions.Convention.TheVariants.{Nearest}
 use Rattle.day_number.specs.Day.{IsDayNumber}
 use Rattle.day_shift.specs.Business.{next, previous, IsBusinessDay, IsNext, IsPrevious}
-use Rattle.day_shift.specs.Adjusted.{nearer, adjusted, IsNearest, NearestIsNearest}
+use Rattle.day_shift.specs.Adjusted.{nearer, adjusted, IsNearest}
 use Rattle.day_shift.proofs.SearchLemmas.{le_z-true, le_z-false}
 use Rattle.day_shift.proofs.SetLemmas.{by_option, next-is, next-no, previous-is, previous-no}
 
@@ -103,7 +104,7 @@ nearest-found business day h =
     (λ lt. found_at business day earlier found (both ∙ ap (λ v. if v then Some later else Some earlier) (le_z-false _ _ lt)) (nearest-earlier business day later earlier next_is previous_is lt))
     (λ le. found_at business day later found (both ∙ ap (λ v. if v then Some later else Some earlier) (le_z-true _ _ le)) (nearest-of_two business day later earlier next_is previous_is le))))
 
-pub nearest_is_nearest : NearestIsNearest
+pub nearest_is_nearest : (business : ℤ → Bool) (day found : ℤ) → IsDayNumber day → (adjusted business Nearest day ≡ Some found) ↔ IsNearest business day found
 unfolding adjusted
 nearest_is_nearest business day found h =
     let near = nearest-found business day h in (

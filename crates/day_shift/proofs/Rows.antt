@@ -2,7 +2,7 @@
 use Rattle.std.proofs.Common.{◌≡◌, Bool, true, false, not, Some, None, ℤ, pos, neg_ℤ, refl}
 use Rattle.std.specs.Ordering.{int_eq}
 use Rattle.jiff_core.specs.Calendar.{days_from_civil, day_count, days_of_years, days_of_months, weekday_number}
-use Rattle.day_number.specs.declared.conventions.Convention.TheVariants.{Following, Preceding, ModifiedFollowing, Nearest}
+use Rattle.day_number.specs.declared.conventions.Convention.TheVariants.{Following, Preceding, ModifiedFollowing, ModifiedPreceding, HalfMonthModifiedFollowing, Nearest}
 use Rattle.day_number.specs.declared.tenors.Unit.TheVariants.{Days, Months}
 use Rattle.day_number.specs.Day.{civil_number, date_of, date_after, date_in_year}
 use Rattle.day_number.specs.Shift.{months_later, last_of_month}
@@ -31,6 +31,16 @@ modified_following = refl
 nearest : adjusted target Nearest (pos 19_811) ≡ Some (pos 19_810)
 unfolding adjusted next previous first_from last_to last_of_month is_business_day is_target_holiday weekday_number date_of date_after date_in_year moon_days sunday_days early_weeks easter_place easter_day civil_number days_from_civil day_count days_of_years days_of_months
 nearest = refl
+
+-- Saturday 2024-06-15, the middle of its month, by HalfMonthModifiedFollowing to 06-14
+half_month : adjusted target HalfMonthModifiedFollowing (pos 19_889) ≡ Some (pos 19_888)
+unfolding adjusted next previous first_from last_to last_of_month is_business_day is_target_holiday weekday_number date_of date_after date_in_year moon_days sunday_days early_weeks easter_place easter_day civil_number days_from_civil day_count days_of_years days_of_months
+half_month = refl
+
+-- Saturday 2024-06-01 by ModifiedPreceding to 06-03
+modified_preceding : adjusted target ModifiedPreceding (pos 19_875) ≡ Some (pos 19_877)
+unfolding adjusted next previous first_from last_to last_of_month is_business_day is_target_holiday weekday_number date_of date_after date_in_year moon_days sunday_days early_weeks easter_place easter_day civil_number days_from_civil day_count days_of_years days_of_months
+modified_preceding = refl
 
 -- 2024-01-31 and a month with month ends, to 02-29
 month_end : advanced target Months Following true (pos 19_753) (pos 1) ≡ Some (pos 19_782)

@@ -1,7 +1,8 @@
 -- The next and the previous business day, a day at a time.
-use Rattle.std.proofs.Common.{◌≡◌, ℕ, suc, Bool, true, false, Option, Some, None, refl, ap, ◌∙◌, arith, ◌<ℤ◌, ◌≤ℤ◌, ℤ, pos, neg_ℤ, ◌+ℤ◌, ◌-ℤ◌, unsigned_abs}
+use Rattle.std.proofs.Common.{◌≡◌, ℕ, suc, Bool, true, false, Option, Some, None, refl, true≢false, sym, ap, ◌∙◌, arith, ◌<ℤ◌, ◌≤ℤ◌, ℤ, pos, neg_ℤ, ◌+ℤ◌, ◌-ℤ◌, unsigned_abs}
 use Rattle.std.specs.Int.Signed.{le_z}
 use Rattle.std.proofs.lemmas.Int.{ints, by_lt_z}
+use Rattle.std.specs.Bool.{Decides}
 use Rattle.day_number.specs.Day.{IsDayNumber}
 use Rattle.day_shift.specs.Business.{day_at, first_from, last_to, next, previous}
 
@@ -125,3 +126,9 @@ le_z-true a b h = grind (arith, ints)
 
 pub le_z-false : (a b : ℤ) → b <ℤ a → le_z a b ≡ false
 le_z-false a b h = grind (arith, ints)
+
+pub le_z-decides : (a b : ℤ) → Decides (le_z a b) (a ≤ℤ b)
+le_z-decides a b = (
+  λ e. by_lt_z b a (λ lt. absurd (true≢false (sym e ∙ le_z-false a b lt))) (λ le. le),
+  λ le. le_z-true a b le,
+)

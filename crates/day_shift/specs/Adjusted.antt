@@ -1,13 +1,41 @@
 -- Days adjusted to business days by a convention (QuantLib's Calendar::adjust).
-use Rattle.std.specs.Prelude.{◌≡◌, ◌↔◌, ◌≤◌, Bool, ◌&&◌, not, if◌then◌else◌, Option, Some, None, Result, Ok, Err, ℤ, ◌-ℤ◌, ◌≤ℤ◌, unsigned_abs}
+use Rattle.std.specs.Prelude.{◌≡◌, ◌↔◌, ◌≤◌, Bool, ◌&&◌, not, if◌then◌else◌, Option, Some, None, Result, ℤ, ◌-ℤ◌, ◌≤ℤ◌, unsigned_abs}
+use Rattle.std.specs.Option.{ok_or}
 use Rattle.std.specs.Int.Signed.{le_z}
 use Rattle.day_number.specs.declared.conventions.Convention.{Convention}
 use Rattle.day_number.specs.declared.conventions.Convention.TheVariants.{Unadjusted, Following, Preceding, ModifiedFollowing, ModifiedPreceding, HalfMonthModifiedFollowing, Nearest}
 use Rattle.day_shift.specs.declared.faults.ShiftFault.{ShiftFault}
 use Rattle.day_shift.specs.declared.faults.ShiftFault.TheVariants.{DateRange}
 use Rattle.day_number.specs.Day.{IsDayNumber}
-use Rattle.day_shift.specs.Business.{IsBusinessDay, next, previous}
-use Rattle.day_shift.specs.Month.{is_same_month, is_across_middle}
+use Rattle.day_shift.specs.Business.{IsBusinessDay, IsNext, IsPrevious, next, previous}
+use Rattle.day_shift.specs.Month.{IsInMonth, IsAcrossMiddle, is_same_month, is_across_middle}
+
+-- the business day of the range at the least distance, the later of two
+abbrev pub IsNearest : (ℤ → Bool) → ℤ → ℤ → Type 0
+IsNearest business day found =
+    IsBusinessDay business found
+    × ((x : ℤ) → IsBusinessDay business x → unsigned_abs (found -ℤ day) ≤ unsigned_abs (x -ℤ day))
+    × ((x : ℤ)
+    → IsBusinessDay business x → unsigned_abs (x -ℤ day) ≡ unsigned_abs (found -ℤ day) → x ≤ℤ found)
+
+-- the day of one kind, which is there, where it passes, and else the day of another kind
+abbrev pub IsKeptOr : (ℤ → Type 0) → (ℤ → Type 0) → (ℤ → Type 0) → ℤ → Type 0
+IsKeptOr Passes IsOne IsOther found =
+    (one : ℤ) × IsOne one × (Passes one → found ≡ one) × (¬ (Passes one) → IsOther found)
+
+-- the adjusted day of a day by a convention, over the business days as a set
+unfoldable pub IsAdjusted : (ℤ → Bool) → Convention → ℤ → ℤ → Type 0
+IsAdjusted business Unadjusted day found = found ≡ day
+IsAdjusted business Following day found = IsNext business day found
+IsAdjusted business Preceding day found = IsPrevious business day found
+IsAdjusted business ModifiedFollowing day found =
+    IsKeptOr (IsInMonth day) (IsNext business day) (IsPrevious business day) found
+IsAdjusted business ModifiedPreceding day found =
+    IsKeptOr (IsInMonth day) (IsPrevious business day) (IsNext business day) found
+IsAdjusted business HalfMonthModifiedFollowing day found =
+    IsKeptOr (λ later. IsInMonth day later × ¬ (IsAcrossMiddle day later))
+    (IsNext business day) (IsPrevious business day) found
+IsAdjusted business Nearest day found = IsNearest business day found
 
 -- a day where it passes a test, and another in its place where it does not
 abbrev pub kept_or : (ℤ → Bool) → Option ℤ → Option ℤ → Option ℤ
@@ -21,7 +49,7 @@ nearer day (Some later) None = Some later
 nearer day (Some later) (Some earlier) =
     if le_z (later -ℤ day) (day -ℤ earlier) then Some later else Some earlier
 
--- the business day that a convention gives for a day, where it has one in range
+-- the adjusted day as a value, where there is one in range
 unfoldable pub adjusted : (ℤ → Bool) → Convention → ℤ → Option ℤ
 adjusted business Unadjusted day = Some day
 adjusted business Following day = next business day
@@ -37,19 +65,11 @@ adjusted business Nearest day = nearer day (next business day) (previous busines
 
 -- a day that is there, and `DateRange` where there is none
 abbrev pub day_or_fault : Option ℤ → Result ℤ ShiftFault
-day_or_fault (Some day) = Ok day
-day_or_fault None = Err DateRange
+day_or_fault found = ok_or found DateRange
 
--- the business day of the range at the least distance, the later of two
-abbrev pub IsNearest : (ℤ → Bool) → ℤ → ℤ → Type 0
-IsNearest business day found =
-    IsBusinessDay business found
-    × ((x : ℤ) → IsBusinessDay business x → unsigned_abs (found -ℤ day) ≤ unsigned_abs (x -ℤ day))
-    × ((x : ℤ)
-    → IsBusinessDay business x → unsigned_abs (x -ℤ day) ≡ unsigned_abs (found -ℤ day) → x ≤ℤ found)
-
--- law: Nearest finds the nearest business day, the later of two
-abbrev pub NearestIsNearest : Type 0
-NearestIsNearest =
-    (business : ℤ → Bool) (day found : ℤ)
-    → IsDayNumber day → (adjusted business Nearest day ≡ Some found) ↔ IsNearest business day found
+-- law: the value is the adjusted day
+abbrev pub AdjustedIsTheDay : Type 0
+AdjustedIsTheDay =
+    (business : ℤ → Bool) (convention : Convention) (day found : ℤ)
+    → IsDayNumber day
+    → (adjusted business convention day ≡ Some found) ↔ IsAdjusted business convention day found

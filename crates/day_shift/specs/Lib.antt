@@ -3,3 +3,4 @@ pub mod Advanced
 pub mod Business
 pub mod Counted
 pub mod Month
+pub mod MonthEnd

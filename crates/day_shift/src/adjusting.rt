@@ -1,9 +1,9 @@
 // Days adjusted by a convention.
-ghost use Rattle.std.specs.Prelude.{◌≡◌, ◌&&◌, not};
+ghost use Rattle.std.specs.Prelude.{◌≡◌, ◌↔◌, ◌&&◌, not, Ok, Err, ℤ};
 ghost use Rattle.holiday_calendars.specs.Calendar.{is_business_day};
 ghost use Rattle.day_shift.specs.Business.{next, previous};
 ghost use Rattle.day_shift.specs.Month as month;
-ghost use Rattle.day_shift.specs.Adjusted.{kept_or, nearer, adjusted, day_or_fault};
+ghost use Rattle.day_shift.specs.Adjusted.{IsAdjusted, kept_or, nearer, adjusted, day_or_fault};
 
 use crate::ShiftFault;
 use crate::months::{is_across_middle, is_same_month};
@@ -14,12 +14,13 @@ use holiday_calendars::Calendar;
 /// The day that a convention makes of a day (QuantLib's Calendar::adjust). `DateRange` exactly where it needs a
 /// business day that is not there from 1901-01-01 to 2199-12-31.
 pub fn adjust(calendar: &Calendar, day: Day, convention: Convention) -> Result<Day, ShiftFault>
-    ensures { result ≡ day_or_fault (adjusted (is_business_day calendar.now) convention day) }
+    ensures found { (found : ℤ) → (result ≡ Ok found) ↔ IsAdjusted (is_business_day calendar.now) convention day found }
+    ensures fault { (result ≡ Err ShiftFault.DateRange)
+        ↔ ((found : ℤ) → ¬ (IsAdjusted (is_business_day calendar.now) convention day found)) }
+    ensures value { result ≡ day_or_fault (adjusted (is_business_day calendar.now) convention day) }
 {
-    match adjusted_day(calendar, day, convention) {
-        Some(found) => Ok(found),
-        None => Err(ShiftFault::DateRange),
-    }
+    let _number = day.number();
+    adjusted_day(calendar, day, convention).ok_or(ShiftFault::DateRange)
 }
 
 // The day that a convention makes of a day, where there is one.

@@ -1,12 +1,13 @@
 // Days moved by a count of a unit.
-ghost use Rattle.std.specs.Prelude.{◌≡◌, pos, ◌+ℤ◌, ◌*ℤ◌};
+ghost use Rattle.std.specs.Prelude.{◌≡◌, ◌↔◌, Ok, Err, ℤ, pos, ◌+ℤ◌, ◌*ℤ◌};
 ghost use Rattle.holiday_calendars.specs.Calendar.{is_business_day};
 ghost use Rattle.day_shift.specs.Business.{day_at};
 ghost use Rattle.day_shift.specs.Advanced as advanced;
+ghost use Rattle.day_shift.specs.MonthEnd as ends;
 ghost use Rattle.day_shift.specs.Adjusted.{day_or_fault};
 
 use crate::ShiftFault;
-use crate::adjusting::{adjust, adjusted_day};
+use crate::adjusting::adjusted_day;
 use crate::months::{last_open, month_at};
 use crate::searches::{open_after, open_before, shifted};
 use day_number::{Convention, Day, Unit};
@@ -17,7 +18,6 @@ use holiday_calendars::Calendar;
 /// calendar, a month's day clipped to the month's last, and the day is then adjusted; with `month_end`, months and years
 /// from the last business day of a month or a later day of it lead to the last business day of a month. `n` of 0 adjusts
 /// the day. `DateRange` exactly where there is no such day from 1901-01-01 to 2199-12-31.
-#[tactic(auto, unfolding(crate::specs::Advanced::advanced))]
 pub fn advance(
     calendar: &Calendar,
     day: Day,
@@ -26,18 +26,35 @@ pub fn advance(
     convention: Convention,
     month_end: bool,
 ) -> Result<Day, ShiftFault>
-    ensures { result ≡ day_or_fault (advanced.advanced (is_business_day calendar.now) unit convention month_end day n) }
+    ensures found { (found : ℤ) → (result ≡ Ok found)
+        ↔ advanced.IsAdvanced (is_business_day calendar.now) unit convention month_end day n found }
+    ensures fault { (result ≡ Err ShiftFault.DateRange) ↔ ((found : ℤ)
+        → ¬ (advanced.IsAdvanced (is_business_day calendar.now) unit convention month_end day n found)) }
+    ensures value { result ≡ day_or_fault (advanced.advanced (is_business_day calendar.now) unit convention month_end day n) }
 {
-    if n == 0 {
-        return adjust(calendar, day, convention);
-    }
-    match moved(calendar, day, n, unit, convention, month_end) {
-        Some(found) => Ok(found),
-        None => Err(ShiftFault::DateRange),
-    }
+    let _number = day.number();
+    advanced_day(calendar, day, n, unit, convention, month_end).ok_or(ShiftFault::DateRange)
 }
 
-// The day a count of a unit on, where there is one.
+// The day a count of a unit on, which may be 0, where there is one.
+#[tactic(auto, unfolding(crate::specs::Advanced::advanced))]
+fn advanced_day(
+    calendar: &Calendar,
+    day: Day,
+    n: i32,
+    unit: Unit,
+    convention: Convention,
+    month_end: bool,
+) -> Option<Day>
+    ensures { result ≡ advanced.advanced (is_business_day calendar.now) unit convention month_end day n }
+{
+    if n == 0 {
+        return adjusted_day(calendar, day, convention);
+    }
+    moved(calendar, day, n, unit, convention, month_end)
+}
+
+// The day a count of a unit on, the count not 0, where there is one.
 fn moved(
     calendar: &Calendar,
     day: Day,
@@ -140,7 +157,7 @@ fn years_on(
 
 // Whether no business day of the month comes after the day, and the month has one.
 fn is_at_month_end(calendar: &Calendar, day: Day) -> bool
-    ensures { result ≡ advanced.is_from day (advanced.last_open (is_business_day calendar.now) day) }
+    ensures { result ≡ ends.is_from day (ends.last_open (is_business_day calendar.now) day) }
 {
     match last_open(calendar, day) {
         Some(last) => last <= day,

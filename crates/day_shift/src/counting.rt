@@ -1,7 +1,7 @@
 // Business days counted.
-ghost use Rattle.std.specs.Prelude.{◌≡◌, pos, ◌≤ℤ◌};
+ghost use Rattle.std.specs.Prelude.{◌≡◌, List, length, ℤ, pos, ◌≤ℤ◌};
 ghost use Rattle.holiday_calendars.specs.Calendar.{is_business_day};
-ghost use Rattle.day_shift.specs.Counted.{business_days_from};
+ghost use Rattle.day_shift.specs.Counted.{AreBusinessDays, business_days_from};
 
 use crate::searches::shifted;
 use day_number::Day;
@@ -11,7 +11,9 @@ use holiday_calendars::Calendar;
 /// Calendar::businessDaysBetween).
 pub fn business_days_between(calendar: &Calendar, from: Day, to: Day) -> i32
     requires { from ≤ℤ to }
-    ensures { result ≡ pos (business_days_from (is_business_day calendar.now) from to) }
+    ensures days { (days : List ℤ) × AreBusinessDays (is_business_day calendar.now) from to days
+        × (result ≡ pos (length days)) }
+    ensures value { result ≡ pos (business_days_from (is_business_day calendar.now) from to) }
 {
     let mut count = 0;
     let days = to.number() - from.number();

@@ -1,7 +1,10 @@
 // Laws of the definitions, each the clause of a function with nothing to do.
-ghost use Rattle.day_shift.specs.Adjusted.{NearestIsNearest};
-ghost use Rattle.day_shift.specs.Advanced.{DaysAfterAreCounted, DaysBeforeAreCounted};
+ghost use Rattle.day_shift.specs.Adjusted.{AdjustedIsTheDay};
+ghost use Rattle.day_shift.specs.Advanced.{AdvancedIsTheDay, DaysAfterAreCounted, DaysBeforeAreCounted};
 ghost use Rattle.day_shift.specs.Business.{NextIsLeast, PreviousIsGreatest};
+ghost use Rattle.day_shift.specs.Counted.{CountIsOfTheDays};
+ghost use Rattle.day_shift.specs.Month.{OneMonthIsYearAndMonth};
+ghost use Rattle.day_shift.specs.MonthEnd.{LastOpenIsGreatest, NoLastOpenIsNoBusinessDay};
 
 // The next business day is the least at or after a day.
 fn next_is_least()
@@ -13,9 +16,25 @@ fn previous_is_greatest()
     ensures { PreviousIsGreatest }
 {}
 
-// Nearest finds the business day at the least distance, the later of two.
-fn nearest_is_nearest()
-    ensures { NearestIsNearest }
+// Days with one last day of the month are those of one month of one year.
+fn one_month_is_year_and_month()
+    ensures { OneMonthIsYearAndMonth }
+{}
+
+// The last business day of a month is the greatest one of the month, and there is none exactly where it has none.
+fn last_open_is_greatest()
+    ensures day { LastOpenIsGreatest }
+    ensures none { NoLastOpenIsNoBusinessDay }
+{}
+
+// The adjusted day is that of the set of business days.
+fn adjusted_is_the_day()
+    ensures { AdjustedIsTheDay }
+{}
+
+// The business days between two days are as many as the rising list of them has.
+fn count_is_of_the_days()
+    ensures { CountIsOfTheDays }
 {}
 
 // n business days after a day is the business day with exactly n business days behind it.
@@ -26,4 +45,9 @@ fn days_after_are_counted()
 // n business days before a day is the business day with exactly n business days from itself on to the day.
 fn days_before_are_counted()
     ensures { DaysBeforeAreCounted }
+{}
+
+// A count of a unit leads to the day that it does over the set of business days.
+fn advanced_is_the_day()
+    ensures { AdvancedIsTheDay }
 {}

@@ -2,7 +2,7 @@
 ghost use Rattle.std.specs.Prelude.{◌≡◌};
 ghost use Rattle.holiday_calendars.specs.Calendar.{is_business_day};
 ghost use Rattle.day_shift.specs.Month as month;
-ghost use Rattle.day_shift.specs.Advanced as advanced;
+ghost use Rattle.day_shift.specs.MonthEnd as ends;
 
 use crate::searches::previous_open;
 use day_number::{Day, add_months, month_end};
@@ -31,7 +31,7 @@ pub(crate) fn month_at(day: Day, n: i32) -> Option<Day>
 
 // The last business day of a day's month, where it has one.
 pub(crate) fn last_open(calendar: &Calendar, day: Day) -> Option<Day>
-    ensures { result ≡ advanced.last_open (is_business_day calendar.now) day }
+    ensures { result ≡ ends.last_open (is_business_day calendar.now) day }
 {
     let last = previous_open(calendar, month_end(day))?;
     if is_same_month(day, last) {

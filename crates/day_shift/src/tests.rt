@@ -152,6 +152,48 @@ fn days_out_of_range_are_refused(rt: HostRuntime) -> Result<(), Fail> {
     Ok(())
 }
 
+// Closed on each day of February 2024.
+fn closed_in_february(alloc: Global) -> Result<Calendar, Fail> {
+    let mut days = DayList::new(alloc);
+    for day in 1..30 {
+        days.push(day_of((2024, 2, day))?)?;
+    }
+    Ok(Calendar::one(bespoke(alloc, [false; 7], days)?))
+}
+
+// By the same Python model: a month without a business day has no last one, and none of its days is at its end.
+#[test]
+fn a_month_may_have_no_business_day(rt: HostRuntime) -> Result<(), Fail> {
+    use Convention::{Following, ModifiedFollowing, Preceding};
+    use Unit::{Months, Years};
+    let calendar = closed_in_february(rt.alloc())?;
+    let rows: [(Step, Option<Date>); 7] = [
+        (((2024, 1, 31), 1, Months, Following, true), None),
+        (((2024, 3, 31), -1, Months, ModifiedFollowing, true), None),
+        (((2023, 2, 28), 1, Years, Preceding, true), None),
+        (
+            ((2024, 1, 31), 1, Months, Following, false),
+            Some((2024, 3, 1)),
+        ),
+        (
+            ((2024, 3, 31), -1, Months, ModifiedFollowing, false),
+            Some((2024, 1, 31)),
+        ),
+        (
+            ((2024, 2, 29), 1, Months, Following, true),
+            Some((2024, 3, 29)),
+        ),
+        (
+            ((2024, 2, 29), -1, Months, Preceding, true),
+            Some((2024, 1, 29)),
+        ),
+    ];
+    for (step, want) in rows {
+        assert_eq!(rt; advanced(&calendar, step)?, want, "{step:?}");
+    }
+    Ok(())
+}
+
 #[test]
 fn business_days_are_counted(rt: HostRuntime) -> Result<(), Fail> {
     let target = Calendar::one(Base::Target);

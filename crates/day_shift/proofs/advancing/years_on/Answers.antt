@@ -3,7 +3,8 @@ use Rattle.jiff_core.proofs.SignedLemmas.{signed_arith}
 use Rattle.holiday_calendars.specs.Calendar.{is_business_day}
 use Rattle.day_number.specs.Day.{IsDayNumber}
 use Rattle.day_shift.specs.Month.{month_at}
-use Rattle.day_shift.specs.Advanced.{and_then, month_day, is_from, last_open}
+use Rattle.day_shift.specs.MonthEnd.{is_from, last_open}
+use Rattle.day_shift.specs.Advanced.{and_then, month_day}
 use Rattle.day_shift.proofs.MonthLemmas.{month_at-early, month_at-late}
 use Rattle.day_shift.proofs.advancing.years_on.Goals as goal
 use Rattle.day_shift.proofs.advancing.years_on.Goals.{then-n-ltminus1000-via-then-n-ltminus1000, then-n-ltminus1000-via-else-n-ltminus1000+then-n-gt1000}

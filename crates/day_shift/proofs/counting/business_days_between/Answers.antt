@@ -5,6 +5,7 @@ use Rattle.holiday_calendars.specs.Calendar.{is_business_day}
 use Rattle.day_shift.specs.Counted.{business_days}
 use Rattle.day_shift.proofs.SearchLemmas.{day_at-found, day_at-none}
 use Rattle.day_shift.proofs.CountLemmas.{business_days-one_more, business_days-no_more, count-none}
+use Rattle.day_shift.proofs.ListedLemmas.{count_is_of_the_days}
 use Rattle.day_shift.proofs.counting.business_days_between.Goals as goal
 use Rattle.day_shift.proofs.counting.business_days_between.Goals.{in-Some+then-is_business, in-Some+else-is_business, in_default}
 
@@ -40,5 +41,8 @@ loop-step-preserved c =
 
 pub returns : goal.returns
 returns c =
+    let business = is_business_day c.args.calendar.now in
     let all : to_z w32 c.loop-step.step-bits ≡ c.args.to -ℤ c.args.from = omega (arith, signed_arith, c.number.ensures, c.number-2.ensures, c.loop-step-test.false, c.loop-step.invariant.within) in
-    c.loop-step.invariant.counted ∙ ap (λ z. pos (business_days (unsigned_abs z) (is_business_day c.args.calendar.now) c.args.from)) all
+    let value = c.loop-step.invariant.counted ∙ ap (λ z. pos (business_days (unsigned_abs z) business c.args.from)) all in
+    let listed = count_is_of_the_days business c.args.from c.args.to c.requires in
+    record { days = (listed.0, listed.1, value ∙ ap pos listed.2); value = value }

@@ -1,0 +1,10 @@
+pub mod DatedLemmas
+pub mod MonthLemmas
+pub mod MoveLemmas
+pub mod PlanLemmas
+pub mod RawLaw
+pub mod RawLemmas
+pub mod RisingLemmas
+pub mod Rows
+pub mod ScheduleLaw
+pub mod StepLemmas

@@ -1,0 +1,24 @@
+use Rattle.std.proofs.Common.{◌≡◌, true, ap, sym, ◌∙◌}
+use Rattle.holiday_calendars.specs.Calendar.{is_business_day}
+use Rattle.schedule_rules.specs.Raw.{raw_days}
+use Rattle.schedule_rules.specs.Schedule.{adjusted_raw, each_of}
+use Rattle.schedule_rules.proofs.RawLaw.{start_listed}
+use Rattle.schedule_rules.proofs.RawLemmas.{made, few-is}
+use Rattle.schedule_rules.proofs.RisingLemmas.{has, rises-each, has-adjusted, rises-ended, two-ended, past_end}
+use Rattle.schedule_rules.proofs.making.dated.Goals as goal
+
+pub invariant_of-result : goal.invariant_of-result
+invariant_of-result c =
+    let plan = c.args.plan.now in
+    let makes = adjusted_raw (is_business_day plan.cal.now) plan in
+    let days = c.in_ok-days.days.keys in
+    let raw = few-is (raw_days plan) c.in_ok-raw.raw.keys c.in_ok-raw.ensures in
+    let first : has c.in_ok-raw.raw.keys plan.start ≡ true = ap (λ ds. has ds plan.start) (sym raw) ∙ start_listed plan in
+    let start = sym c.adjusted_raw.ensures ∙ c.in-Some.is in
+    let own = has-adjusted makes c.in_ok-raw.raw.keys days plan.start c.in-Some.start c.in_ok-days.ensures first start in
+    let before = past_end c.in-Some-adjusted_raw.end c.in-Some.start (sym c.le.ensures ∙ c.if-le.false) in
+    let list = made _ c.in_ok-ended.field-0.items c.in_ok-ended.ensures in
+    rw (← list) (
+      rises-ended days c.in-Some-adjusted_raw.end (rises-each (each_of makes c.in_ok-raw.raw.keys) days c.in_ok-days.ensures),
+      two-ended days c.in-Some.start c.in-Some-adjusted_raw.end own before,
+    )

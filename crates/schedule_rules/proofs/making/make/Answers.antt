@@ -1,0 +1,16 @@
+use Rattle.std.proofs.Common.{inr, sym, ◌∙◌}
+use Rattle.holiday_calendars.specs.Calendar.{is_business_day}
+use Rattle.schedule_rules.proofs.DatedLemmas.{schedule-fault, dated-ok, dated-err}
+use Rattle.schedule_rules.proofs.making.make.Goals as goal
+
+pub returns-in-Some-clause-fault : goal.returns-in-Some-clause-fault
+returns-in-Some-clause-fault c =
+    inr (schedule-fault (is_business_day c.args.plan.now.cal.now) c.args.plan.now c.in-Some.fault (sym c.fault_of_terms.ensures ∙ c.in-Some.is))
+
+pub returns-in-None-clause-dates : goal.returns-in-None-clause-dates
+returns-in-None-clause-dates c =
+    dated-ok (is_business_day c.args.plan.now.cal.now) c.args.plan.now c.dated.result (sym c.fault_of_terms.ensures ∙ c.in-None.is) c.dated.ensures
+
+pub returns-in-None-clause-fault : goal.returns-in-None-clause-fault
+returns-in-None-clause-fault c =
+    dated-err (is_business_day c.args.plan.now.cal.now) c.args.plan.now c.dated.result (sym c.fault_of_terms.ensures ∙ c.in-None.is) c.dated.ensures

@@ -1,0 +1,4 @@
+pub mod Raw
+pub mod Schedule
+pub mod Step
+pub mod Terms

@@ -1,0 +1,13 @@
+// Laws of the definitions, each the clause of a function with nothing to do.
+ghost use Rattle.schedule_rules.specs.Raw.{RawDaysAreSteps};
+ghost use Rattle.schedule_rules.specs.Schedule.{SchedulesAreAdjustedDays};
+
+// The raw days are start, end, the stubs' days and the steps of any count of tenors.
+fn raw_days_are_steps()
+    ensures { RawDaysAreSteps }
+{}
+
+// A schedule is the adjusted end and the adjusted days before it, in the order of time.
+fn schedules_are_adjusted_days()
+    ensures { SchedulesAreAdjustedDays }
+{}

@@ -1,0 +1,96 @@
+// Schedules made from plans.
+ghost use Rattle.std.specs.Prelude.{◌≡◌, ◌⊎◌, Ok, Err, None, IfOk, IfErr, IfSome};
+ghost use Rattle.std.specs.BTreeSet.{keys};
+ghost use Rattle.holiday_calendars.specs.Calendar.{is_business_day};
+ghost use Rattle.schedule_rules.specs.Terms as terms;
+ghost use Rattle.schedule_rules.specs.Schedule as schedule;
+
+use crate::checks::fault_of_terms;
+use crate::raw_days::raw_days;
+use crate::{Plan, PlanFault, Schedule};
+use day_number::Day;
+use day_shift::adjust;
+use std::alloc::Global;
+use std::collections::BTreeSet;
+
+/// The schedule of a plan: start and end, the stubs' days, and the steps of whole tenors from the seed, which is `last`
+/// or the end backward and `first` or the start forward; each is adjusted, and those before the adjusted end are listed
+/// once and in the order of time, then the adjusted end. A step starts at the seed and not at the day before it. The
+/// fault is the first that holds, in the order of `PlanFault`; `NoMemory` may come instead of the last three and of a schedule.
+pub fn make(alloc: Global, plan: &Plan<'_>) -> Result<Schedule, PlanFault>
+    ensures dates { IfOk result (λ dates. schedule.schedule (is_business_day plan.now.cal.now) plan.now ≡ Ok dates) }
+    ensures fault { IfErr result (λ fault. schedule.IsMemory fault
+        ⊎ (schedule.schedule (is_business_day plan.now.cal.now) plan.now ≡ Err fault)) }
+    ensures terms { IfSome (terms.fault_of_terms plan.now) (λ fault. result ≡ Err fault) }
+{
+    match fault_of_terms(plan) {
+        Some(fault) => Err(fault),
+        None => dated(alloc, plan),
+    }
+}
+
+// The schedule of a plan whose terms have no fault.
+fn dated(alloc: Global, plan: &Plan<'_>) -> Result<Schedule, PlanFault>
+    requires { terms.fault_of_terms plan.now ≡ None }
+    ensures { schedule.Gives (λ dates. dates) (schedule.dated (is_business_day plan.now.cal.now) plan.now) result }
+{
+    let raw = raw_days(alloc, plan)?;
+    let days = adjusted_days(alloc, plan, &raw)?;
+    let Some(start) = adjusted_raw(plan, plan.start) else {
+        return Err(PlanFault::DateRange);
+    };
+    let Some(end) = adjusted_raw(plan, plan.end) else {
+        return Err(PlanFault::DateRange);
+    };
+    if end <= start {
+        return Err(PlanFault::Collapsed);
+    }
+    Ok(Schedule {
+        days: ended(alloc, &days, end)?,
+    })
+}
+
+// A raw day adjusted, where there is such a day.
+fn adjusted_raw(plan: &Plan<'_>, day: Day) -> Option<Day>
+    ensures { result ≡ schedule.adjusted_raw (is_business_day plan.now.cal.now) plan.now day }
+{
+    let conv = if day == plan.end {
+        plan.end_conv
+    } else {
+        plan.conv
+    };
+    adjust(plan.cal, day, conv).ok()
+}
+
+// The adjusted days, in the order of time and each once.
+fn adjusted_days(
+    alloc: Global,
+    plan: &Plan<'_>,
+    raw: &BTreeSet<Day>,
+) -> Result<BTreeSet<Day>, PlanFault>
+    ensures { let business = is_business_day plan.now.cal.now in
+        schedule.Gives keys (schedule.adjusted_or_fault business plan.now raw.now.keys) result }
+{
+    let mut days = BTreeSet::new(alloc);
+    for day in raw {
+        let Some(found) = adjusted_raw(plan, *day) else {
+            return Err(PlanFault::DateRange);
+        };
+        days.insert(found)?;
+    }
+    Ok(days)
+}
+
+// The days before the end, followed by the end.
+fn ended(alloc: Global, days: &BTreeSet<Day>, end: Day) -> Result<Vec<Day>, PlanFault>
+    ensures { schedule.Gives (λ list. list.items) (Ok (schedule.ended end days.now.keys)) result }
+{
+    let mut list = Vec::new(alloc);
+    for day in days {
+        if !(end <= *day) {
+            list.push(*day)?;
+        }
+    }
+    list.push(end)?;
+    Ok(list)
+}

@@ -1,0 +1,61 @@
+// The days of a schedule before they are adjusted.
+ghost use Rattle.std.specs.Prelude.{◌≡◌, [], ◌∷◌, None, Ok};
+ghost use Rattle.std.specs.BTreeSet.{keys};
+ghost use Rattle.std.specs.List.{cons_option};
+ghost use Rattle.schedule_rules.specs.Step as step;
+ghost use Rattle.schedule_rules.specs.Raw as raw;
+ghost use Rattle.schedule_rules.specs.Schedule as schedule;
+ghost use Rattle.schedule_rules.specs.Terms as terms;
+
+use crate::steps::{seed, step};
+use crate::{Plan, PlanFault};
+use day_number::Day;
+use std::alloc::Global;
+use std::collections::BTreeSet;
+
+// The days that the plan names and the steps, 801 at most.
+pub(crate) fn raw_days(alloc: Global, plan: &Plan<'_>) -> Result<BTreeSet<Day>, PlanFault>
+    requires { terms.fault_of_terms plan.now ≡ None }
+    ensures { schedule.Gives keys (raw.raw_or_fault plan.now) result }
+{
+    with_steps(plan, named_days(alloc, plan)?)
+}
+
+// The days that the plan itself names.
+fn named_days(alloc: Global, plan: &Plan<'_>) -> Result<BTreeSet<Day>, PlanFault>
+    ensures { schedule.Gives keys (Ok (raw.rising (raw.named_days plan.now))) result }
+{
+    let ends = put(put(BTreeSet::new(alloc), Some(plan.start))?, Some(plan.end))?;
+    put(put(ends, plan.first)?, plan.last)
+}
+
+// Days and another, where there is one.
+#[tactic(auto, unfolding(crate::specs::Raw::put_into))]
+fn put(given: BTreeSet<Day>, day: Option<Day>) -> Result<BTreeSet<Day>, PlanFault>
+    ensures { schedule.Gives keys (Ok (raw.put_into given.keys (cons_option day []))) result }
+{
+    let mut days = given;
+    if let Some(day) = day {
+        days.insert(day)?;
+    }
+    Ok(days)
+}
+
+// Days and the steps, 801 at most. The numbers are read for their range, which bounds the steps.
+fn with_steps(plan: &Plan<'_>, given: BTreeSet<Day>) -> Result<BTreeSet<Day>, PlanFault>
+    requires { terms.fault_of_terms plan.now ≡ None }
+    ensures { let steps = step.steps_from plan.now 1 (step.most_steps plan.now) in
+        schedule.Gives keys (raw.few_or_fault (raw.put_into given.keys steps)) result }
+{
+    let _numbers = (seed(plan).number(), plan.start.number(), plan.end.number());
+    let mut days = given;
+    let mut k = 1;
+    while days.len() <= 801 {
+        let Some(day) = step(plan, k) else {
+            return Ok(days);
+        };
+        days.insert(day)?;
+        k += 1;
+    }
+    Err(PlanFault::TooMany)
+}

@@ -1,16 +1,12 @@
-//! The forms of words, market and script that this version takes.
+//! The forms of words and market that this version takes.
 //!
-//! `read_words`, `Request`; `is_market`; `read_script`, `Plan`, `Command`.
+//! `read_words`, `Request`; `is_market`.
 #![tactic(auto)]
 
-mod command;
 mod market;
-mod script;
 mod words;
 
-pub use command::Command;
 pub use market::is_market;
-pub use script::{Plan, read_script};
 pub use words::{Request, read_words};
 
 #[cfg(test)]

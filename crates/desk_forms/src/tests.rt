@@ -1,8 +1,5 @@
-// Words, markets and scripts in the form and outside it.
-use crate::{Command, is_market, read_script, read_words};
-use desk_names::ObjId;
-use desk_terms::Terms;
-use fixed_amount::Rate;
+// Words and markets in the form and outside it.
+use crate::{is_market, read_words};
 use std::test::Fail;
 
 #[test]
@@ -39,22 +36,4 @@ fn one_market_is_taken(rt: HostRuntime) {
     assert!(rt; is_market(b"version = 1\ntoday = \"2024-01-02\"\n".as_slice()));
     assert!(rt; !is_market(b"version = 1\ntoday = \"2024-01-03\"\n".as_slice()));
     assert!(rt; !is_market(b"".as_slice()));
-}
-
-#[test]
-fn a_script_is_read(rt: HostRuntime) -> Result<(), Fail> {
-    let text = b"quote q 1.5\nstock s q\nset q -0.000000001\nask s".as_slice();
-    let plan = read_script(rt.alloc(), text)?.ok_or("not in the form")?;
-    let commands = [
-        Command::Make(Terms::Quote(Some(Rate(1_500_000_000)))),
-        Command::Make(Terms::Stock { quote: ObjId(1) }),
-        Command::Set {
-            quote: ObjId(1),
-            value: Rate(-1),
-        },
-        Command::Ask(ObjId(2)),
-    ];
-    assert_eq!(rt; plan.commands.as_slice(), commands.as_slice());
-    assert!(rt; read_script(rt.alloc(), b"ask s".as_slice())?.is_none());
-    Ok(())
 }

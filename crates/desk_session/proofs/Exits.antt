@@ -19,7 +19,8 @@ use Rattle.desk_model.specs.Sound.{last_answer, IsSound}
 use Rattle.desk_model.proofs.Flat.{seen_priced}
 use Rattle.desk_model.proofs.Asks.{unasked, inputs_at, runs_current, runs_refused, runs_priced, seen_refused, seen_priced_over, asked_idle, asked_refused, asked_valued}
 use Rattle.desk_model.proofs.Changes.{sound_valued}
-use Rattle.desk_session.specs.Asks.{Shows, Asks}
+use Rattle.desk_terms.specs.Asked.{Shows}
+use Rattle.desk_session.specs.Asks.{Asks}
 
 abbrev Log : Type 0
 Log = Option (List (ℕ × Bool))

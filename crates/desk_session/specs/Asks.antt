@@ -1,29 +1,16 @@
 -- What one ask does.
-use Rattle.std.specs.Prelude.{◌≡◌, ℕ, Bool, List, [], ◌∷◌, length, Option, Some, None, Result, Ok, Err}
-use Rattle.desk_terms.specs.declared.value.Value.{Value}
+use Rattle.std.specs.Prelude.{◌≡◌, ℕ, Bool, List, [], ◌∷◌, length, Option, Result, Ok, Err}
 use Rattle.desk_terms.specs.declared.value.Input as input
 use Rattle.desk_terms.specs.declared.cause.Cause.{Cause}
-use Rattle.desk_terms.specs.declared.cause.Cause.TheVariants.{Unpriced}
 use Rattle.desk_terms.specs.declared.asked.Asked.{Asked}
 use Rattle.desk_terms.specs.declared.asked.Mark.TheVariants.{Fresh}
-use Rattle.desk_terms.specs.Reading.{Outcome, Calc}
+use Rattle.desk_terms.specs.Reading.{Calc}
+use Rattle.desk_terms.specs.Asked.{Shows}
 use Rattle.desk_terms.specs.Bench.{counted, logged}
 use Rattle.desk_model.specs.Market.{Entry}
 use Rattle.desk_model.specs.Market.Entry.{Gives, Refuses}
 use Rattle.desk_model.specs.State.{State, kept_at, seen}
 use Rattle.desk_model.specs.Visit.{runs, asked}
-
--- the answer shows this outcome: the last value where it has no cause
-abbrev pub Shows : Option Cause → Option Value → Outcome → Type 0
-Shows None (Some value) outcome = outcome ≡ Ok value
-Shows None None outcome = ⊥
-Shows (Some cause) last outcome = outcome ≡ Err cause
-
--- the outcome that an answer stands for: its cause, else the last value
-abbrev pub answer_of : ℕ → Option Cause → Option Value → Outcome
-answer_of o (Some cause) last = Err cause
-answer_of o None (Some value) = Ok value
-answer_of o None None = Err (Unpriced o)
 
 -- An ask of o answers what is seen, computes the runs of the definition in their order and no others, and leaves the
 -- state of the definition.

@@ -1,13 +1,13 @@
-//! The session, which keeps what is priced until it changes, and the benches of the program.
+//! The desk, which keeps what is priced until it changes, and the benches of the program.
 //!
-//! `Session`; `DeskBench`, `ListBench` with `LogList` and `LogEntry`.
+//! `Desk`; `DeskBench`, `ListBench` with `LogList` and `LogEntry`.
 #![tactic(auto)]
 
 mod bench;
-mod session;
+mod desk;
 
 pub use bench::{DeskBench, ListBench, LogEntry, LogList};
-pub use session::Session;
+pub use desk::Desk;
 
 #[cfg(test)]
 mod tests;

@@ -1,4 +1,2 @@
-pub mod Fitting
 pub mod Planning
 pub mod Progress
-pub mod Steps

@@ -1,6 +1,8 @@
 -- The ways in which the reading of words and files ends, against the verdict of the definition.
 use Rattle.std.proofs.Common.{◌≡◌, ◌⊎◌, inl, inr, ⊎_elim, ℕ, ◌<◌, Bool, true, false, List, length, Option, Some, None, Result, Ok, Err, Vec, refl, sym, ◌∙◌, ap, subst, arith}
-use Rattle.std.specs.Prelude.{IfSome, nat_lt}
+use Rattle.std.specs.Prelude.{◌++◌, IfSome, nat_lt, codes}
+use Rattle.desk_names.specs.Names.{has_text}
+use Rattle.session_lang.specs.Given.{Grows}
 use Rattle.std.specs.Str.{bytes_eq}
 use Rattle.std.specs.declared.alloc.Global.{Global}
 use Rattle.std.proofs.lemmas.Bool.Decides.{nat_tests}
@@ -9,20 +11,20 @@ use Rattle.desk_edge.specs.Count.{Rose}
 use Rattle.desk_edge.specs.Shelf.{most_bytes, file_at}
 use Rattle.desk_top.specs.declared.status.Section.TheVariants.{Top}
 use Rattle.desk_top.specs.declared.status.MarketKind as market
-use Rattle.desk_top.specs.declared.status.ScriptKind as script
+use Rattle.session_lang.specs.declared.fault.ScriptKind.TheVariants.{TooLong}
+use Rattle.session_lang.specs.Reading.{script_meaning}
 use Rattle.desk_top.specs.declared.status.FileRole as role
 use Rattle.desk_top.specs.declared.status.Status.{Status}
 use Rattle.desk_top.specs.declared.status.Status as status
-use Rattle.desk_forms.specs.declared.script.Plan as read
-use Rattle.desk_top.specs.Found.{Finds, Plans, plan_in}
+use Rattle.desk_top.specs.declared.running.Plan as read
+use Rattle.desk_top.specs.Found.{Finds, Plans, Reads}
 use Rattle.desk_terms.specs.Reading.{Calc}
-use Rattle.desk_model.specs.Effect.{start}
-use Rattle.desk_forms.specs.declared.command.Command.{Command}
+use Rattle.session_lang.specs.declared.command.Command.{Command}
+use Rattle.session_model.specs.Standing.{start_of}
+use Rattle.session_model.specs.Transcript.{transcript}
 use Rattle.desk_top.specs.Run.{IsReading, IsLate, IsAccepted, IsQuiet, Writes}
-use Rattle.desk_top.specs.Transcript.{transcript}
-use Rattle.desk_forms.specs.Script.{Plan, most_text, script_of}
 use Rattle.desk_forms.specs.Market.{two_lines}
-use Rattle.desk_top.specs.Verdict.{Files, with_plan, with_script, with_market, with_request, verdict_of, output_of}
+use Rattle.desk_top.specs.Verdict.{Files, Plan, first_names, with_plan, with_script, with_market, with_request, verdict_of, output_of}
 use Rattle.desk_forms.specs.Words.{Request, request_of}
 
 abbrev Bytes : Type 0
@@ -36,9 +38,9 @@ long_market text long = by_test (bytes_eq text two_lines) refl
     by_test false e = e
     by_test true e = let same : text ≡ two_lines = (bytes_eq-Decides text two_lines).0 e in absurd (omega (arith, long, ap length same))
 
-long_script : (text : Bytes) → most_bytes < length text → script_of text ≡ None
-unfolding script_of
-long_script text long = let e : nat_lt most_text (length text) ≡ true = grind (arith, nat_tests) in rw (script_of, e) refl
+long_script : (text : Bytes) → most_bytes < length text → with_plan (script_meaning first_names text) ≡ Err (status.TheVariants.Script 0 TooLong)
+unfolding script_meaning
+long_script text long = let e : nat_lt 8_388_608 (length text) ≡ true = grind (arith, nat_tests) in rw (script_meaning, e) refl
 
 -- the market file was not read
 market_fails : (file script : Option Bytes) (s : Status) → Finds file role.TheVariants.Market (Err s) → IsReading s ⊎ (with_market file script ≡ Err s)
@@ -55,11 +57,11 @@ market_passes (Some bytes) script text finds test = let e : bytes_eq bytes two_l
 
 script_fails : (file : Option Bytes) (s : Status) → Finds file role.TheVariants.Script (Err s) → IsReading s ⊎ (with_script file ≡ Err s)
 script_fails None s finds = ⊎_elim (λ r. inl r) (λ e. inr (sym (ap Err e))) finds
-script_fails (Some bytes) s finds = ⊎_elim (λ r. inl r) (λ e. inr (ap with_plan (long_script bytes e.0) ∙ sym (ap Err e.1))) finds
+script_fails (Some bytes) s finds = ⊎_elim (λ r. inl r) (λ e. inr (long_script bytes e.0 ∙ sym (ap Err e.1))) finds
 
-script_read : (file : Option Bytes) (text : Vec ℕ Global) (plan : Option Plan) → Finds file role.TheVariants.Script (Ok text) → plan ≡ script_of text.items → with_script file ≡ with_plan plan
-script_read None text plan finds is = absurd finds
-script_read (Some bytes) text plan finds is = ap with_plan (ap script_of (sym finds) ∙ sym is)
+script_read : (file : Option Bytes) (text : Vec ℕ Global) → Finds file role.TheVariants.Script (Ok text) → with_script file ≡ with_plan (script_meaning first_names text.items)
+script_read None text finds = absurd finds
+script_read (Some bytes) text finds = ap (λ (b : Bytes). with_plan (script_meaning first_names b)) (sym finds)
 
 verdict_with : (files : Files) (words : List Bytes) (request : Request) → request_of words ≡ Some request → verdict_of files words ≡ with_market (file_at files request.market) (file_at files request.script)
 unfolding verdict_of
@@ -88,21 +90,29 @@ module _ (words : List (List ℕ)) (request : Request) (is : request_of words �
       ⊎_elim (λ r. inl r) (λ e. inr (verdict_with files words request is ∙ market_passes (file_at files request.market) (file_at files request.script) text finds test ∙ e))
       (script_fails (file_at files request.script) s (subst (λ (m : Option (List (List ℕ × List ℕ))). IfSome m (λ f. Finds (file_at f request.script) role.TheVariants.Script (Err s))) same fails))
 
-  pub plan_script_read : (told mid : Option (List (List ℕ × List ℕ))) (market_text script_text : Vec ℕ Global) (plan : Option Plan) → mid ≡ told → IfSome told (λ files. Finds (file_at files request.market) role.TheVariants.Market (Ok market_text)) → bytes_eq market_text.items two_lines ≡ true
-      → IfSome mid (λ files. Finds (file_at files request.script) role.TheVariants.Script (Ok script_text)) → plan ≡ script_of script_text.items → IfSome told (λ files. verdict_of files words ≡ with_plan plan)
-  plan_script_read None mid market_text script_text plan same finds test found of = tt
-  plan_script_read (Some files) mid market_text script_text plan same finds test found of =
+  pub plan_script_read : (told mid : Option (List (List ℕ × List ℕ))) (market_text script_text : Vec ℕ Global) → mid ≡ told → IfSome told (λ files. Finds (file_at files request.market) role.TheVariants.Market (Ok market_text)) → bytes_eq market_text.items two_lines ≡ true
+      → IfSome mid (λ files. Finds (file_at files request.script) role.TheVariants.Script (Ok script_text)) → IfSome told (λ files. verdict_of files words ≡ with_plan (script_meaning first_names script_text.items))
+  plan_script_read None mid market_text script_text same finds test found = tt
+  plan_script_read (Some files) mid market_text script_text same finds test found =
       verdict_with files words request is ∙ market_passes (file_at files request.market) (file_at files request.script) market_text finds test
-      ∙ script_read (file_at files request.script) script_text plan (subst (λ (m : Option (List (List ℕ × List ℕ))). IfSome m (λ f. Finds (file_at f request.script) role.TheVariants.Script (Ok script_text))) same found) of
+      ∙ script_read (file_at files request.script) script_text (subst (λ (m : Option (List (List ℕ × List ℕ))). IfSome m (λ f. Finds (file_at f request.script) role.TheVariants.Script (Ok script_text))) same found)
 
--- a verdict that is told is the plan's, or the refusal's
-pub told_plan : (told : Option (List (List ℕ × List ℕ))) (words : List (List ℕ)) (plan : read.Plan) → IfSome told (λ files. verdict_of files words ≡ with_plan (Some (plan_in plan))) → IfSome told (λ files. Plans (verdict_of files words) (Ok plan))
-told_plan None words plan e = tt
-told_plan (Some files) words plan e = e
+-- what was read of a script is the verdict
+reads_plans : (verdict meaning : Result Plan Status) (result : Result read.Plan Status) → verdict ≡ meaning → Reads meaning result → Plans verdict result
+reads_plans verdict meaning (Ok plan) is reads = is ∙ reads
+reads_plans verdict meaning (Err status.TheVariants.NoMemory) is reads = inl tt
+reads_plans verdict meaning (Err status.TheVariants.Done) is reads = inr (is ∙ reads)
+reads_plans verdict meaning (Err status.TheVariants.Usage) is reads = inr (is ∙ reads)
+reads_plans verdict meaning (Err (status.TheVariants.Market section entry kind)) is reads = inr (is ∙ reads)
+reads_plans verdict meaning (Err (status.TheVariants.Script line kind)) is reads = inr (is ∙ reads)
+reads_plans verdict meaning (Err status.TheVariants.ReadFault) is reads = inr (is ∙ reads)
+reads_plans verdict meaning (Err status.TheVariants.WriteFault) is reads = inr (is ∙ reads)
+reads_plans verdict meaning (Err (status.TheVariants.Absent role)) is reads = inr (is ∙ reads)
 
-pub told_refusal : (told : Option (List (List ℕ × List ℕ))) (words : List (List ℕ)) → IfSome told (λ files. verdict_of files words ≡ with_plan None) → IfSome told (λ files. Plans (verdict_of files words) (Err (status.TheVariants.Script 0 script.TheVariants.Unbuilt)))
-told_refusal None words e = tt
-told_refusal (Some files) words e = inr e
+pub told_reads : (told : Option (List (List ℕ × List ℕ))) (words : List (List ℕ)) (meaning : Result Plan Status) (result : Result read.Plan Status) → IfSome told (λ files. verdict_of files words ≡ meaning) → Reads meaning result
+    → IfSome told (λ files. Plans (verdict_of files words) result)
+told_reads None words meaning result is reads = tt
+told_reads (Some files) words meaning result is reads = reads_plans (verdict_of files words) meaning result is reads
 
 pub told_memory : (told : Option (List (List ℕ × List ℕ))) (words : List (List ℕ)) → IfSome told (λ files. Plans (verdict_of files words) (Err status.TheVariants.NoMemory))
 told_memory None words = tt
@@ -110,11 +120,11 @@ told_memory (Some files) words = inl tt
 
 -- what was written of a plan's transcript was written of the verdict's
 pub told_written : (told : Option (List (List ℕ × List ℕ))) (words : List (List ℕ)) (calc : Calc) (plan : read.Plan) (commands : List Command) (old new : Option (List ℕ)) (s : Status)
-    → IfSome told (λ files. Plans (verdict_of files words) (Ok plan)) → commands ≡ plan.commands.items → Writes old new (transcript calc plan.names start commands) s
+    → IfSome told (λ files. Plans (verdict_of files words) (Ok plan)) → commands ≡ plan.script.commands → Writes old new (transcript calc (start_of plan.names) commands) s
     → IfSome told (λ files. Writes old new (output_of calc (verdict_of files words)) s)
 told_written None words calc plan commands old new s plans are writes = tt
 told_written (Some files) words calc plan commands old new s plans are writes =
-    subst (λ v. Writes old new (output_of calc v) s) (sym plans) (subst (λ (l : List Command). Writes old new (transcript calc plan.names start l) s) are writes)
+    subst (λ v. Writes old new (output_of calc v) s) (sym plans) (subst (λ (l : List Command). Writes old new (transcript calc (start_of plan.names) l) s) are writes)
 
 -- a count that is quiet did not rise
 quiet : (before now : ℕ) → IsQuiet before now → Rose before now → ⊥
@@ -151,3 +161,8 @@ pub complete_late : (told : Option (List (List ℕ × List ℕ))) (words : List 
     → IfSome told (λ files. IsAccepted (verdict_of files words) → IsQuiet a b → IsQuiet before now → (s ≡ status.TheVariants.Done) ⊎ (s ≡ status.TheVariants.NoMemory))
 complete_late None words s before now a b is rose = tt
 complete_late (Some files) words s before now a b is rose = λ accepted other still. late s before now is rose still
+
+-- `today` is a name of every session
+pub today_known : (old new : List (List ℕ)) → old ≡ first_names → Grows old new → has_text new (codes "today") ≡ true
+unfolding has_text
+today_known old new is grows = ap (λ (names : List (List ℕ)). has_text names (codes "today")) (grows.whole ∙ ap (λ (names : List (List ℕ)). names ++ grows.more) is)

@@ -4,19 +4,19 @@ use Rattle.std.specs.declared.alloc.Global.{Global}
 use Rattle.desk_edge.specs.Shelf.{most_bytes}
 use Rattle.desk_top.specs.declared.status.Section.TheVariants.{Top}
 use Rattle.desk_top.specs.declared.status.MarketKind as market
-use Rattle.desk_top.specs.declared.status.ScriptKind as script
+use Rattle.session_lang.specs.declared.fault.ScriptKind.TheVariants.{TooLong}
 use Rattle.desk_top.specs.declared.status.FileRole.{FileRole}
 use Rattle.desk_top.specs.declared.status.FileRole as role
 use Rattle.desk_top.specs.declared.status.Status.{Status}
-use Rattle.desk_top.specs.declared.status.Status.TheVariants.{Done, Market, Script, WriteFault, Absent}
-use Rattle.desk_forms.specs.declared.script.Plan as read
+use Rattle.desk_top.specs.declared.status.Status.TheVariants.{Done, Market, Script, WriteFault, NoMemory, Absent}
+use Rattle.desk_top.specs.declared.running.Plan as read
 use Rattle.desk_top.specs.Run.{IsReading}
-use Rattle.desk_forms.specs.Script.{Plan}
+use Rattle.desk_top.specs.Verdict.{Plan}
 
 -- the status of a file that is longer than the most bytes
 abbrev pub too_long_of : FileRole → Status
 too_long_of role.TheVariants.Market = Market Top 0 market.TheVariants.Unbuilt
-too_long_of role.TheVariants.Script = Script 0 script.TheVariants.Unbuilt
+too_long_of role.TheVariants.Script = Script 0 TooLong
 
 -- the answer of a read of a whole file, where this is the file
 abbrev pub Finds : Option (List ℕ) → FileRole → Result (Vec ℕ Global) Status → Type 0
@@ -33,9 +33,15 @@ IsBefore status = Unit {0}
 
 -- a plan of the code, as the definition sees it
 abbrev pub plan_in : read.Plan → Plan
-plan_in plan = record { names = plan.names; commands = plan.commands.items }
+plan_in plan = record { names = plan.names; script = plan.script }
 
 -- the answer is this verdict, but for a fault of reading or want of memory
 abbrev pub Plans : Result Plan Status → Result read.Plan Status → Type 0
 Plans verdict (Ok plan) = verdict ≡ Ok (plan_in plan)
 Plans verdict (Err status) = IsReading status ⊎ (verdict ≡ Err status)
+
+-- the same of a script alone, and memory is all that may be wanting
+abbrev pub Reads : Result Plan Status → Result read.Plan Status → Type 0
+Reads told (Ok plan) = told ≡ Ok (plan_in plan)
+Reads told (Err NoMemory) = Unit {0}
+Reads told (Err status) = told ≡ Err status

@@ -4,7 +4,7 @@ use Rattle.desk_edge.specs.Count.{last_count}
 use Rattle.desk_edge.specs.Sink.{appended}
 use Rattle.desk_top.specs.declared.status.Status.{Status}
 use Rattle.desk_top.specs.declared.status.Status.TheVariants.{Done, Usage, Market, Script, ReadFault, WriteFault, NoMemory, Absent}
-use Rattle.desk_forms.specs.Script.{Plan}
+use Rattle.desk_top.specs.Verdict.{Plan}
 
 -- a status that the words and files do not decide: a fault outside, or want of memory
 abbrev pub IsOutside : Status → Type 0

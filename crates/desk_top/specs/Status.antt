@@ -1,11 +1,10 @@
 -- The exit codes and the lines on standard error (this project's profile).
 use Rattle.std.specs.Prelude.{ℕ, List, [], ◌++◌, codes, decimal}
+use Rattle.session_lang.specs.Fault.{kind_text}
 use Rattle.desk_top.specs.declared.status.Section.{Section}
 use Rattle.desk_top.specs.declared.status.Section.TheVariants.{Top}
 use Rattle.desk_top.specs.declared.status.MarketKind.{MarketKind}
 use Rattle.desk_top.specs.declared.status.MarketKind as market
-use Rattle.desk_top.specs.declared.status.ScriptKind.{ScriptKind}
-use Rattle.desk_top.specs.declared.status.ScriptKind as script
 use Rattle.desk_top.specs.declared.status.FileRole.{FileRole}
 use Rattle.desk_top.specs.declared.status.FileRole as role
 use Rattle.desk_top.specs.declared.status.Status.{Status}
@@ -27,9 +26,6 @@ section_text Top = codes "top"
 abbrev pub market_kind_text : MarketKind → List ℕ
 market_kind_text market.TheVariants.Unbuilt = codes "unbuilt"
 
-abbrev pub script_kind_text : ScriptKind → List ℕ
-script_kind_text script.TheVariants.Unbuilt = codes "unbuilt"
-
 abbrev pub role_text : FileRole → List ℕ
 role_text role.TheVariants.Market = codes "market"
 role_text role.TheVariants.Script = codes "script"
@@ -39,7 +35,7 @@ abbrev pub status_text : Status → List ℕ
 status_text Done = []
 status_text Usage = codes "desk: usage"
 status_text (Market section entry kind) = codes "desk: market " ++ section_text section ++ codes " " ++ decimal entry ++ codes " " ++ market_kind_text kind
-status_text (Script line kind) = codes "desk: script " ++ decimal line ++ codes " " ++ script_kind_text kind
+status_text (Script line kind) = codes "desk: script " ++ decimal line ++ codes " " ++ kind_text kind
 status_text ReadFault = codes "desk: read fault"
 status_text WriteFault = codes "desk: write fault"
 status_text NoMemory = codes "desk: no memory"

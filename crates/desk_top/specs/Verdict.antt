@@ -1,33 +1,44 @@
 -- Whether words and files are accepted, and what is done then: the first failure in the order in which files are read
 -- (this project's profile).
-use Rattle.std.specs.Prelude.{ℕ, Bool, List, [], if◌then◌else◌, Option, None, Some, Result, Ok, Err}
+use Rattle.std.specs.Prelude.{ℕ, Bool, List, [], ◌∷◌, codes, if◌then◌else◌, Option, None, Some, Result, Ok, Err}
 use Rattle.std.specs.Str.{bytes_eq}
 use Rattle.desk_edge.specs.Shelf.{file_at}
 use Rattle.desk_terms.specs.Reading.{Calc}
-use Rattle.desk_model.specs.Effect.{start}
 use Rattle.desk_top.specs.declared.status.Section.TheVariants.{Top}
 use Rattle.desk_top.specs.declared.status.MarketKind as market
-use Rattle.desk_top.specs.declared.status.ScriptKind as script
 use Rattle.desk_top.specs.declared.status.FileRole as role
 use Rattle.desk_top.specs.declared.status.Status.{Status}
 use Rattle.desk_top.specs.declared.status.Status as status
 use Rattle.desk_forms.specs.Market.{two_lines}
-use Rattle.desk_forms.specs.Script.{Plan, script_of}
-use Rattle.desk_top.specs.Transcript.{transcript, calls_of}
+use Rattle.session_lang.specs.declared.fault.ScriptKind.{ScriptKind}
+use Rattle.session_lang.specs.declared.script.Script.{Script}
+use Rattle.session_lang.specs.Reading.{script_meaning}
+use Rattle.session_model.specs.Standing.{start_of}
+use Rattle.session_model.specs.Transcript.{transcript, calls_of}
 use Rattle.desk_forms.specs.Words.{Request, request_of}
 
 -- files by path; of several with a path the first counts
 abbrev pub Files : Type 0
 Files = List (List ℕ × List ℕ)
 
--- the script, once the market is accepted
-abbrev pub with_plan : Option Plan → Result Plan Status
-with_plan None = Err (status.TheVariants.Script 0 script.TheVariants.Unbuilt)
-with_plan (Some plan) = Ok plan
+-- what is to be done: a script over the names of its session
+pub record Plan : Type 0 where
+  pub names : List (List ℕ)
+  pub script : Script
 
+-- the names before a script is read: `today`, the name of the first object
+abbrev pub first_names : List (List ℕ)
+first_names = codes "today" ∷ []
+
+-- what a text is read to, or its first fault with its line
+abbrev pub with_plan : Result (Script × List (List ℕ)) (ℕ × ScriptKind) → Result Plan Status
+with_plan (Ok read) = Ok (record { names = read.1; script = read.0 })
+with_plan (Err fault) = Err (status.TheVariants.Script fault.0 fault.1)
+
+-- the script, once the market is accepted
 abbrev pub with_script : Option (List ℕ) → Result Plan Status
 with_script None = Err (status.TheVariants.Absent role.TheVariants.Script)
-with_script (Some text) = with_plan (script_of text)
+with_script (Some text) = with_plan (script_meaning first_names text)
 
 -- the market, and then the script
 abbrev pub with_market : Option (List ℕ) → Option (List ℕ) → Result Plan Status
@@ -48,10 +59,10 @@ status_of (Err status) = status
 
 -- the bytes that a run writes
 abbrev pub output_of : Calc → Result Plan Status → List ℕ
-output_of calc (Ok plan) = transcript calc plan.names start plan.commands
+output_of calc (Ok plan) = transcript calc (start_of plan.names) plan.script.commands
 output_of calc (Err status) = []
 
 -- the computations that a run makes
 abbrev pub computed_by : Calc → Result Plan Status → List (ℕ × Bool)
-computed_by calc (Ok plan) = calls_of calc plan.names start plan.commands
+computed_by calc (Ok plan) = calls_of calc (start_of plan.names) plan.script.commands
 computed_by calc (Err status) = []

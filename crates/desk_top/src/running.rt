@@ -1,23 +1,33 @@
 // The top call.
-ghost use Rattle.std.specs.Prelude.{◌≡◌, ◌≢◌, ◌⊎◌, ◌↔◌, ◌≤◌, [], ◌∷◌, length, map, None, IfSome, IfOk, IfErr, OnErr, IsErrOf, OnOk};
+ghost use Rattle.std.specs.Prelude.{◌≡◌, ◌≢◌, ◌⊎◌, ◌↔◌, ◌≤◌, true, codes, length, map, None, IfSome, IfOk, IfErr, OnErr, IsErrOf, OnOk};
 ghost use Rattle.std.specs.String.{string_bytes};
 ghost use Rattle.desk_edge.specs.Count.{Rose};
 ghost use Rattle.desk_edge.specs.Shelf.{files_of, file_at};
 ghost use Rattle.desk_terms.specs.Bench.{counted, logged};
 ghost use Rattle.desk_top.specs.declared.status.FileRole.{FileRole};
-ghost use Rattle.desk_forms.specs.Fit.{AreFit};
-ghost use Rattle.desk_top.specs.Found.{too_long_of, Finds, IsBefore, Plans};
+ghost use Rattle.desk_top.specs.Found.{too_long_of, Finds, IsBefore, Plans, Reads};
 ghost use Rattle.desk_top.specs.Run.{IsOutside, IsEarly, IsReading, IsAccepted, IsQuiet, Writes};
-ghost use Rattle.desk_forms.specs.Script.{script_of};
-ghost use Rattle.desk_top.specs.Verdict.{verdict_of, status_of, output_of, computed_by};
+ghost use Rattle.desk_names.specs.Names.{has_text, IsNames};
+ghost use Rattle.session_lang.specs.Reading.{script_meaning};
+ghost use Rattle.session_lang.specs.Whole.{IsScript};
+ghost use Rattle.desk_top.specs.Verdict.{first_names, with_plan, verdict_of, status_of, output_of, computed_by};
 ghost use Rattle.desk_forms.specs.Words.{request_of};
 
-use crate::step::play;
-use crate::{FileRole, MarketKind, ScriptKind, Section, Status};
+use crate::play::play;
+use crate::{FileRole, MarketKind, Section, Status};
 use desk_edge::{ReadFault, Shelf, Sink, read_whole};
-use desk_forms::{Plan, Request, is_market, read_script, read_words};
+use desk_forms::{Request, is_market, read_words};
+use desk_names::Names;
 use desk_terms::Bench;
+use session_lang::{Script, ScriptFault, ScriptKind, read_script};
 use std::alloc::{AllocError, Global};
+
+// A script that was read, and the names of its session.
+#[derive(Drop)]
+struct Plan {
+    names: Names,
+    script: Script,
+}
 
 /// Does what the words ask for over the files of the shelf, writes the transcript to `out`, and answers how that went.
 /// The words are those behind the program's name. The prices are those of the bench.
@@ -62,11 +72,11 @@ pub fn run<H: Shelf, K: Sink, B: Bench>(
     ensures absent { (role : FileRole) → result ≡ Status.Absent role → Rose (H.misses shelf.old) (H.misses shelf.new) }
     ensures files { files_of (H.contents shelf.new) ≡ files_of (H.contents shelf.old) }
 {
-    let plan = match plan_of(alloc, words, shelf) {
+    let Plan { names, script } = match plan_of(alloc, words, shelf) {
         Ok(plan) => plan,
         Err(status) => return status,
     };
-    if let Err(status) = play(alloc, &plan.names, &plan.commands, out, bench) {
+    if let Err(status) = play(alloc, names, script.commands.items(), out, bench) {
         return status;
     }
     Status::Done
@@ -103,14 +113,15 @@ fn too_long(role: FileRole) -> Status
 {
     match role {
         FileRole::Market => Status::Market(Section::Top, 0, MarketKind::Unbuilt),
-        FileRole::Script => Status::Script(0, ScriptKind::Unbuilt),
+        FileRole::Script => Status::Script(0, ScriptKind::TooLong),
     }
 }
 
 // What the words and the files ask for.
 fn plan_of<H: Shelf>(alloc: Global, words: &[String], shelf: &mut H) -> Result<Plan, Status>
     ensures plans { IfSome (files_of (H.contents shelf.old)) (λ files. Plans (verdict_of files (map string_bytes words.now)) result) }
-    ensures fit { IfOk result (λ plan. AreFit (None ∷ []) plan.commands.items) }
+    ensures today { IfOk result (λ plan. has_text plan.names (codes "today") ≡ true) }
+    ensures whole { IfOk result (λ plan. IsScript plan.names plan.script) }
     ensures usage { IsErrOf result Status.Usage ↔ (request_of (map string_bytes words.now) ≡ None) }
     ensures before { IfErr result IsBefore }
     ensures files { files_of (H.contents shelf.new) ≡ files_of (H.contents shelf.old) }
@@ -128,8 +139,32 @@ fn plan_of<H: Shelf>(alloc: Global, words: &[String], shelf: &mut H) -> Result<P
         return Err(Status::Market(Section::Top, 0, MarketKind::Unbuilt));
     }
     let script = read_file(alloc, shelf, request.script, FileRole::Script)?;
-    match read_script(alloc, &script)? {
-        Some(plan) => Ok(plan),
-        None => Err(Status::Script(0, ScriptKind::Unbuilt)),
+    read_plan(alloc, &script)
+}
+
+// What a script asks for.
+fn read_plan(alloc: Global, text: &[u8]) -> Result<Plan, Status>
+    ensures reads { Reads (with_plan (script_meaning first_names text.now)) result }
+    ensures today { IfOk result (λ plan. has_text plan.names (codes "today") ≡ true) }
+    ensures whole { IfOk result (λ plan. IsScript plan.names plan.script) }
+{
+    let mut names = first_names(alloc)?;
+    match read_script(alloc, text, &mut names) {
+        Ok(script) => Ok(Plan { names, script }),
+        Err(ScriptFault::At { line, kind }) => Err(Status::Script(line, kind)),
+        Err(ScriptFault::NoMemory) => Err(Status::NoMemory),
+    }
+}
+
+// The names before a script is read.
+fn first_names(alloc: Global) -> Result<Names, AllocError>
+    ensures first { IfOk result (λ names. names ≡ first_names) }
+    ensures names { IfOk result (λ names. IsNames names) }
+{
+    let mut names = Names::new(alloc);
+    // `today` is a name and there is room for it, so memory alone can be wanting.
+    match names.intern(b"today") {
+        Ok(_) => Ok(names),
+        Err(_) => Err(AllocError),
     }
 }

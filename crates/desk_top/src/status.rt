@@ -2,6 +2,7 @@
 ghost use Rattle.std.specs.Prelude.{◌≡◌, Some};
 ghost use Rattle.desk_top.specs.Status.{code_of, status_text};
 
+use session_lang::ScriptKind;
 use std::alloc::AllocError;
 use std::fmt;
 
@@ -16,13 +17,6 @@ pub enum Section {
 #[derive(Clone, Copy, Debug, PartialEq, Eq)]
 pub enum MarketKind {
     /// It is not the one market that this version takes.
-    Unbuilt,
-}
-
-/// What is wrong with a script.
-#[derive(Clone, Copy, Debug, PartialEq, Eq)]
-pub enum ScriptKind {
-    /// It is not in the form that this version takes.
     Unbuilt,
 }
 
@@ -105,19 +99,6 @@ impl fmt::Display for MarketKind {
     fn fmt<W: fmt::Write>(&self, f: &mut fmt::Formatter<W>) -> fmt::Result {
         match self {
             MarketKind::Unbuilt => write!(f, "unbuilt"),
-        }
-    }
-}
-
-impl fmt::Display for ScriptKind {
-    ghost use Rattle.std.specs.Prelude.{Some};
-    ghost use Rattle.desk_top.specs.Status.{script_kind_text};
-
-    ghost output = { λ k. Some (script_kind_text k) };
-
-    fn fmt<W: fmt::Write>(&self, f: &mut fmt::Formatter<W>) -> fmt::Result {
-        match self {
-            ScriptKind::Unbuilt => write!(f, "unbuilt"),
         }
     }
 }

@@ -1,9 +1,10 @@
 ghost use Rattle.std.specs.Prelude.{◌≤◌};
 
-use crate::{FileRole, MarketKind, ScriptKind, Section, Status, run};
+use crate::{FileRole, MarketKind, Section, Status, run};
 use desk_edge::{CallList, FileList, MemoryFile, MemoryShelf, MemorySink};
 use desk_session::{DeskBench, ListBench};
 use desk_terms::{Bench, BenchFault, Cause, Job, Value};
+use session_lang::ScriptKind;
 use std::alloc::Global;
 use std::test::Fail;
 
@@ -62,43 +63,44 @@ fn two_asks_compute_once(rt: HostRuntime) -> Result<(), Fail> {
     Ok(())
 }
 
-// Scripts at the edge of the form, each with the status and the bytes.
+// Scripts, each with the status and the bytes: refused commands are lines, a faulty script writes nothing.
 #[test]
-fn scripts_in_the_form_and_outside(rt: HostRuntime) -> Result<(), Fail> {
-    let unbuilt = Status::Script(0, ScriptKind::Unbuilt);
-    let table: [(&[u8], Status, &[u8]); 24] = [
+fn scripts_are_done_or_refused(rt: HostRuntime) -> Result<(), Fail> {
+    let table: [(&[u8], Status, &[u8]); 10] = [
         (b"", Status::Done, b""),
-        (b"\n", unbuilt, b""),
-        (b"quote q 1", Status::Done, b""),
-        (b"quote q 1\n\n", unbuilt, b""),
-        (b"quote  q 1\n", unbuilt, b""),
-        (b" quote q 1\n", unbuilt, b""),
-        (b"quote q 1 \n", unbuilt, b""),
-        (b"quote q 1\r\n", unbuilt, b""),
-        (b"quote today 1\n", unbuilt, b""),
-        (b"quote none 1\n", unbuilt, b""),
-        (b"quote q 1\nquote q 2\n", unbuilt, b""),
-        (b"quote q unset\n", unbuilt, b""),
-        (b"quote q 1000000000\n", Status::Done, b""),
-        (b"quote q 1000000000.000000001\n", unbuilt, b""),
-        (b"quote q 0.0000000001\n", unbuilt, b""),
-        (b"stock s q\n", unbuilt, b""),
-        (b"quote q 1\nask q\n", unbuilt, b""),
-        (b"quote q 1\nstock s q\nstock t s\n", unbuilt, b""),
-        (b"quote q 1\nstock s q\nset s 1\n", unbuilt, b""),
-        (b"ask today\n", unbuilt, b""),
-        (b"quote q 1\nfreeze q\n", unbuilt, b""),
-        (b"quote q 1 # one\n", unbuilt, b""),
         (
-            b"quote q 1\nstock s q\nask s\nset q 1.0\nask s",
+            b"quote q 1.5\nstock s q\nask s\nset q 1.50\nask s\n",
             Status::Done,
-            b"s 1.000000 fresh 1\ns 1.000000 fresh 0\n",
+            TWO_LINES,
         ),
         (
             b"quote q 0.0000005\nstock s q\nask s\nset q -0.0000005\nask s\n",
             Status::Done,
             b"s 0.000001 fresh 1\ns -0.000001 fresh 1\n",
         ),
+        (
+            b"quote q 1\nstock s z\nstock q q\nstock s q\nset s 2\nfreeze s\nask s\n",
+            Status::Done,
+            b"refused stock unknown z\nrefused stock taken q\nrefused set kind s\nrefused freeze unbuilt\ns 1.000000 fresh 1\n",
+        ),
+        (
+            b"quote today 1\nquote q unset\nask q\nask today",
+            Status::Done,
+            b"refused quote taken today\nrefused quote unbuilt\nrefused ask unknown q\nrefused ask kind today\n",
+        ),
+        (b"action a\nfreeze z\nend\n", Status::Done, b""),
+        (
+            b"quote q 1\naction a\nask q\n",
+            Status::Script(2, ScriptKind::Unclosed),
+            b"",
+        ),
+        (b"ask", Status::Script(1, ScriptKind::Count), b""),
+        (
+            b"quote q 1\nstock s q\nask s\nask s#\x7f\n",
+            Status::Script(4, ScriptKind::Byte),
+            b"",
+        ),
+        (b"watch w a\n", Status::Script(1, ScriptKind::NoAction), b""),
     ];
     for (script, status, lines) in table.iter() {
         let (answer, bytes) = outcome(rt.alloc(), MARKET, script)?;
@@ -109,18 +111,10 @@ fn scripts_in_the_form_and_outside(rt: HostRuntime) -> Result<(), Fail> {
 }
 
 #[test]
-fn a_script_has_at_most_4000_lines(rt: HostRuntime) -> Result<(), Fail> {
-    let alloc = rt.alloc();
-    let mut script = TWO_ASKS.to_vec(alloc)?;
-    for _ in 0..3996 {
-        script.extend_from_slice(b"set q 1.5\n")?;
-    }
-    let (status, bytes) = outcome(alloc, MARKET, &script)?;
-    assert_eq!(rt; status, Status::Done);
-    assert_eq!(rt; bytes.as_slice(), TWO_LINES);
-    script.extend_from_slice(b"set q 1.5\n")?;
-    let (status, bytes) = outcome(alloc, MARKET, &script)?;
-    assert_eq!(rt; status, Status::Script(0, ScriptKind::Unbuilt));
+fn a_script_has_at_most_8_mib(rt: HostRuntime) -> Result<(), Fail> {
+    let script = vec![in rt.alloc(); b' '; 8_388_609]?;
+    let (status, bytes) = outcome(rt.alloc(), MARKET, &script)?;
+    assert_eq!(rt; status, Status::Script(0, ScriptKind::TooLong));
     assert_eq!(rt; bytes.len(), 0);
     Ok(())
 }
@@ -324,7 +318,7 @@ fn a_refused_stock_is_asked_again(rt: HostRuntime) -> Result<(), Fail> {
 
 #[test]
 fn the_line_on_standard_error_and_the_code(rt: HostRuntime) -> Result<(), Fail> {
-    let table: [(Status, u8, &str); 9] = [
+    let table: [(Status, u8, &str); 10] = [
         (Status::Done, 0, ""),
         (Status::Usage, 2, "desk: usage"),
         (
@@ -333,9 +327,14 @@ fn the_line_on_standard_error_and_the_code(rt: HostRuntime) -> Result<(), Fail> 
             "desk: market top 0 unbuilt",
         ),
         (
-            Status::Script(0, ScriptKind::Unbuilt),
+            Status::Script(0, ScriptKind::TooLong),
             4,
-            "desk: script 0 unbuilt",
+            "desk: script 0 toolong",
+        ),
+        (
+            Status::Script(12, ScriptKind::NoAction),
+            4,
+            "desk: script 12 noaction",
         ),
         (Status::ReadFault, 5, "desk: read fault"),
         (Status::WriteFault, 6, "desk: write fault"),

@@ -10,10 +10,19 @@ use std::{fs, io};
 
 const MARKET: &[u8] = b"version = 1\ntoday = \"2024-01-02\"\n";
 
-// In `scripts` a line `==` stands between two cases. In a case `--` and a newline stand between the script, which may lack
-// its last newline, and the output.
+// The most bytes that a case may write.
+const ROOM: usize = 100_000;
+
+// `scripts` has scripts of which no command is refused, `refused` those with refused commands or a fault.
 fn main(rt: HostRuntime) -> io::Result<()> {
-    let text = fs::read_to_string(&rt, "scripts")?;
+    compare(&rt, "scripts")?;
+    compare(&rt, "refused")
+}
+
+// Compares the cases of a file and prints how many agree. A line `==` stands between two cases. In a case `--` and a
+// newline stand between the script, which may lack its last newline, and what a terminal shows of its run.
+fn compare(rt: &HostRuntime, file: &str) -> io::Result<()> {
+    let text = fs::read_to_string(rt, file)?;
     let mut agree = 0u32;
     let mut differ = 0u32;
     for case in text.split("==\n") {
@@ -21,27 +30,31 @@ fn main(rt: HostRuntime) -> io::Result<()> {
             agree = agree.saturating_add(1);
         } else {
             differ = differ.saturating_add(1);
-            println!(rt; "scripts: this differs: {case}")?;
+            println!(rt; "{file}: this differs: {case}")?;
         }
     }
-    println!(rt; "scripts: {agree} agree, {differ} differ")
+    println!(rt; "{file}: {agree} agree, {differ} differ")
 }
 
-// Whether the case's script writes the case's output.
+// Whether the case's script shows the case's text.
 fn agrees(alloc: Global, case: &str) -> Result<bool, AllocError> {
     match case.split_once("--\n") {
-        Some((script, lines)) => writes(alloc, script, lines),
+        Some((script, text)) => Ok(shown(alloc, script)?.as_slice() == text.as_bytes()),
         None => Ok(false),
     }
 }
 
-// Whether a script is done and writes these lines.
-fn writes(alloc: Global, script: &str, lines: &str) -> Result<bool, AllocError> {
+// What a terminal shows of a script's run: its output, and the line of a status that is not Done.
+fn shown(alloc: Global, script: &str) -> Result<Vec<u8>, AllocError> {
     let mut shelf = shelf(alloc, script)?;
-    let mut out = MemorySink::new(alloc, 1000, 4096, CallList::new(alloc))?;
+    let mut out = MemorySink::new(alloc, ROOM, 4096, CallList::new(alloc))?;
     let words = words(alloc)?;
     let status = run(alloc, &words, &mut shelf, &mut out, &mut DeskBench::new());
-    Ok(status == Status::Done && out.bytes() == lines.as_bytes())
+    let mut text = out.bytes().to_vec(alloc)?;
+    if status != Status::Done {
+        text.extend_from_slice(format!(in alloc; "{status}\n")?.as_bytes())?;
+    }
+    Ok(text)
 }
 
 // A shelf of the market `m` and the script `s`.

@@ -1,4 +1,6 @@
 pub mod Table
+pub mod Fault
+pub mod Refusal
 pub mod Given
 pub mod Field
 pub mod Sorts

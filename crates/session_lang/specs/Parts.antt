@@ -1,5 +1,5 @@
 -- A command as its first word and its fields.
-use Rattle.std.specs.Prelude.{Option, Some, option_and_then}
+use Rattle.std.specs.Prelude.{ℕ, List, Option, Some, option_and_then}
 use Rattle.session_lang.specs.declared.table.Verb.{Verb}
 use Rattle.session_lang.specs.declared.table.Verb.TheVariants as verb
 use Rattle.session_lang.specs.declared.field.Field.{Field}
@@ -7,6 +7,7 @@ use Rattle.session_lang.specs.declared.field.Field.TheVariants.{Nothing, Name, V
 use Rattle.session_lang.specs.declared.command.Command.{Command}
 use Rattle.session_lang.specs.declared.command.Command.TheVariants as command
 use Rattle.session_lang.specs.declared.parts.Parts.{Parts}
+use Rattle.session_lang.specs.Table.{row_of}
 use Rattle.session_lang.specs.Field.{name_in, value_in, number_in, day_in, weight_in, engine_in, flag_in, action_in}
 
 infixl 10 ◌>>=◌
@@ -79,3 +80,7 @@ parts_of (command.Unregister a b) = together verb.Unregister (Name a) (Name b) N
 parts_of (command.Drop a) = together verb.Drop (Name a) Nothing Nothing
 parts_of (command.Ask a) = together verb.Ask (Name a) Nothing Nothing
 parts_of (command.Df a b) = together verb.Df (Name a) (Day b) Nothing
+
+-- the first word of a command
+abbrev pub command_word : Command → List ℕ
+command_word command = (row_of (parts_of command).verb).word

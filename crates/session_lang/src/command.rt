@@ -1,5 +1,9 @@
 // The commands of a session.
+ghost use Rattle.std.specs.Prelude.{◌≡◌};
+ghost use Rattle.session_lang.specs.Parts.{command_word};
+
 use crate::ActionId;
+use crate::parts::Parts;
 use day_number::Day;
 use desk_names::NameId;
 use fixed_amount::Rate;
@@ -59,4 +63,13 @@ pub enum Command {
     Ask(NameId),
     /// `df C D`: asks a curve for its discount at a day.
     Df(NameId, Day),
+}
+
+impl Command {
+    /// Its first word.
+    pub fn word(&self) -> &'static [u8]
+        ensures { result.now ≡ command_word self.now }
+    {
+        Parts::of(*self).verb.row().0
+    }
 }

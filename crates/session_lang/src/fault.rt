@@ -2,58 +2,74 @@
 ghost use Rattle.std.specs.Prelude.{◌≡◌};
 
 use std::alloc::{AllocError, AllocFailed};
-use thiserror::Error;
+use std::error::Error;
+use std::fmt;
 
 /// What is wrong with a line of a script. Within a line the first that holds is told, in this order; `Name`, `Number`,
 /// `Date` and `Choice` word by word from the left. (This project's profile.)
-#[derive(Clone, Copy, Debug, Error, PartialEq, Eq)]
+#[derive(Clone, Copy, Debug, PartialEq, Eq)]
 pub enum ScriptKind {
     /// The script is over 8,388,608 bytes; told with line 0.
-    #[error("toolong")]
     TooLong,
     /// A byte that is neither tab nor one from 32 to 126 stands in the line.
-    #[error("byte")]
     Byte,
     /// The first word is no word of the language.
-    #[error("word")]
     Word,
     /// The number of words is another.
-    #[error("count")]
     Count,
     /// `action` stands inside a block.
-    #[error("nested")]
     Nested,
     /// `end` stands outside a block.
-    #[error("end")]
     End,
     /// A word in a name's place is no name.
-    #[error("name")]
     Name,
     /// An action of that name was begun before.
-    #[error("twice")]
     Twice,
     /// A decimal or whole number is not in its form or its limit.
-    #[error("number")]
     Number,
     /// A day is not in its form or its range.
-    #[error("date")]
     Date,
     /// A word is not one of those listed.
-    #[error("choice")]
     Choice,
     /// The name would be the 65,537th.
-    #[error("names")]
     Names,
     /// The script ends inside a block; told with the line of its `action`.
-    #[error("unclosed")]
     Unclosed,
     /// An action is named that no block defines; told with the least such line.
-    #[error("noaction")]
     NoAction,
 }
 
+// A fault prints as its word.
+impl fmt::Display for ScriptKind {
+    ghost use Rattle.std.specs.Prelude.{Some};
+    ghost use Rattle.session_lang.specs.Fault.{kind_text};
+
+    ghost output = { λ k. Some (kind_text k) };
+
+    fn fmt<W: fmt::Write>(&self, f: &mut fmt::Formatter<W>) -> fmt::Result {
+        match self {
+            ScriptKind::TooLong => write!(f, "toolong"),
+            ScriptKind::Byte => write!(f, "byte"),
+            ScriptKind::Word => write!(f, "word"),
+            ScriptKind::Count => write!(f, "count"),
+            ScriptKind::Nested => write!(f, "nested"),
+            ScriptKind::End => write!(f, "end"),
+            ScriptKind::Name => write!(f, "name"),
+            ScriptKind::Twice => write!(f, "twice"),
+            ScriptKind::Number => write!(f, "number"),
+            ScriptKind::Date => write!(f, "date"),
+            ScriptKind::Choice => write!(f, "choice"),
+            ScriptKind::Names => write!(f, "names"),
+            ScriptKind::Unclosed => write!(f, "unclosed"),
+            ScriptKind::NoAction => write!(f, "noaction"),
+        }
+    }
+}
+
+impl Error for ScriptKind {}
+
 /// Why a script is not read: its first fault, with the line counted from 1, or want of memory.
-#[derive(Clone, Copy, Debug, Error, PartialEq, Eq)]
+#[derive(Clone, Copy, Debug, thiserror::Error, PartialEq, Eq)]
 pub enum ScriptFault {
     #[error("line {line}: {kind}")]
     At { line: u32, kind: ScriptKind },

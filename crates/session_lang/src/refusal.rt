@@ -1,4 +1,7 @@
 // Why a command is refused.
+ghost use Rattle.std.specs.Prelude.{◌≡◌};
+ghost use Rattle.session_lang.specs.Refusal.{refusal_word};
+
 use desk_names::{NameId, ObjId};
 use fixed_amount::Rate;
 
@@ -27,4 +30,25 @@ pub enum Refusal {
     Deferred(ObjId),
     /// The command is of a part of the session that is not built.
     Unbuilt,
+}
+
+impl Refusal {
+    /// Its word, without what it names.
+    pub fn word(&self) -> &'static [u8]
+        ensures { result.now ≡ refusal_word self.now }
+    {
+        match self {
+            Refusal::Unknown(_) => b"unknown",
+            Refusal::Taken(_) => b"taken",
+            Refusal::Kind(_) => b"kind",
+            Refusal::Cycle => b"cycle",
+            Refusal::InUse(_) => b"inuse",
+            Refusal::FixingExists(_) => b"exists",
+            Refusal::TooMany => b"toomany",
+            Refusal::AlreadyRegistered => b"registered",
+            Refusal::NotRegistered => b"notregistered",
+            Refusal::Deferred(_) => b"deferred",
+            Refusal::Unbuilt => b"unbuilt",
+        }
+    }
 }

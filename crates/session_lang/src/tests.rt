@@ -228,3 +228,41 @@ fn appends_to_lists(rt: HostRuntime) -> Result<(), Fail> {
     assert_eq!(rt; *actions.get(0).get(1), Command::Resume);
     Ok(())
 }
+
+#[test]
+fn prints_the_word_of_a_fault(rt: HostRuntime) -> Result<(), Fail> {
+    let rows = [
+        (ScriptKind::TooLong, "toolong"),
+        (ScriptKind::Byte, "byte"),
+        (ScriptKind::Word, "word"),
+        (ScriptKind::Count, "count"),
+        (ScriptKind::Nested, "nested"),
+        (ScriptKind::End, "end"),
+        (ScriptKind::Name, "name"),
+        (ScriptKind::Twice, "twice"),
+        (ScriptKind::Number, "number"),
+        (ScriptKind::Date, "date"),
+        (ScriptKind::Choice, "choice"),
+        (ScriptKind::Names, "names"),
+        (ScriptKind::Unclosed, "unclosed"),
+        (ScriptKind::NoAction, "noaction"),
+    ];
+    for (kind, want) in rows {
+        let text = format!(in rt.alloc(); "{kind}")?;
+        assert_eq!(rt; text.as_str(), want);
+    }
+    Ok(())
+}
+
+#[test]
+fn tells_first_words(rt: HostRuntime) {
+    let rows: [(Command, &[u8]); 3] = [
+        (Command::Quote(NameId(0), None), b"quote".as_slice()),
+        (Command::Defer, b"defer".as_slice()),
+        (Command::Unlink(NameId(0)), b"unlink".as_slice()),
+    ];
+    for (command, want) in rows.iter() {
+        assert_eq!(rt; command.word(), *want);
+    }
+    assert_eq!(rt; Refusal::NotRegistered.word(), b"notregistered".as_slice());
+}

@@ -1,0 +1,20 @@
+use Rattle.std.proofs.Common.{refl}
+use Rattle.std.specs.Fmt.{digits}
+use Rattle.day_number.specs.Day.{date_of, date_after, date_in_year}
+use Rattle.fixed_amount.specs.Decimal.{decimal_text}
+use Rattle.price_report.specs.Line.{asked_line, refusal_line, over_line}
+use Rattle.price_report.proofs.laws.lines_are_worked_through.Goals as goal
+
+pub returns : goal.returns
+unfolding asked_line refusal_line over_line decimal_text digits date_of date_after date_in_year
+returns c = record {
+  value = refl;
+  unpriced = refl;
+  day = refl;
+  helper = refl;
+  deferred = refl;
+  exists = refl;
+  unknown = refl;
+  unbuilt = refl;
+  over = refl;
+}

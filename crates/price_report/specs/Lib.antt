@@ -1,0 +1,3 @@
+pub mod Namer
+pub mod Line
+pub mod Examples

@@ -1,0 +1,94 @@
+// The line of an ask.
+ghost use Rattle.std.specs.Prelude.{◌≡◌, ◌++◌, OnOk, OnErr, IfOk, option_copied};
+ghost use Rattle.desk_terms.specs.Asked.{Shows};
+ghost use Rattle.desk_terms.specs.Reading.{Outcome};
+ghost use Rattle.price_report.specs.Line.{answer_text, asked_line};
+
+use crate::Namer;
+use crate::cause::{push_cause, push_count};
+use desk_names::NameId;
+use desk_terms::{Asked, Cause, Mark, Value};
+use fixed_amount::print_decimal;
+use std::alloc::{AllocError, Global};
+
+// How many places an amount of money is printed with.
+const MONEY_PLACES: u8 = 6;
+
+/// Appends the line of an ask: the name that was asked for, what the answer shows (the value, where there is no cause)
+/// and how many computations it made. After want of memory `out` has its old bytes.
+pub fn asked_line(
+    alloc: Global,
+    name: NameId,
+    asked: &Asked,
+    value: Option<&Value>,
+    namer: &Namer<'_>,
+    out: &mut Vec<u8>,
+) -> Result<(), AllocError>
+    requires given { (outcome : Outcome) × Shows asked.now.cause (option_copied value) outcome }
+    ensures ok { (outcome : Outcome) → Shows asked.now.cause (option_copied value.entry) outcome
+        → OnOk result (out.new.items ≡ out.old.items
+        ++ asked_line namer.now.names.now namer.now.of_object.now name outcome asked.now.mark asked.now.runs) }
+    ensures err { OnErr result (out.new.items ≡ out.old.items) }
+{
+    let outcome = shown(asked, value);
+    let line = asked_bytes(alloc, name, &outcome, asked.mark, asked.runs, namer)?;
+    out.extend_from_slice(line.as_slice())
+}
+
+// What the answer shows.
+fn shown(asked: &Asked, value: Option<&Value>) -> Result<Value, Cause>
+    requires given { (outcome : Outcome) × Shows asked.now.cause (option_copied value) outcome }
+    ensures { (outcome : Outcome) → Shows asked.now.cause (option_copied value.entry) outcome → outcome ≡ result }
+{
+    match (&asked.cause, value) {
+        (Some(cause), _) => Err(*cause),
+        (None, Some(value)) => Ok(*value),
+        (None, None) => unreachable!(),
+    }
+}
+
+// The line in a vector of its own.
+#[tactic(auto, unfolding(crate::specs::Line::asked_line))]
+fn asked_bytes(
+    alloc: Global,
+    name: NameId,
+    outcome: &Result<Value, Cause>,
+    mark: Mark,
+    runs: u64,
+    namer: &Namer<'_>,
+) -> Result<Vec<u8>, AllocError>
+    ensures { IfOk result (λ line. line.items
+        ≡ asked_line namer.now.names.now namer.now.of_object.now name outcome.now mark runs) }
+{
+    let mut line = Vec::new(alloc);
+    line.extend_from_slice(namer.name(name))?;
+    line.extend_from_slice(b" ")?;
+    push_answer(alloc, outcome, mark, namer, &mut line)?;
+    push_count(alloc, runs, &mut line)?;
+    line.extend_from_slice(b"\n")?;
+    Ok(line)
+}
+
+// Appends an amount and the mark, or the cause.
+fn push_answer(
+    alloc: Global,
+    outcome: &Result<Value, Cause>,
+    mark: Mark,
+    namer: &Namer<'_>,
+    line: &mut Vec<u8>,
+) -> Result<(), AllocError>
+    ensures { OnOk result (line.new.items
+        ≡ line.old.items ++ answer_text namer.now.names.now namer.now.of_object.now outcome.now mark) }
+{
+    match outcome {
+        Ok(Value::Money(amount)) => {
+            print_decimal(alloc, amount.units(), MONEY_PLACES, line)?;
+            line.extend_from_slice(b" ")?;
+            line.extend_from_slice(mark.word())
+        }
+        Err(cause) => {
+            line.extend_from_slice(b"refused ")?;
+            push_cause(alloc, cause, namer, line)
+        }
+    }
+}

@@ -1,0 +1,62 @@
+// The text of a cause.
+ghost use Rattle.std.specs.Prelude.{◌≡◌, ◌++◌, OnOk, codes, decimal};
+ghost use Rattle.day_number.specs.Day.{day_text};
+ghost use Rattle.price_report.specs.Line.{cause_detail, cause_text};
+
+use crate::Namer;
+use day_number::{Day, print_day};
+use desk_terms::Cause;
+use std::alloc::{AllocError, Global};
+
+// Appends a cause: its word, the name of its object, and the rest.
+pub(crate) fn push_cause(
+    alloc: Global,
+    cause: &Cause,
+    namer: &Namer<'_>,
+    line: &mut Vec<u8>,
+) -> Result<(), AllocError>
+    ensures { OnOk result (line.new.items
+        ≡ line.old.items ++ cause_text namer.now.names.now namer.now.of_object.now cause.now) }
+{
+    line.extend_from_slice(cause.word())?;
+    line.extend_from_slice(b" ")?;
+    line.extend_from_slice(namer.object(cause.object()))?;
+    push_detail(alloc, cause, line)
+}
+
+// Appends the day or the count that a cause names behind its object.
+fn push_detail(alloc: Global, cause: &Cause, line: &mut Vec<u8>) -> Result<(), AllocError>
+    ensures { OnOk result (line.new.items ≡ line.old.items ++ cause_detail cause.now) }
+{
+    match cause {
+        Cause::NoFixing(_, day) | Cause::Before(_, day) | Cause::Past(_, day) => {
+            push_day(alloc, *day, line)
+        }
+        Cause::Pillar(_, at) | Cause::Discount(_, at) | Cause::Negative(_, at) => {
+            push_count(alloc, u64::from(*at), line)
+        }
+        Cause::Unset(_)
+        | Cause::Empty(_)
+        | Cause::NoEngine(_)
+        | Cause::RateRange(_)
+        | Cause::DateRange(_)
+        | Cause::TooLarge(_)
+        | Cause::Unpriced(_) => Ok(()),
+    }
+}
+
+// Appends a space and a day.
+fn push_day(alloc: Global, day: Day, line: &mut Vec<u8>) -> Result<(), AllocError>
+    ensures { OnOk result (line.new.items ≡ line.old.items ++ (codes " " ++ day_text day)) }
+{
+    line.extend_from_slice(b" ")?;
+    print_day(alloc, day, line)
+}
+
+// Appends a space and a count.
+pub(crate) fn push_count(alloc: Global, count: u64, line: &mut Vec<u8>) -> Result<(), AllocError>
+    ensures { OnOk result (line.new.items ≡ line.old.items ++ (codes " " ++ decimal count)) }
+{
+    line.extend_from_slice(b" ")?;
+    line.extend_from_slice(format!(in alloc; "{count}")?.as_bytes())
+}

@@ -1,0 +1,3 @@
+pub mod HasNames
+pub mod Steps
+pub mod Rows

@@ -1,0 +1,4 @@
+pub mod Standing
+pub mod Refused
+pub mod Turn
+pub mod Transcript

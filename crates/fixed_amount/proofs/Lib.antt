@@ -1,7 +1,9 @@
 pub mod Rows
 pub mod Rounded
+pub mod Steps
 pub mod Digits
 pub mod Ranges
 pub mod Reading
 pub mod DecimalLaws
 pub mod Printed
+pub mod Exact

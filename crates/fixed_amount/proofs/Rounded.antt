@@ -58,7 +58,7 @@ up_size a d hd =
     ]
 
 -- the size of a quotient rounded to the nearest
-closest_size : (a d : ℕ) → 0 < d → let size = a / d + (if nat_le d (2 * (a % d)) then 1 else 0) in (size ≤ a) × (2 * (size * d) ≤ 2 * a + d) × (2 * a < 2 * (size * d) + d)
+pub closest_size : (a d : ℕ) → 0 < d → let size = a / d + (if nat_le d (2 * (a % d)) then 1 else 0) in (size ≤ a) × (2 * (size * d) ≤ 2 * a + d) × (2 * a < 2 * (size * d) + d)
 closest_size a d hd =
     let parts = div-add-mod' a d in
     let whole = le-mul_of_pos_right (a / d) hd in

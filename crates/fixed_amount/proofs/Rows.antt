@@ -1,5 +1,5 @@
 -- Worked rows, computed from outside the program, that the definitions give.
-use Rattle.std.proofs.Common.{◌≡◌, pos, negsuc, neg_ℤ, ◌^◌, Ok, Err, codes, refl}
+use Rattle.std.proofs.Common.{◌≡◌, pos, negsuc, neg_ℤ, ◌^◌, ◌-◌, Ok, Err, codes, refl}
 use Rattle.std.specs.Fmt.{digits}
 use Rattle.fixed_amount.specs.declared.decimal.DecimalFault.TheVariants.{Empty, Char, Places, Range}
 use Rattle.fixed_amount.specs.declared.quotient.Rounding.TheVariants.{Down, Up, Closest}
@@ -27,6 +27,12 @@ up_minus = refl
 
 up_exact : rounded Up (pos 6) 3 ≡ pos 2
 up_exact = refl
+
+closest_least : rounded Closest (neg_ℤ (pos (2 ^ 127))) 3 ≡ neg_ℤ (pos 56713727820156410577229101238628035243)
+closest_least = refl
+
+closest_greatest : rounded Closest (pos (2 ^ 127 - 1)) 2 ≡ pos 85070591730234615865843651857942052864
+closest_greatest = refl
 
 -- decimals read
 value_nine : decimal_value (codes "1.50") 9 ≡ Ok (pos 1500000000)
@@ -94,3 +100,7 @@ text_whole = refl
 text_zero : decimal_text (pos 0) 2 ≡ codes "0.00"
 unfolding decimal_text digits
 text_zero = refl
+
+text_least : decimal_text (neg_ℤ (pos (2 ^ 127))) 18 ≡ codes "-170141183460469231731.687303715884105728"
+unfolding decimal_text digits
+text_least = refl

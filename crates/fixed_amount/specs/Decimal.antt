@@ -1,5 +1,5 @@
 -- Decimal text: an optional `-`, one or more digits, and optionally a `.` with one or more digits.
-use Rattle.std.specs.Prelude.{◌≡◌, ℕ, zero, suc, ◌+◌, ◌-◌, ◌*◌, ◌/◌, ◌%◌, ◌^◌, ◌<◌, ◌≤◌, Bool, true, false, ◌&&◌, List, [], ◌∷◌, ◌++◌, length, take, drop, ℤ, pos, neg_ℤ, ◌≤ℤ◌, ◌<ℤ◌, unsigned_abs, int_le, int_lt, nat_lt, ◌==◌, if◌then◌else◌, decimal, Result, Ok, Err, ◌⊎◌}
+use Rattle.std.specs.Prelude.{◌≡◌, ◌≢◌, ℕ, zero, suc, ◌+◌, ◌-◌, ◌*◌, ◌/◌, ◌%◌, ◌^◌, ◌<◌, ◌≤◌, Bool, true, false, ◌&&◌, List, [], ◌∷◌, ◌++◌, length, slice_index, take, drop, ℤ, pos, neg_ℤ, ◌≤ℤ◌, ◌<ℤ◌, unsigned_abs, int_le, int_lt, nat_lt, ◌==◌, if◌then◌else◌, decimal, Result, Ok, Err, ◌⊎◌}
 use Rattle.std.specs.Char.{is_ascii_digit}
 use Rattle.std.specs.Int.{is_negative}
 use Rattle.std.specs.Fmt.{sign_text}
@@ -133,3 +133,14 @@ last_digits (suc count) n = last_digits count (n / 10) ++ (48 + n % 10) ∷ []
 unfoldable pub decimal_text : ℤ → ℕ → List ℕ
 decimal_text units places = sign_text (is_negative units)
     ++ (decimal (unsigned_abs units / 10 ^ places) ++ point_text (last_digits places (unsigned_abs units)))
+
+-- the text is the decimal of units / 10^places with exactly so many digits behind the point, no `0` before another whole digit and no sign before zero (this project's profile)
+pub record IsExactDecimal (text : List ℕ) (units : ℤ) (places : ℕ) : Type 0 where
+  pub negative : Bool
+  pub whole : List ℕ
+  pub fraction : List ℕ
+  pub shape : IsDecimal text negative whole fraction
+  pub exact : length fraction ≡ places
+  pub no_surplus_zero : slice_index whole 0 ≡ 48 → length whole ≡ 1
+  pub no_signed_zero : negative ≡ true → units ≢ pos 0
+  pub value : units ≡ units_of negative whole fraction places

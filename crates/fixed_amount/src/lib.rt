@@ -1,7 +1,8 @@
 //! Fixed-point numbers: rates, amounts and discount factors as whole numbers of a unit, one rounded quotient, and
 //! decimal text read and printed exactly.
 //!
-//! `Rate`, `Amount`, `Discount`; `Rounding`, `div_round`; `read_decimal`, `DecimalFault`, `print_decimal`.
+//! `Rate`, `Amount`, `Discount`; `Rounding`, `div_round`; `read_decimal`, `DecimalFault`, `print_decimal`. Functions
+//! whose names end in `law` do nothing: their contracts are what is proved of the definitions.
 #![tactic(auto)]
 
 mod decimal;
@@ -9,12 +10,10 @@ mod power;
 mod print;
 mod quotient;
 mod read;
-#[cfg(test)]
-mod tests;
 mod units;
 
 pub use decimal::DecimalFault;
-pub use print::print_decimal;
-pub use quotient::{Rounding, div_round};
-pub use read::read_decimal;
+pub use print::{exact_decimal_law, print_decimal, round_trip_law};
+pub use quotient::{Rounding, closest_steps_law, div_round, rounding_law};
+pub use read::{read_decimal, reading_law};
 pub use units::{Amount, Discount, Rate};

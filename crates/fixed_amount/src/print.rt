@@ -1,7 +1,7 @@
 // Whole numbers of units printed as decimal text.
-ghost use Rattle.std.specs.Prelude.{◌≡◌, ℕ, ℤ, pos, neg_ℤ, ◌≤ℤ◌, ◌<ℤ◌, Ok, ◌/◌, ◌%◌, ◌+◌, ◌^◌, ◌≤◌, ◌++◌, OnOk, OnErr, IfOk};
+ghost use Rattle.std.specs.Prelude.{◌≡◌, ℕ, ℤ, pos, neg_ℤ, ◌≤ℤ◌, ◌<ℤ◌, Ok, ◌/◌, ◌%◌, ◌+◌, ◌^◌, ◌≤◌, ◌++◌, ◌↔◌, List, unsigned_abs, OnOk, OnErr, IfOk};
 ghost use Rattle.std.specs.Fmt.{sign_text};
-ghost use Rattle.fixed_amount.specs.Decimal.{decimal_value, decimal_text, last_digits, point_text};
+ghost use Rattle.fixed_amount.specs.Decimal.{IsExactDecimal, decimal_value, decimal_text, last_digits, point_text};
 
 use crate::power::power_of_ten;
 use std::alloc::{AllocError, Global};
@@ -79,8 +79,15 @@ fn digit_at(number: u128, place: u8) -> u8
     b'0' + (number / power_of_ten(place) as u128 % 10) as u8
 }
 
-// Law: what is printed of a number of 64 bits is read back as that number.
-fn round_trip_law()
+/// Law: what is printed of a number of 64 bits is read back as that number.
+pub fn round_trip_law()
     ensures { (units : ℤ) (places : ℕ) → neg_ℤ (pos (2 ^ 63)) ≤ℤ units → units <ℤ pos (2 ^ 63)
         → decimal_value (decimal_text units places) places ≡ Ok units }
+{}
+
+/// Law: of every number of 128 bits the text that is printed is a decimal with exactly so many places, no surplus zero,
+/// no sign before zero and that value, and no other text is.
+pub fn exact_decimal_law()
+    ensures { (text : List ℕ) (units : ℤ) (places : ℕ) → unsigned_abs units ≤ 2 ^ 127
+        → (text ≡ decimal_text units places) ↔ IsExactDecimal text units places }
 {}

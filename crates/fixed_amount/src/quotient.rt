@@ -1,5 +1,5 @@
 // One rounded quotient of whole numbers.
-ghost use Rattle.std.specs.Prelude.{◌≡◌, ℕ, ◌≤◌, ℤ, pos, ◌≤ℤ◌, unsigned_abs};
+ghost use Rattle.std.specs.Prelude.{◌≡◌, ℕ, ◌≤◌, ℤ, pos, ◌≤ℤ◌, ◌+◌, ◌+ℤ◌, ◌*ℤ◌, unsigned_abs};
 ghost use Rattle.fixed_amount.specs.Rounding.{rounded, down, up, closest, IsDown, IsUp, IsClosest};
 
 /// How a quotient becomes a whole number: towards zero, away from zero, or to the nearest, a half away from zero
@@ -42,10 +42,19 @@ fn rounded_size(num: u128, den: u128, how: Rounding) -> u128
     if more { whole + 1 } else { whole }
 }
 
-// Law: each rounding in its own words, and the nearest quotient never exceeds its numerator.
-fn rounding_law()
+/// Law: each rounding in its own words, and the nearest quotient never exceeds its numerator.
+pub fn rounding_law()
     ensures down { (n : ℤ) (d : ℕ) → 1 ≤ d → IsDown n d (down n d) }
     ensures up { (n : ℤ) (d : ℕ) → 1 ≤ d → IsUp n d (up n d) }
     ensures closest { (n : ℤ) (d : ℕ) → 1 ≤ d → IsClosest n d (closest n d) }
     ensures bound { (n : ℤ) (d : ℕ) → 1 ≤ d → unsigned_abs (closest n d) ≤ unsigned_abs n }
+{}
+
+/// Law: a numerator from zero on that grows by at most the divisor moves the nearest quotient up by 0 or 1, and a
+/// quotient between two whole numbers stays between them when it is rounded to the nearest.
+pub fn closest_steps_law()
+    ensures rises { (n d u : ℕ) → 1 ≤ d → closest (pos n) d ≤ℤ closest (pos (n + u)) d }
+    ensures by_one { (n d u : ℕ) → 1 ≤ d → u ≤ d → closest (pos (n + u)) d ≤ℤ (closest (pos n) d +ℤ pos 1) }
+    ensures from { (n low : ℤ) (d : ℕ) → 1 ≤ d → (low *ℤ pos d) ≤ℤ n → low ≤ℤ closest n d }
+    ensures to { (n high : ℤ) (d : ℕ) → 1 ≤ d → n ≤ℤ (high *ℤ pos d) → closest n d ≤ℤ high }
 {}

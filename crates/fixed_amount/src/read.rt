@@ -141,8 +141,8 @@ fn capped_number(digits: &[u8]) -> u64
     number
 }
 
-// Law: what `decimal_value` answers, by the grammar. Each answer comes exactly where the text is of its kind.
-fn reading_law()
+/// Law: what `decimal_value` answers, by the grammar. Each answer comes exactly where the text is of its kind.
+pub fn reading_law()
     ensures value { (text : List ℕ) (places : ℕ) (units : ℤ)
         → (decimal_value text places ≡ Ok units) ↔ WritesUnits text places units }
     ensures empty { (text : List ℕ) (places : ℕ)

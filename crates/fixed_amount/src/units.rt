@@ -1,5 +1,5 @@
 // The three fixed-point types. A clause sees each as the whole number of its units.
-ghost use Rattle.std.specs.Prelude.{◌≡◌};
+ghost use Rattle.std.specs.Prelude.{◌≡◌, ◌*◌, ◌^◌, pos, ◌≤ℤ◌};
 
 use std::marker::Model;
 
@@ -67,4 +67,15 @@ impl Model for Discount {
     ghost invariant = { λ d. (pos 1 ≤ℤ d.0) × (d.0 ≤ℤ pos (4 * 10 ^ 12)) };
 
     ghost inverse = { λ units. record { 0 = units } };
+}
+
+impl Discount {
+    /// How many units it is.
+    pub fn units(self) -> i64
+        ensures value { result ≡ self }
+        ensures low { pos 1 ≤ℤ result }
+        ensures high { result ≤ℤ pos (4 * 10 ^ 12) }
+    {
+        self.0
+    }
 }

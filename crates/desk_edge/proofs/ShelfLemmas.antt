@@ -3,7 +3,7 @@ use Rattle.std.proofs.Common.{◌≡◌, ◌∙◌, ap, sym, subst, refl, ℕ, �
 use Rattle.std.specs.Prelude.{IfSome}
 use Rattle.std.specs.Option.{option_map}
 use Rattle.std.proofs.Math.Seq.{drop-append-add}
-use Rattle.desk_edge.specs.Shelf.{Contents, file_at, bytes_at, files_of, begun, passed, put_back, IsFront, Reads, Leaves}
+use Rattle.desk_edge.specs.Shelf.{Contents, file_at, bytes_at, files_of, begun, passed, put_back, Took, IsFront, Reads, Leaves}
 use Rattle.desk_edge.specs.declared.reading.ReadFault.{ReadFault}
 use Rattle.desk_edge.specs.declared.reading.ReadFault.TheVariants.{Failed, TooLong, NoMemory}
 
@@ -67,3 +67,20 @@ leaves_fault TooLong path (Some c) mid (Some d) is files long =
     let l = subst (λ (o : Option Contents). IfSome o (λ e. (8388608 < length e.rest) × (Some d ≡ Some (passed 8388609 e)))) is (long refl) in
     let same : d ≡ passed 8388609 (begun path c) = cc in
     subst (Leaves path (Err TooLong)) (sym same) refl
+
+-- no byte was taken
+pub passed_none : (told : Option Contents) → told ≡ option_map (passed 0) told
+passed_none None = refl
+passed_none (Some c) = refl
+
+-- so many bytes were taken after those of out
+pub passed_back : (out : List ℕ) (count : ℕ) (mid start new : Option Contents) → put_back out mid ≡ start → new ≡ option_map (passed count) mid
+    → new ≡ option_map (passed (length out + count)) start
+passed_back out count None start new is moved = moved ∙ ap (option_map (passed (length out + count))) is
+passed_back out count (Some c) start new is moved =
+    moved ∙ ap (λ (l : List ℕ). Some (record c { rest = l })) (sym (drop-append-add out c.rest count)) ∙ ap (option_map (passed (length out + count))) is
+
+-- of the file that was begun
+pub took : (count : ℕ) (path : List ℕ) (told mid new : Option Contents) → mid ≡ option_map (begun path) told → new ≡ option_map (passed count) mid → Took count path told new
+took count path None mid new is moved = moved ∙ ap (option_map (passed count)) is
+took count path (Some c) mid new is moved = moved ∙ ap (option_map (passed count)) is

@@ -12,8 +12,3 @@ raised count = min (count + 1) last_count
 -- the count rose from one moment to a later one, or stands at its last value (this project's profile)
 abbrev pub Rose : ℕ → ℕ → Type 0
 Rose before now = (before < now) ⊎ (last_count ≤ now)
-
--- the counts of a shelf that tells no more (this project's profile)
-pub record Counts : Type 0 where
-  pub faults : ℕ
-  pub misses : ℕ

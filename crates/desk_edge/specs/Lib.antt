@@ -1,7 +1,9 @@
 pub mod CallList
 pub mod Count
 pub mod FileList
+pub mod FileShelf
 pub mod MemoryShelf
 pub mod MemorySink
+pub mod OutSink
 pub mod Shelf
 pub mod Sink

@@ -1,5 +1,5 @@
 -- What a shelf of files holds, where it tells that, and what its calls make of it.
-use Rattle.std.specs.Prelude.{◌≡◌, ◌+◌, ◌<◌, ◌≤◌, ℕ, Bool, true, false, List, [], ◌∷◌, ◌++◌, length, take, drop, unwrap_or, if◌then◌else◌, Option, None, Some, Result, Ok, Err}
+use Rattle.std.specs.Prelude.{◌≡◌, ◌+◌, ◌<◌, ℕ, Bool, true, false, List, [], ◌∷◌, ◌++◌, length, take, drop, unwrap_or, if◌then◌else◌, Option, None, Some, Result, Ok, Err}
 use Rattle.std.specs.Option.{option_map}
 use Rattle.std.specs.Str.{bytes_eq}
 use Rattle.desk_edge.specs.declared.reading.ReadFault.{ReadFault}
@@ -35,11 +35,9 @@ passed count c = record c { rest = drop count c.rest }
 abbrev pub put_back : List ℕ → Option Contents → Option Contents
 put_back bytes told = option_map (λ (c : Contents). record c { rest = bytes ++ c.rest }) told
 
--- where the contents are told before and after, no more bytes than these were taken of what was left
-abbrev pub TakesAtMost : ℕ → Option Contents → Option Contents → Type 0
-TakesAtMost count None new = Unit {0}
-TakesAtMost count (Some old) None = Unit {0}
-TakesAtMost count (Some old) (Some new) = length old.rest ≤ length new.rest + count
+-- the file with this path was begun, and so many bytes of it were taken
+abbrev pub Took : ℕ → List ℕ → Option Contents → Option Contents → Type 0
+Took count path old new = new ≡ option_map (λ (c : Contents). passed count (begun path c)) old
 
 -- these bytes are the first of those
 abbrev pub IsFront : List ℕ → List ℕ → Type 0

@@ -1,30 +1,36 @@
 // A shelf of the system's files.
-ghost use Rattle.std.specs.Prelude.{◌≡◌, None};
+ghost use Rattle.std.specs.Prelude.{◌≡◌, ◌≤◌, None, Ok, length, IfOk, IfSome, OnErr};
+ghost use Rattle.std.specs.Io.KnownBytes.{Keeps, ReadConsumes};
+ghost use Rattle.desk_edge.specs.Count.{raised};
+ghost use Rattle.desk_edge.specs.FileShelf.{IsFound};
 
+use crate::begun::Begun;
 use crate::count::one_more;
 use crate::{Failed, Shelf};
 use std::fs;
-use std::io::{ErrorKind, Read};
+use std::io::ErrorKind;
 use std::marker::Model;
 use std::rt::Files;
 
 /// The system's files, each read from its first byte on. Contracts see its counts of faults and of
-/// misses, and no bytes. A folder, a path through a file and a path with a zero byte are faults, and
-/// an empty path is not found.
+/// misses, whether a file is begun, and what its reader has left, where it tells that; and no bytes by
+/// path. A folder, a path through a file and a path with a zero byte are faults, and an empty path is
+/// not found.
 #[derive(Drop)]
 pub struct FileShelf<R: Files + Drop> {
     files: R,
-    begun: Option<R::File>,
+    begun: Begun<R::File>,
     faults: u64,
     misses: u64,
 }
 
 impl<R: Files + Drop> Model for FileShelf<R> {
-    ghost use Rattle.desk_edge.specs.Count.{Counts};
+    ghost use Rattle.desk_edge.specs.FileShelf.{FilesState};
 
-    ghost Value = { Counts };
+    ghost Value = { FilesState };
 
     ghost view = { λ s. record {
+      begun = s.begun;
       faults = s.faults;
       misses = s.misses;
     } };
@@ -34,31 +40,29 @@ impl<R: Files + Drop> FileShelf<R> {
     /// A shelf of the files that this handle reaches, none of them begun.
     pub fn new(files: R) -> FileShelf<R>
         ensures { result ≡ record {
+          begun = None;
           faults = 0;
           misses = 0;
         } }
     {
         FileShelf {
             files,
-            begun: None,
+            begun: Begun::none(),
             faults: 0,
             misses: 0,
         }
     }
-}
 
-impl<R: Files + Drop> Shelf for FileShelf<R> {
-    ghost contents = { λ _. None };
-
-    ghost faults = { λ s. s.faults };
-
-    ghost misses = { λ s. s.misses };
-
-    fn find(&mut self, path: &str) -> Result<bool, Failed> {
-        self.begun = None;
+    /// As `Shelf::find`. After a miss or a fault no file is begun.
+    pub fn find(&mut self, path: &str) -> Result<bool, Failed>
+        ensures found { IsFound result self.old self.new }
+        ensures faults { self.old.faults ≤ self.new.faults }
+        ensures misses { self.old.misses ≤ self.new.misses }
+    {
+        self.begun = Begun::none();
         match fs::open(&self.files, path) {
             Ok(file) => {
-                self.begun = Some(file);
+                self.begun = Begun::of(file);
                 Ok(true)
             }
             Err(error) if error.kind() == ErrorKind::NotFound => {
@@ -72,16 +76,38 @@ impl<R: Files + Drop> Shelf for FileShelf<R> {
         }
     }
 
-    fn take(&mut self, buf: &mut [u8]) -> Result<usize, Failed> {
-        let Some(file) = &mut self.begun else {
-            return Ok(0);
-        };
-        match file.read(buf) {
+    /// As `Shelf::take`. Where the reader of the file begun tells what it has left, the bytes are those
+    /// that it loses, 0 means that none is left, and after a fault it has what it had.
+    pub fn take(&mut self, buf: &mut [u8]) -> Result<usize, Failed>
+        ensures within { IfOk result (λ count. count ≤ length buf.old) }
+        ensures none { self.old.begun ≡ None → (result ≡ Ok 0) × (self.new ≡ self.old) }
+        ensures bytes { IfSome self.old.begun (λ old. IfSome self.new.begun (λ new. ReadConsumes old new result buf.new)) }
+        ensures failed { OnErr result (self.new.faults ≡ raised self.old.faults) }
+        ensures faults { self.old.faults ≤ self.new.faults }
+        ensures misses { self.new.misses ≡ self.old.misses }
+    {
+        match self.begun.read(buf) {
             Ok(count) => Ok(count),
             Err(_) => {
                 self.faults = one_more(self.faults);
                 Err(Failed)
             }
         }
+    }
+}
+
+impl<R: Files + Drop> Shelf for FileShelf<R> {
+    ghost contents = { λ _. None };
+
+    ghost faults = { λ s. s.faults };
+
+    ghost misses = { λ s. s.misses };
+
+    fn find(&mut self, path: &str) -> Result<bool, Failed> {
+        FileShelf::find(self, path)
+    }
+
+    fn take(&mut self, buf: &mut [u8]) -> Result<usize, Failed> {
+        FileShelf::take(self, buf)
     }
 }

@@ -5,6 +5,7 @@
 //! `MemoryFile`, `FileList`, `CallList`, `MemoryShelf`, `MemorySink`, `FileShelf` and `OutSink`.
 #![tactic(auto)]
 
+mod begun;
 mod count;
 mod file_shelf;
 mod lists;

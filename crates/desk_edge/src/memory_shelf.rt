@@ -3,6 +3,7 @@ ghost use Rattle.std.specs.Prelude.{◌≡◌, ◌≤◌, Some, [], length, take
 ghost use Rattle.desk_edge.specs.MemoryShelf.{find_answer, after_find, take_answer, after_take};
 
 use crate::count::one_more;
+use crate::lists::{bytes_at, has_call, place_of};
 use crate::{CallList, Failed, FileList, Shelf};
 use std::marker::Model;
 
@@ -66,6 +67,27 @@ impl MemoryShelf {
         }
     }
 
+    /// How many calls were made.
+    pub fn calls(&self) -> u64
+        ensures { result ≡ self.now.calls }
+    {
+        self.calls
+    }
+
+    /// How many calls failed.
+    pub fn faults(&self) -> u64
+        ensures { result ≡ self.now.faults }
+    {
+        self.faults
+    }
+
+    /// How many times no file had the path.
+    pub fn misses(&self) -> u64
+        ensures { result ≡ self.now.misses }
+    {
+        self.misses
+    }
+
     /// As `Shelf::find`. It fails exactly where its number is listed.
     pub fn find(&mut self, path: &str) -> Result<bool, Failed>
         ensures answer { result ≡ find_answer self.old path.now }
@@ -74,11 +96,11 @@ impl MemoryShelf {
         ensures misses { self.old.misses ≤ self.new.misses }
     {
         self.calls = one_more(self.calls);
-        if self.fails.lists(self.calls) {
+        if has_call(&self.fails, self.calls) {
             self.faults = one_more(self.faults);
             return Err(Failed);
         }
-        self.at = self.files.position(path);
+        self.at = place_of(&self.files, path);
         self.place = 0;
         let found = self.at < self.files.len();
         if !found {
@@ -96,11 +118,11 @@ impl MemoryShelf {
         ensures some { 1 ≤ self.old.most }
     {
         self.calls = one_more(self.calls);
-        if self.fails.lists(self.calls) {
+        if has_call(&self.fails, self.calls) {
             self.faults = one_more(self.faults);
             return Err(Failed);
         }
-        let (_, rest) = self.files.bytes(self.at).split_at(self.place);
+        let (_, rest) = bytes_at(&self.files, self.at).split_at(self.place);
         let count = buf.len().min(self.most).min(rest.len());
         buf[..count].copy_from_slice(&rest[..count]);
         self.place += count;

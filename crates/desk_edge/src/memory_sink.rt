@@ -3,6 +3,7 @@ ghost use Rattle.std.specs.Prelude.{◌≡◌, ◌≤◌, Some, [], IfOk};
 ghost use Rattle.desk_edge.specs.MemorySink.{put_answer, after_put};
 
 use crate::count::one_more;
+use crate::lists::has_call;
 use crate::{CallList, Failed, Sink};
 use std::alloc::{AllocError, Global};
 use std::marker::Model;
@@ -75,6 +76,20 @@ impl MemorySink {
         self.bytes.as_slice()
     }
 
+    /// How many calls were made.
+    pub fn calls(&self) -> u64
+        ensures { result ≡ self.now.calls }
+    {
+        self.calls
+    }
+
+    /// How many calls failed.
+    pub fn faults(&self) -> u64
+        ensures { result ≡ self.now.faults }
+    {
+        self.faults
+    }
+
     /// As `Sink::put`. It fails exactly where its number is listed, or the piece is not empty and the
     /// room is used up.
     pub fn put(&mut self, piece: &[u8]) -> Result<usize, Failed>
@@ -85,7 +100,7 @@ impl MemorySink {
     {
         self.calls = one_more(self.calls);
         let left = self.room - self.bytes.len();
-        if self.fails.lists(self.calls) || (!piece.is_empty() && left == 0) {
+        if has_call(&self.fails, self.calls) || (!piece.is_empty() && left == 0) {
             self.faults = one_more(self.faults);
             return Err(Failed);
         }

@@ -1,6 +1,7 @@
 // A sink over a writer.
+ghost use Rattle.std.specs.Prelude.{◌≡◌, ◌≤◌, ℕ, None, [], length, take, IfOk, OnErr};
 ghost use Rattle.std.specs.Io.KnownBytes.{Appends};
-ghost use Rattle.std.specs.Prelude.{◌≡◌, ◌≤◌, None, [], length, take, IfOk};
+ghost use Rattle.desk_edge.specs.Count.{raised};
 
 use crate::count::one_more;
 use crate::{Failed, Sink};
@@ -8,8 +9,8 @@ use std::io;
 use std::io::{Error, ErrorKind, Write};
 use std::marker::Model;
 
-/// A writer, such as standard output, that is flushed at each put. Contracts see its count of
-/// faults, and no bytes.
+/// A writer, such as standard output, that is flushed at each put. Contracts see its count of faults,
+/// and what the writer holds, where it tells that. As a `Sink` it tells no bytes.
 #[derive(Drop)]
 pub struct OutSink<W: Write + Drop> {
     writer: W,
@@ -17,27 +18,37 @@ pub struct OutSink<W: Write + Drop> {
 }
 
 impl<W: Write + Drop> Model for OutSink<W> {
-    ghost use Rattle.std.specs.Prelude.{ℕ};
+    ghost use Rattle.desk_edge.specs.OutSink.{WriterState};
 
-    ghost Value = { ℕ };
+    ghost Value = { WriterState };
 
-    ghost view = { λ s. s.faults };
+    ghost view = { λ s. record {
+      written = W.contents s.writer;
+      faults = s.faults;
+    } };
 }
 
 impl<W: Write + Drop> OutSink<W> {
     pub fn new(writer: W) -> OutSink<W>
-        ensures { result ≡ 0 }
+        ensures { result ≡ record {
+          written = W.contents writer;
+          faults = 0;
+        } }
     {
         OutSink { writer, faults: 0 }
     }
-}
 
-impl<W: Write + Drop> Sink for OutSink<W> {
-    ghost bytes = { λ _. None };
-
-    ghost faults = { λ s. s };
-
-    fn put(&mut self, piece: &[u8]) -> Result<usize, Failed> {
+    /// As `Sink::put`. Where the writer tells what it holds, it has the bytes that are answered, after a
+    /// fault a front of the piece, and nothing else.
+    pub fn put(&mut self, piece: &[u8]) -> Result<usize, Failed>
+        ensures within { IfOk result (λ count. count ≤ length piece.now) }
+        ensures some { IfOk result (λ count. count ≡ 0 → piece.now ≡ []) }
+        ensures bytes { IfOk result (λ count. Appends self.old.written self.new.written (take count piece.now)) }
+        ensures front { OnErr result ((count : ℕ) × Appends self.old.written self.new.written (take count piece.now)) }
+        ensures quiet { IfOk result (λ _. self.new.faults ≡ self.old.faults) }
+        ensures failed { OnErr result (self.new.faults ≡ raised self.old.faults) }
+        ensures faults { self.old.faults ≤ self.new.faults }
+    {
         match write_through(&mut self.writer, piece) {
             Ok(count) => Ok(count),
             Err(_) => {
@@ -48,12 +59,23 @@ impl<W: Write + Drop> Sink for OutSink<W> {
     }
 }
 
+impl<W: Write + Drop> Sink for OutSink<W> {
+    ghost bytes = { λ _. None };
+
+    ghost faults = { λ s. s.faults };
+
+    fn put(&mut self, piece: &[u8]) -> Result<usize, Failed> {
+        OutSink::put(self, piece)
+    }
+}
+
 // Writes the first bytes of the piece, and has the writer hand them on. A write of nothing is an error.
 fn write_through<W: Write>(writer: &mut W, piece: &[u8]) -> io::Result<usize>
     ensures within { IfOk result (λ count. count ≤ length piece.now) }
     ensures some { IfOk result (λ count. count ≡ 0 → piece.now ≡ []) }
     ensures bytes { IfOk result (λ count.
         Appends (W.contents writer.old) (W.contents writer.new) (take count piece.now)) }
+    ensures front { OnErr result ((count : ℕ) × Appends (W.contents writer.old) (W.contents writer.new) (take count piece.now)) }
 {
     let count = writer.write(piece)?;
     if count == 0 && !piece.is_empty() {

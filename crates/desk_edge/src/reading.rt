@@ -1,8 +1,9 @@
 // The read of a whole file.
-ghost use Rattle.std.specs.Prelude.{◌≡◌, ◌+◌, ◌-◌, ◌<◌, ◌≤◌, true, false, [], length, IfOk, IfSome, OnOk, OnErr, IsErrOf};
+ghost use Rattle.std.specs.Prelude.{◌≡◌, ◌⊎◌, ◌+◌, ◌-◌, ◌<◌, ◌≤◌, ℕ, true, false, [], length, IfOk, IfSome, OnOk, OnErr, IsErrOf};
+ghost use Rattle.std.specs.Option.{option_map};
 ghost use Rattle.desk_edge.specs.Count.{Rose};
 ghost use Rattle.desk_edge.specs.declared.reading.ReadFault.TheVariants.{Failed as ReadFailed, NoMemory};
-ghost use Rattle.desk_edge.specs.Shelf.{files_of, passed, put_back, TakesAtMost, IsFront, Reads, Leaves};
+ghost use Rattle.desk_edge.specs.Shelf.{files_of, passed, put_back, Took, IsFront, Reads, Leaves};
 
 use crate::{Failed, Shelf};
 use std::alloc::AllocError;
@@ -45,13 +46,20 @@ impl From<AllocError> for ReadFault {
 
 /// Reads the file with this path to its end into out. Ok(false): there is none. A file of `MOST`
 /// bytes is read, and of a longer one `MOST` + 1 bytes are taken. After a fault out holds the front
-/// of the file.
+/// of the file. However it ends, at most `MOST` + 1 bytes are taken of the file that `find` began.
 pub fn read_whole<H: Shelf>(shelf: &mut H, path: &str, out: &mut Vec<u8>) -> Result<bool, ReadFault>
     requires { out.old.items ≡ [] }
     ensures files { files_of (H.contents shelf.new) ≡ files_of (H.contents shelf.old) }
     ensures reads { IfSome (files_of (H.contents shelf.old))
         (λ files. Reads files path.now result out.new.items) }
     ensures taken { IfSome (H.contents shelf.new) (Leaves path.now result) }
+    // On every exit: find failed, or it began the file and so many bytes of it were taken.
+    ensures few { (H.contents shelf.new ≡ H.contents shelf.old)
+        ⊎ ((count : ℕ) × (count ≤ MOST + 1) × Took count path.now (H.contents shelf.old) (H.contents shelf.new)) }
+    ensures stops { IsErrOf result ReadFault.Failed → (H.contents shelf.new ≡ H.contents shelf.old)
+        ⊎ Took (length out.new.items) path.now (H.contents shelf.old) (H.contents shelf.new) }
+    ensures halts { IsErrOf result ReadFault.NoMemory → (count : ℕ) × (count ≤ PIECE)
+        × Took (length out.new.items + count) path.now (H.contents shelf.old) (H.contents shelf.new) }
     ensures most { length out.new.items ≤ MOST }
     ensures nothing { result ≡ Ok false → out.new.items ≡ [] }
     ensures missed { result ≡ Ok false → Rose (H.misses shelf.old) (H.misses shelf.new) }
@@ -75,7 +83,12 @@ fn read_begun<H: Shelf>(shelf: &mut H, out: &mut Vec<u8>) -> Result<(), ReadFaul
     ensures long { IsErrOf result ReadFault.TooLong → IfSome (H.contents shelf.old)
         (λ c. (MOST < length c.rest) × (H.contents shelf.new ≡ Some (passed (MOST + 1) c))) }
     ensures files { files_of (H.contents shelf.new) ≡ files_of (H.contents shelf.old) }
-    ensures few { TakesAtMost (MOST + 1) (H.contents shelf.old) (H.contents shelf.new) }
+    ensures few { (count : ℕ) × (count ≤ MOST + 1)
+        × (H.contents shelf.new ≡ option_map (passed count) (H.contents shelf.old)) }
+    ensures stops { IsErrOf result ReadFault.Failed
+        → H.contents shelf.new ≡ option_map (passed (length out.new.items)) (H.contents shelf.old) }
+    ensures halts { IsErrOf result ReadFault.NoMemory → (count : ℕ) × (count ≤ PIECE)
+        × (H.contents shelf.new ≡ option_map (passed (length out.new.items + count)) (H.contents shelf.old)) }
     ensures most { length out.new.items ≤ MOST }
     ensures failed { IsErrOf result ReadFault.Failed → Rose (H.faults shelf.old) (H.faults shelf.new) }
     ensures faults { H.faults shelf.old ≤ H.faults shelf.new }
@@ -100,8 +113,9 @@ fn take_more<H: Shelf>(shelf: &mut H, buf: &mut [u8], out: &mut Vec<u8>) -> Resu
         (λ c. (MOST < length out.old.items + length c.rest)
         × (H.contents shelf.new ≡ Some (passed (MOST + 1 - length out.old.items) c))) }
     ensures files { files_of (H.contents shelf.new) ≡ files_of (H.contents shelf.old) }
-    ensures few { TakesAtMost (MOST + 1 - length out.old.items)
-        (H.contents shelf.old) (H.contents shelf.new) }
+    ensures few { (count : ℕ) × (count ≤ length buf.old) × (length out.old.items + count ≤ MOST + 1)
+        × (H.contents shelf.new ≡ option_map (passed count) (H.contents shelf.old)) }
+    ensures stops { IsErrOf result ReadFault.Failed → H.contents shelf.new ≡ H.contents shelf.old }
     ensures most { length out.new.items ≤ MOST }
     ensures failed { IsErrOf result ReadFault.Failed → Rose (H.faults shelf.old) (H.faults shelf.new) }
     ensures faults { H.faults shelf.old ≤ H.faults shelf.new }

@@ -8,8 +8,6 @@ mod name;
 mod name_list;
 mod names;
 mod path_text;
-#[cfg(test)]
-mod tests;
 
 pub use ids::{NameId, ObjId};
 pub use name::is_name;

@@ -5,6 +5,7 @@ use Rattle.desk_edge.proofs.reading.read_begun.Given as goal
 abbrev pub invariant-loop : goal.invariant-loop
 invariant-loop g l = record {
   most : length l.out.items ≤ 8388608;
+  piece : length l.buf ≤ 4096;
   kept : put_back l.out.items (g.H.Shelf.contents l.shelf) ≡ g.H.Shelf.contents l.initial.shelf;
   faults : g.H.Shelf.faults l.initial.shelf ≤ g.H.Shelf.faults l.shelf;
   misses : g.H.Shelf.misses l.initial.shelf ≤ g.H.Shelf.misses l.shelf;

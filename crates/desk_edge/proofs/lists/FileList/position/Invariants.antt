@@ -1,6 +1,0 @@
-use Rattle.std.proofs.Common.{◌≡◌, drop}
-use Rattle.desk_edge.specs.Shelf.{file_at}
-use Rattle.desk_edge.proofs.lists.FileList.position.Given as goal
-
-abbrev pub invariant-loop-at : goal.invariant-loop-at
-invariant-loop-at l = file_at (drop l.at l.files) l.path ≡ file_at l.files l.path

@@ -7,8 +7,6 @@
 mod act_act;
 mod counted;
 mod laws;
-#[cfg(test)]
-mod tests;
 mod thirty;
 
 pub use counted::fraction;

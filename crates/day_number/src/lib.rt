@@ -10,8 +10,6 @@ mod day_list;
 mod days;
 mod digits;
 mod laws;
-#[cfg(test)]
-mod shift_tests;
 mod shifts;
 mod tenors;
 mod texts;
@@ -22,6 +20,3 @@ pub use days::Day;
 pub use shifts::{DateRange, add_days, add_months, month_end, weekday};
 pub use tenors::{Tenor, Unit, read_tenor};
 pub use texts::{print_day, read_day};
-
-#[cfg(test)]
-mod tests;

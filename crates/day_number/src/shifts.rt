@@ -7,24 +7,12 @@ ghost use Rattle.day_number.specs.Shift.{date_months_later, months_later, last_o
 
 use crate::Day;
 use jiff_core::civil;
-use std::error::Error;
-use std::fmt;
+use thiserror::Error;
 
 /// The day asked for lies outside 1901-01-01 to 2199-12-31.
-#[derive(Clone, Copy, Debug, PartialEq, Eq)]
+#[derive(Clone, Copy, Debug, PartialEq, Eq, Error)]
+#[error("no day from 1901-01-01 to 2199-12-31")]
 pub struct DateRange;
-
-impl fmt::Display for DateRange {
-    ghost use Rattle.std.specs.Prelude.{Some, codes};
-
-    ghost output = { λ _. Some (codes "no day from 1901-01-01 to 2199-12-31") };
-
-    fn fmt<W: fmt::Write>(&self, f: &mut fmt::Formatter<W>) -> fmt::Result {
-        f.write_str("no day from 1901-01-01 to 2199-12-31")
-    }
-}
-
-impl Error for DateRange {}
 
 /// The day `n` days after a day, or before it where `n` is negative. An error exactly where that is no day of the
 /// range.

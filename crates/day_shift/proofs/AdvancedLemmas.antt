@@ -23,7 +23,7 @@ use Rattle.day_shift.proofs.MonthEndLemmas.{last_open_is_greatest, month_end-dec
 use Rattle.day_shift.proofs.SearchLemmas.{le_z-decides}
 use Rattle.day_shift.proofs.SetLemmas.{by_test}
 
-between-decides : (low high z : ℤ) → Decides (le_z low z && le_z z high) (IsBetween low high z)
+pub between-decides : (low high z : ℤ) → Decides (le_z low z && le_z z high) (IsBetween low high z)
 between-decides low high z = Decides-and (le_z low z) (le_z z high) (le_z-decides low z) (le_z-decides z high)
 
 days_on-names : (business : ℤ → Bool) (day n : ℤ) → IsDayNumber day → ¬ (n ≡ pos 0) → Names (days_on business day n) (IsDaysOn business day n)

@@ -67,7 +67,7 @@ before-on business (suc n) day found h e =
     (omega (arith, ints), λ own. rest.1 is.0))
 
 -- is an earlier business day
-before-open : (business : ℤ → Bool) (n : ℕ) (day found : ℤ) → IsDayNumber day → days_before (suc n) business day ≡ Some found → IsBusinessDay business found × (found <ℤ day)
+pub before-open : (business : ℤ → Bool) (n : ℕ) (day found : ℤ) → IsDayNumber day → days_before (suc n) business day ≡ Some found → IsBusinessDay business found × (found <ℤ day)
 before-open business n day found h e =
     by_option (previous business (day -ℤ pos 1))
     (λ none. let stop = before-stop business day n none in absurd (cc))

@@ -67,7 +67,7 @@ after-on business (suc n) day found h e =
     (omega (arith, ints), λ own. rest.1 is.0))
 
 -- is a later business day
-after-open : (business : ℤ → Bool) (n : ℕ) (day found : ℤ) → IsDayNumber day → days_after (suc n) business day ≡ Some found → IsBusinessDay business found × (day <ℤ found)
+pub after-open : (business : ℤ → Bool) (n : ℕ) (day found : ℤ) → IsDayNumber day → days_after (suc n) business day ≡ Some found → IsBusinessDay business found × (day <ℤ found)
 after-open business n day found h e =
     by_option (next business (day +ℤ pos 1))
     (λ none. let stop = after-stop business day n none in absurd (cc))

@@ -1,13 +1,13 @@
 -- The days of a month lie from its first to its last day, with none of another month between.
-use Rattle.std.proofs.Common.{◌≡◌, refl, ℕ, ◌+◌, ◌≤◌, sym, ap, ◌∙◌, arith, ◌≤ℤ◌, ℤ, pos, ◌+ℤ◌, ◌-ℤ◌, unsigned_abs}
-use Rattle.std.proofs.lemmas.Int.{ints}
+use Rattle.std.proofs.Common.{◌≡◌, refl, ℕ, ◌+◌, ◌<◌, ◌≤◌, sym, ap, ◌∙◌, arith, ◌<ℤ◌, ◌≤ℤ◌, ℤ, pos, ◌+ℤ◌, ◌-ℤ◌, unsigned_abs}
+use Rattle.std.proofs.lemmas.Int.{ints, by_lt_z}
 use Rattle.std.proofs.lemmas.Bool.Decides.{Decides-int_eq}
-use Rattle.jiff_core.specs.Calendar.{days_in_month}
-use Rattle.jiff_core.proofs.CalendarLemmas.{days_from_civil-day_count, days_in_month_bounds, day_count-day}
-use Rattle.jiff_core.proofs.SignedLemmas.{signed_arith, int_rem_euclid-parts}
+use Rattle.jiff_core.specs.Calendar.{day_count, days_in_month}
+use Rattle.jiff_core.proofs.CalendarLemmas.{days_from_civil-day_count, days_in_month_bounds, day_count-day, day_count-lt_year, day_count-lt_month}
+use Rattle.jiff_core.proofs.SignedLemmas.{signed_arith, int_div_euclid-parts, int_rem_euclid-parts}
 use Rattle.day_number.specs.Day.{IsDayNumber, IsCivil, CivilDate, civil_number, date_of}
 use Rattle.day_number.specs.Shift.{month_number, date_months_later, months_later, last_of_month}
-use Rattle.day_number.proofs.DayLemmas.{civil_number-range, date_of-is, date_of-civil_number}
+use Rattle.day_number.proofs.DayLemmas.{is_civil_date, civil_number-range, date_of-is, date_of-civil_number}
 use Rattle.day_shift.specs.Month.{IsInMonth, IsMonthInRange, OneMonthIsYearAndMonth}
 
 -- dates of one month are as far apart as their days
@@ -74,6 +74,65 @@ month-between day x h low high =
     let whole = ap date_of (sym is) ∙ date_of-civil_number date.year date.month place (own.0.0, own.0.1, (omega (arith, own.0.2.0), within)) in
     (ap (λ (d : CivilDate). d.year) whole, ap (λ (d : CivilDate). d.month) whole)
 
+-- the date some months later is one of the range where its month is
+later-civil : (day n : ℤ) → IsDayNumber day → IsMonthInRange day n → IsCivil (date_months_later (date_of day) n).year (date_months_later (date_of day) n).month (date_months_later (date_of day) n).day
+later-civil day n h years =
+    let date = date_of day in
+    let own = (date_of-is day h).0 in
+    let parts = int_rem_euclid-parts (month_number date +ℤ n) 12 (omega arith) in
+    let later = date_months_later date n in
+    let bounds = days_in_month_bounds later.year later.month in
+    (years, (omega arith, omega (arith, signed_arith, parts.1, parts.2)), (omega (arith, own.2.0, bounds), omega arith))
+
+-- of two days of one month the later has the greater place
+pub place-order : (day later : ℤ) → IsDayNumber day → IsDayNumber later → IsInMonth day later → day ≤ℤ later → (date_of day).day ≤ (date_of later).day
+place-order day later h k is le =
+    let date = date_of day in
+    let one = date_of-is day h in
+    let other = date_of-is later k in
+    let same : civil_number date.year date.month (date_of later).day ≡ later =
+    ap (λ year. civil_number year date.month (date_of later).day) (sym is.0)
+    ∙ ap (λ month. civil_number (date_of later).year month (date_of later).day) (sym is.1) ∙ other.1 in
+    let apart = civil_number-day date.year date.month date.day (date_of later).day one.0.2.0 other.0.2.0 in
+    omega (arith, signed_arith, apart, same, one.1)
+
+-- the month of a day, counted from January of the year 0
+abbrev pub month_of : ℤ → ℤ
+month_of day = month_number (date_of day)
+
+-- a day of a later month is later
+pub month-order : (day later : ℤ) → IsDayNumber day → IsDayNumber later → month_of day <ℤ month_of later → day <ℤ later
+unfolding civil_number
+month-order day later h k lt =
+    let a = date_of day in
+    let b = date_of later in
+    let one = date_of-is day h in
+    let other = date_of-is later k in
+    let civil = is_civil_date a.year a.month a.day one.0 in
+    let first = days_from_civil-day_count a.year a.month a.day in
+    let second = days_from_civil-day_count b.year b.month b.day in
+    let months_one = one.0.1 in
+    let months_other = other.0.1 in
+    by_lt_z a.year b.year
+    (λ earlier. omega (arith, signed_arith, first, second, one.1, other.1, day_count-lt_year a.year a.month a.day b.year b.month b.day civil other.0.2.0 earlier))
+    (λ ge.
+    let same : b.year ≡ a.year = omega (arith, signed_arith, months_one.0, months_one.1, months_other.0, months_other.1) in
+    let month : a.month < b.month = omega (arith, signed_arith, months_one.0, months_one.1, months_other.0, months_other.1, same) in
+    let counted = day_count-lt_month a.year a.month a.day b.month b.day civil other.0.2.0 month in
+    let there : day_count b.year b.month b.day ≡ day_count a.year b.month b.day = ap (λ y. day_count y b.month b.day) same in
+    omega (arith, signed_arith, first, second, one.1, other.1, counted, there))
+
+-- the month some months later
+pub months_later-month : (day n : ℤ) → IsDayNumber day → IsMonthInRange day n → month_of (months_later day n) ≡ month_of day +ℤ n
+unfolding months_later
+months_later-month day n h years =
+    let date = date_of day in
+    let later = date_months_later date n in
+    let div = int_div_euclid-parts (month_number date +ℤ n) 12 (omega arith) in
+    let rem = int_rem_euclid-parts (month_number date +ℤ n) 12 (omega arith) in
+    let is = date_of-civil_number later.year later.month later.day (later-civil day n h years) in
+    ap month_number is ∙ omega (arith, signed_arith, div, rem)
+
 pub one_month_is_year_and_month : OneMonthIsYearAndMonth
 one_month_is_year_and_month day other h k = (
   λ e. same-last day other h k ((Decides-int_eq (last_of_month day) (last_of_month other)).0 e),
@@ -84,9 +143,5 @@ one_month_is_year_and_month day other h k = (
 pub months_later-in_range : (day n : ℤ) → IsDayNumber day → IsMonthInRange day n → IsDayNumber (months_later day n)
 unfolding months_later
 months_later-in_range day n h years =
-    let date = date_of day in
-    let own = (date_of-is day h).0 in
-    let parts = int_rem_euclid-parts (month_number date +ℤ n) 12 (omega arith) in
-    let later = date_months_later date n in
-    let bounds = days_in_month_bounds later.year later.month in
-    civil_number-range later.year later.month later.day (years, (omega arith, omega (arith, signed_arith, parts.1, parts.2)), (omega (arith, own.2.0, bounds), omega arith))
+    let later = date_months_later (date_of day) n in
+    civil_number-range later.year later.month later.day (later-civil day n h years)

@@ -10,6 +10,8 @@ pub mod ListedLemmas
 pub mod MonthEndLemmas
 pub mod MonthLemmas
 pub mod NearestLemmas
+pub mod OpenLemmas
+pub mod OrderLemmas
 pub mod Rows
 pub mod SearchLemmas
 pub mod SetLemmas

@@ -73,3 +73,24 @@ AdjustedIsTheDay =
     (business : ℤ → Bool) (convention : Convention) (day found : ℤ)
     → IsDayNumber day
     → (adjusted business convention day ≡ Some found) ↔ IsAdjusted business convention day found
+
+-- law: a business day stays where it is, by each convention
+abbrev pub BusinessDaysStay : Type 0
+BusinessDaysStay =
+    (business : ℤ → Bool) (convention : Convention) (day : ℤ)
+    → IsBusinessDay business day → adjusted business convention day ≡ Some day
+
+-- law: the adjusted day is a business day, by each convention but Unadjusted
+abbrev pub AdjustedIsOpen : Type 0
+AdjustedIsOpen =
+    (business : ℤ → Bool) (convention : Convention) (day found : ℤ)
+    → IsDayNumber day → ¬ (convention ≡ Unadjusted)
+    → adjusted business convention day ≡ Some found → IsBusinessDay business found
+
+-- law: a later day is not adjusted to an earlier one
+abbrev pub AdjustedKeepsOrder : Type 0
+AdjustedKeepsOrder =
+    (business : ℤ → Bool) (convention : Convention) (day later found then_found : ℤ)
+    → IsDayNumber day → IsDayNumber later → day ≤ℤ later
+    → adjusted business convention day ≡ Some found
+    → adjusted business convention later ≡ Some then_found → found ≤ℤ then_found

@@ -1,7 +1,8 @@
 -- Days moved by a count of days, weeks, months or years (QuantLib's Calendar::advance).
-use Rattle.std.specs.Prelude.{◌≡◌, ◌↔◌, ◌<◌, ℕ, zero, suc, Bool, true, false, ◌&&◌, if◌then◌else◌, Option, Some, None, ℤ, pos, negsuc, ◌+ℤ◌, ◌-ℤ◌, ◌*ℤ◌, ◌<ℤ◌}
+use Rattle.std.specs.Prelude.{◌≡◌, ◌↔◌, ◌<◌, ℕ, zero, suc, Bool, true, false, ◌&&◌, if◌then◌else◌, Option, Some, None, ℤ, pos, negsuc, ◌+ℤ◌, ◌-ℤ◌, ◌*ℤ◌, ◌<ℤ◌, ◌≤ℤ◌}
 use Rattle.std.specs.Ordering.{int_eq}
 use Rattle.day_number.specs.declared.conventions.Convention.{Convention}
+use Rattle.day_number.specs.declared.conventions.Convention.TheVariants.{Unadjusted}
 use Rattle.day_number.specs.declared.tenors.Unit.{Unit as TimeUnit}
 use Rattle.day_number.specs.declared.tenors.Unit.TheVariants.{Days, Weeks, Months, Years}
 use Rattle.day_number.specs.Day.{IsDayNumber}
@@ -122,3 +123,17 @@ AdvancedIsTheDay =
     → IsDayNumber day
     → (advanced business unit convention month_end day n ≡ Some found)
     ↔ IsAdvanced business unit convention month_end day n found
+
+-- law: a count of a unit leads to a business day, by each convention but Unadjusted
+abbrev pub AdvancedIsOpen : Type 0
+AdvancedIsOpen =
+    (business : ℤ → Bool) (unit : TimeUnit) (convention : Convention) (month_end : Bool) (day n found : ℤ)
+    → IsDayNumber day → ¬ (convention ≡ Unadjusted)
+    → advanced business unit convention month_end day n ≡ Some found → IsBusinessDay business found
+
+-- law: from a business day no count of a unit on leads back
+abbrev pub AdvancedIsNotBefore : Type 0
+AdvancedIsNotBefore =
+    (business : ℤ → Bool) (unit : TimeUnit) (convention : Convention) (month_end : Bool) (day n found : ℤ)
+    → IsBusinessDay business day → pos 0 ≤ℤ n
+    → advanced business unit convention month_end day n ≡ Some found → day ≤ℤ found

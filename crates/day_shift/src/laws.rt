@@ -1,6 +1,6 @@
 // Laws of the definitions, each the clause of a function with nothing to do.
-ghost use Rattle.day_shift.specs.Adjusted.{AdjustedIsTheDay};
-ghost use Rattle.day_shift.specs.Advanced.{AdvancedIsTheDay, DaysAfterAreCounted, DaysBeforeAreCounted};
+ghost use Rattle.day_shift.specs.Adjusted.{AdjustedIsTheDay, BusinessDaysStay, AdjustedIsOpen, AdjustedKeepsOrder};
+ghost use Rattle.day_shift.specs.Advanced.{AdvancedIsTheDay, AdvancedIsOpen, AdvancedIsNotBefore, DaysAfterAreCounted, DaysBeforeAreCounted};
 ghost use Rattle.day_shift.specs.Business.{NextIsLeast, PreviousIsGreatest};
 ghost use Rattle.day_shift.specs.Counted.{CountIsOfTheDays};
 ghost use Rattle.day_shift.specs.Month.{OneMonthIsYearAndMonth};
@@ -50,4 +50,17 @@ fn days_before_are_counted()
 // A count of a unit leads to the day that it does over the set of business days.
 fn advanced_is_the_day()
     ensures { AdvancedIsTheDay }
+{}
+
+// Each convention keeps business days, leads to them (but Unadjusted), and keeps the order of days.
+fn adjusted_days_are_open()
+    ensures stay { BusinessDaysStay }
+    ensures is_open { AdjustedIsOpen }
+    ensures order { AdjustedKeepsOrder }
+{}
+
+// A count of a unit leads to a business day, and on from a business day not back.
+fn advanced_days_are_open()
+    ensures is_open { AdvancedIsOpen }
+    ensures order { AdvancedIsNotBefore }
 {}

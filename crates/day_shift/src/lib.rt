@@ -16,6 +16,3 @@ pub use adjusting::adjust;
 pub use advancing::advance;
 pub use counting::business_days_between;
 pub use faults::ShiftFault;
-
-#[cfg(test)]
-mod tests;

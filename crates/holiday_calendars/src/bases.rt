@@ -1,9 +1,11 @@
 // Single calendars, and lists of them.
+ghost use Rattle.std.specs.Prelude.{◌≡◌, IfOk};
+
 use crate::weekdays::is_weekday;
 use crate::{BespokeHolidays, target};
 use day_number::Day;
+use item_lists::Items;
 use std::alloc::{AllocError, Global};
-use std::marker::Model;
 
 /// A single calendar.
 #[derive(Debug, Drop)]
@@ -48,73 +50,16 @@ impl Base {
     }
 }
 
-/// Calendars in the order in which they were pushed. It keeps the allocator that it was made with. A clause sees it as
-/// the list of them.
-#[derive(Debug, Drop)]
-pub struct BaseList {
-    bases: Vec<Base>,
-}
+/// Calendars in the order in which they were pushed. A clause sees it as the list of them.
+pub type BaseList = Items<Base>;
 
-impl Model for BaseList {
-    ghost use Rattle.std.specs.Prelude.{List};
-    ghost use Rattle.holiday_calendars.specs.declared.bases.Base.{Base};
-
-    ghost Value = { List Base };
-
-    ghost view = { λ l. l.bases.items };
-}
-
-impl BaseList {
-    ghost use Rattle.std.specs.Prelude.{◌≡◌, ◌++◌, ◌∷◌, [], ◌<◌, length, slice_get, OnOk, OnErr, IfOk};
-
-    /// The empty list, which takes no memory.
-    pub fn new(alloc: Global) -> BaseList
-        ensures { result ≡ [] }
-    {
-        BaseList {
-            bases: Vec::new(alloc),
-        }
+// An equal list.
+pub(crate) fn copy_of(bases: &[Base], alloc: Global) -> Result<BaseList, AllocError>
+    ensures { IfOk result (λ list. list ≡ bases.now) }
+{
+    let mut copies = BaseList::new(alloc);
+    for base in bases {
+        copies.push(base.copy(alloc)?)?;
     }
-
-    /// How many calendars there are.
-    pub fn len(&self) -> usize
-        ensures { result ≡ length self.now }
-    {
-        self.bases.len()
-    }
-
-    /// The calendar at a place, counted from 0.
-    pub fn get(&self, at: usize) -> &Base
-        requires { at < length self.now }
-        ensures { slice_get self.now at ≡ Some result.now }
-    {
-        &self.bases[at]
-    }
-
-    /// Appends a calendar, or leaves the list as it was where memory is wanting.
-    pub fn push(&mut self, base: Base) -> Result<(), AllocError>
-        ensures ok { OnOk result (self.new ≡ self.old ++ base ∷ []) }
-        ensures err { OnErr result (self.new ≡ self.old) }
-    {
-        self.bases.push(base)?;
-        Ok(())
-    }
-
-    /// The calendars as a slice.
-    pub fn items(&self) -> &[Base]
-        ensures { result.now ≡ self.now }
-    {
-        &self.bases
-    }
-
-    // An equal list.
-    pub(crate) fn copy(&self, alloc: Global) -> Result<BaseList, AllocError>
-        ensures { IfOk result (λ list. list ≡ self.now) }
-    {
-        let mut copies = BaseList::new(alloc);
-        for base in self.items() {
-            copies.push(base.copy(alloc)?)?;
-        }
-        Ok(copies)
-    }
+    Ok(copies)
 }

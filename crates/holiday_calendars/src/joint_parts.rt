@@ -3,6 +3,7 @@ ghost use Rattle.std.specs.Prelude.{◌≡◌, ◌↔◌, ◌<◌, length, IfOk}
 ghost use Rattle.std.specs.List.{list_all, list_any};
 ghost use Rattle.holiday_calendars.specs.Base.{is_base_day};
 
+use crate::bases::copy_of;
 use crate::{Base, BaseList, Calendar};
 use day_number::Day;
 use std::alloc::{AllocError, Global};
@@ -67,7 +68,7 @@ impl JointParts {
     pub(crate) fn copy(&self, alloc: Global) -> Result<JointParts, AllocError>
         ensures { IfOk result (λ joined. joined ≡ self.now) }
     {
-        let parts = self.parts.copy(alloc)?;
+        let parts = copy_of(self.parts.items(), alloc)?;
         Ok(JointParts {
             rule: self.rule,
             parts,

@@ -18,6 +18,3 @@ pub use bespoke_days::{BespokeFault, BespokeHolidays, bespoke};
 pub use calendars::Calendar;
 pub use easter::easter_sunday;
 pub use joint_parts::{JointFault, JointParts, JointRule, joint};
-
-#[cfg(test)]
-mod tests;

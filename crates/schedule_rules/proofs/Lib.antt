@@ -1,4 +1,5 @@
 pub mod DatedLemmas
+pub mod EndsLaw
 pub mod MonthLemmas
 pub mod MoveLemmas
 pub mod PlanLemmas

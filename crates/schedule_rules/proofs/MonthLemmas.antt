@@ -66,3 +66,16 @@ gap (suc n) m later low e =
     let next = ap first_of one ∙ next_first before (omega (arith, signed_arith)) in
     let long = lengths before in
     omega (arith, signed_arith, next, gap n m before low refl, long.0)
+
+-- a later month begins no more than 31 days later for each month between
+pub gap_most : (n : ℕ) (m later : ℤ) → neg_ℤ (pos 100_000) ≤ℤ m → later ≡ m +ℤ pos n → first_of later ≤ℤ (first_of m +ℤ pos (31 * n))
+gap_most zero m later low e =
+    let same : later ≡ m = omega (arith, signed_arith) in
+    let first = ap first_of same in
+    omega (arith, signed_arith, first)
+gap_most (suc n) m later low e =
+    let before : ℤ = m +ℤ pos n in
+    let one : later ≡ before +ℤ pos 1 = omega (arith, signed_arith) in
+    let next = ap first_of one ∙ next_first before (omega (arith, signed_arith)) in
+    let long = lengths before in
+    omega (arith, signed_arith, next, gap_most n m before low refl, long.1)

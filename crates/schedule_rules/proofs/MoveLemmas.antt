@@ -15,7 +15,7 @@ use Rattle.day_shift.specs.Business.{day_at}
 use Rattle.day_shift.specs.Month.{month_at}
 use Rattle.day_shift.proofs.SearchLemmas.{le_z-true, day_at-in, day_at-found}
 use Rattle.schedule_rules.specs.Step.{at_month_end, is_month_end, moved, least_days}
-use Rattle.schedule_rules.proofs.MonthLemmas.{year_of, month_of, first_of, length_of, lengths, placed, gap}
+use Rattle.schedule_rules.proofs.MonthLemmas.{year_of, month_of, first_of, length_of, lengths, placed, gap, gap_most}
 use Rattle.schedule_rules.proofs.StepLemmas.{later_year, month_at-out}
 
 -- the month of a seed, counted from January of the year 0
@@ -314,3 +314,20 @@ moved-far_back keeps Years seed day n h e =
     let there = month_in (keeps && true && is_month_end seed) seed (neg_ℤ (pos (suc n)) *ℤ pos 12) day h (keeps_end keeps seed) e in
     let far = month_back seed day (n * 12 + 11) h (rw many at there) in
     omega (arith, signed_arith, far)
+
+-- months lead no more than 31 days on for each, and 3 days where the day is clipped
+pub months_most : (seed day : ℤ) (n : ℕ) → IsDayNumber seed → month_at seed (pos n) ≡ Some day → day ≤ℤ (seed +ℤ pos (31 * n + 3))
+months_most seed day n h e =
+    let found = month_at-found seed (pos n) day e in
+    let there = later_in seed (pos n) h found.0 in
+    let here = own seed h in
+    let m = index seed in
+    let div = int_div_euclid-parts m 12 (omega arith) in
+    let year = here.years.0 in
+    let between = gap_most n m (m +ℤ pos n) (omega (arith, signed_arith)) refl in
+    let long = lengths (m +ℤ pos n) in
+    let same = found.1 in
+    elim there.kept [
+      | inl e ↦ omega (arith, signed_arith, between, there.is, here.is, e, same)
+      | inr e ↦ omega (arith, signed_arith, between, there.is, here.is, e.0, e.1, long.1, same)
+    ]

@@ -134,8 +134,13 @@ fits plan k h le =
     let same = regroup k (unsigned_abs plan.tenor.count) (least_days plan.tenor.unit) in
     le-div k (unsigned_abs (plan.end -ℤ plan.start)) (size plan) big (omega (arith, same))
 
--- a step that is inside has room
-room_by : (rule : Rule) (plan : Plan) (k : ℕ) (day : ℤ) → InOrder plan → (has_steps rule ≡ true → pos 1 ≤ℤ plan.tenor.count) → IsDayNumber (seed_by rule plan) → 1 ≤ k → led rule plan k ≡ Some day → is_inside rule plan day ≡ true → k ≤ most_steps plan
+-- a step that is inside lies between start and end, and has room
+pub record Room (plan : Plan) (k : ℕ) (day : ℤ) : Type 0 where
+  pub low : plan.start ≤ℤ day
+  pub high : day ≤ℤ plan.end
+  pub few : k ≤ most_steps plan
+
+room_by : (rule : Rule) (plan : Plan) (k : ℕ) (day : ℤ) → InOrder plan → (has_steps rule ≡ true → pos 1 ≤ℤ plan.tenor.count) → IsDayNumber (seed_by rule plan) → 1 ≤ k → led rule plan k ≡ Some day → is_inside rule plan day ≡ true → Room plan k day
 room_by Backward plan k day terms tenor seed h led inside =
     let count = tenor refl in
     let c = unsigned_abs plan.tenor.count in
@@ -148,7 +153,11 @@ room_by Backward plan k day terms tenor seed h led inside =
     let low = within plan.first plan.start plan.start plan.end terms.first (omega (arith, signed_arith)) (omega (arith, signed_arith, terms.order)) in
     let high = within plan.last plan.end plan.start plan.end terms.last (omega (arith, signed_arith, terms.order)) (omega (arith, signed_arith)) in
     let past = after day (unwrap_or plan.first plan.start) inside in
-    fits plan k count (omega (arith, ints, back, low.0, high.1, past))
+    record {
+      low = omega (arith, signed_arith, low.0, past);
+      high = omega (arith, signed_arith, back, high.1);
+      few = fits plan k count (omega (arith, ints, back, low.0, high.1, past));
+    }
 room_by Forward plan k day terms tenor seed h led inside =
     let count = tenor refl in
     let c = unsigned_abs plan.tenor.count in
@@ -161,13 +170,30 @@ room_by Forward plan k day terms tenor seed h led inside =
     let low = within plan.first plan.start plan.start plan.end terms.first (omega (arith, signed_arith)) (omega (arith, signed_arith, terms.order)) in
     let high = within plan.last plan.end plan.start plan.end terms.last (omega (arith, signed_arith, terms.order)) (omega (arith, signed_arith)) in
     let past = after (unwrap_or plan.last plan.end) day inside in
-    fits plan k count (omega (arith, ints, on, low.0, high.1, past))
+    record {
+      low = omega (arith, signed_arith, on, low.0);
+      high = omega (arith, signed_arith, past, high.1);
+      few = fits plan k count (omega (arith, ints, on, low.0, high.1, past));
+    }
 room_by Zero plan k day terms tenor seed h led inside = absurd (cc)
 
-pub step-room : (plan : Plan) (k : ℕ) (day : ℤ) → InOrder plan → IsDayNumber (seed_by plan.rule plan) → 1 ≤ k → step plan k ≡ Some day → k ≤ most_steps plan
+pub step-room : (plan : Plan) (k : ℕ) (day : ℤ) → InOrder plan → IsDayNumber (seed_by plan.rule plan) → 1 ≤ k → step plan k ≡ Some day → Room plan k day
 step-room plan k day terms seed h e =
     let is = step-is plan k day e in
     room_by plan.rule plan k day terms terms.tenor seed h is.0 is.1
+
+-- the seed lies between start and end
+seed-between : (rule : Rule) (plan : Plan) → InOrder plan → (plan.start ≤ℤ seed_by rule plan) × (seed_by rule plan ≤ℤ plan.end)
+seed-between Backward plan terms =
+    within plan.last plan.end plan.start plan.end terms.last (omega (arith, signed_arith, terms.order)) (omega (arith, signed_arith))
+seed-between Forward plan terms =
+    within plan.first plan.start plan.start plan.end terms.first (omega (arith, signed_arith)) (omega (arith, signed_arith, terms.order))
+seed-between Zero plan terms = (omega (arith, signed_arith), omega (arith, signed_arith, terms.order))
+
+pub seed-in_range : (plan : Plan) → InOrder plan → IsDayNumber plan.start → IsDayNumber plan.end → IsDayNumber (seed_by plan.rule plan)
+seed-in_range plan terms start end =
+    let between = seed-between plan.rule plan terms in
+    (omega (arith, signed_arith, between.0, start.0), omega (arith, signed_arith, between.1, end.1))
 
 record Inside (rule : Rule) (plan : Plan) (k : ℕ) : Type 0 where
   day : ℤ

@@ -110,6 +110,9 @@ stub_named plan day h =
 pub start_listed : (plan : Plan) → has (raw_days plan) plan.start ≡ true
 start_listed plan = named_listed plan plan.start (start_named plan plan.start refl)
 
+pub end_listed : (plan : Plan) → has (raw_days plan) plan.end ≡ true
+end_listed plan = named_listed plan plan.end (end_named plan plan.end refl)
+
 raw_listed : (plan : Plan) (day : ℤ) → IsDayNumber (seed_by plan.rule plan) → fault_of_terms plan ≡ None → IsRaw plan day → has (raw_days plan) day ≡ true
 raw_listed plan day seed terms (inl start) = named_listed plan day (start_named plan day start)
 raw_listed plan day seed terms (inr (inl end)) = named_listed plan day (end_named plan day end)
@@ -118,7 +121,7 @@ raw_listed plan day seed terms (inr (inr (inl first))) =
 raw_listed plan day seed terms (inr (inr (inr (inl last)))) =
     named_listed plan day (stub_named plan day (has-others plan.first (cons_option plan.last []) day (has-given plan.last [] day last)))
 raw_listed plan day seed terms (inr (inr (inr (inr is)))) =
-    let room = step-room plan is.0 day (in_order plan terms) seed is.1 is.2 in
+    let room = (step-room plan is.0 day (in_order plan terms) seed is.1 is.2).few in
     has-raw plan day
     ∙ or_right (has (named_days plan) day) (has (steps plan) day) (step_listed (most_steps plan) plan 1 is.0 day is.1 (omega arith) is.2)
 

@@ -1,5 +1,5 @@
 -- Days put into a list in the order of time.
-use Rattle.std.proofs.Common.{◌≡◌, ℕ, ◌<◌, ◌≤◌, nat_lt, Bool, true, false, if◌then◌else◌, List, [], ◌∷◌, ◌++◌, length, Option, Some, None, Result, Ok, Err, refl, sym, ap, ◌∙◌, arith, ℤ}
+use Rattle.std.proofs.Common.{◌≡◌, ℕ, suc, ◌+◌, ◌<◌, ◌≤◌, nat_lt, Bool, true, false, if◌then◌else◌, List, [], ◌∷◌, ◌++◌, length, Option, Some, None, Result, Ok, Err, refl, sym, ap, ◌∙◌, arith, ℤ}
 use Rattle.std.specs.BTreeSet.{insert_key}
 use Rattle.std.specs.List.{cons_option}
 use Rattle.std.specs.Ordering.{int_cmp, match_ordering}
@@ -8,6 +8,7 @@ use Rattle.std.specs.declared.cmp.Ordering.TheVariants.{Less, Equal, Greater}
 use Rattle.schedule_rules.specs.declared.plans.Plan.{Plan}
 use Rattle.schedule_rules.specs.declared.faults.PlanFault.{PlanFault}
 use Rattle.schedule_rules.specs.declared.faults.PlanFault.TheVariants.{TooMany}
+use Rattle.schedule_rules.specs.declared.schedules.TheConstants.{MOST_DAYS}
 use Rattle.schedule_rules.specs.Raw.{put_into, rising, named_days, raw_days, few_or_fault}
 use Rattle.schedule_rules.specs.Step.{steps_from, most_steps}
 
@@ -42,15 +43,33 @@ length-put [] days = omega arith
 length-put (day ∷ more) days =
     omega (arith, length-insert days day, length-put more (insert_key int_cmp days day))
 
+-- and no more than was put in comes to it
+length-match_most : (o : Ordering) (n : ℕ) (a b c : List ℤ) → length a ≤ n → length b ≤ n → length c ≤ n → length (match_ordering o a b c) ≤ n
+length-match_most Less n a b c x y z = x
+length-match_most Equal n a b c x y z = y
+length-match_most Greater n a b c x y z = z
+
+length-insert_most : (days : List ℤ) (day : ℤ) → length (insert_key int_cmp days day) ≤ suc (length days)
+length-insert_most [] day = omega arith
+length-insert_most (x ∷ xs) day =
+    let rest = length-insert_most xs day in
+    length-match_most (int_cmp day x) (suc (length (x ∷ xs))) (day ∷ x ∷ xs) (x ∷ xs) (x ∷ insert_key int_cmp xs day) (omega arith) (omega arith) (omega arith)
+
+pub length-put_most : (more days : List ℤ) → length (put_into days more) ≤ length days + length more
+unfolding put_into
+length-put_most [] days = omega arith
+length-put_most (day ∷ more) days =
+    omega (arith, length-insert_most days day, length-put_most more (insert_key int_cmp days day))
+
 -- the limit
-pub few : (days : List ℤ) → length days ≤ 801 → few_or_fault days ≡ Ok days
+pub few : (days : List ℤ) → length days ≤ MOST_DAYS → few_or_fault days ≡ Ok days
 few days h =
-    let no : nat_lt 801 (length days) ≡ false = grind arith in
+    let no : nat_lt MOST_DAYS (length days) ≡ false = grind arith in
     ap (λ b. if b then Err TooMany else Ok days) no
 
-pub many : (days : List ℤ) → 801 < length days → few_or_fault days ≡ Err TooMany
+pub many : (days : List ℤ) → MOST_DAYS < length days → few_or_fault days ≡ Err TooMany
 many days h =
-    let yes : nat_lt 801 (length days) ≡ true = grind arith in
+    let yes : nat_lt MOST_DAYS (length days) ≡ true = grind arith in
     ap (λ b. if b then Err TooMany else Ok days) yes
 
 -- what a plan names, put in one by one
@@ -87,4 +106,14 @@ few-by true days found e = absurd (cc)
 few-by false days found e = cc
 
 pub few-is : (days found : List ℤ) → few_or_fault days ≡ Ok found → days ≡ found
-few-is days found e = few-by (nat_lt 801 (length days)) days found e
+few-is days found e = few-by (nat_lt MOST_DAYS (length days)) days found e
+
+small-by : (b : Bool) (days found : List ℤ) → ◌≡◌ {A = Result (List ℤ) PlanFault} (if b then Err TooMany else Ok days) (Ok found) → b ≡ false
+small-by true days found e = absurd (cc)
+small-by false days found e = refl
+
+pub few-small : (days found : List ℤ) → few_or_fault days ≡ Ok found → length found ≤ MOST_DAYS
+few-small days found e =
+    let small = small-by (nat_lt MOST_DAYS (length days)) days found e in
+    let same = ap length (few-is days found e) in
+    grind arith

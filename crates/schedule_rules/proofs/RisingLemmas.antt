@@ -1,5 +1,5 @@
 -- Days in the order of time: that they rise, and which they are.
-use Rattle.std.proofs.Common.{◌≡◌, suc, ◌≤◌, Bool, true, false, not, ◌||◌, ◌⊎◌, inl, inr, List, [], ◌∷◌, ◌++◌, length, Option, Some, None, Result, Ok, refl, sym, ap, ◌∙◌, arith, ℤ}
+use Rattle.std.proofs.Common.{◌≡◌, ℕ, suc, ◌+◌, ◌≤◌, Bool, true, false, not, ◌||◌, ◌⊎◌, inl, inr, List, [], ◌∷◌, ◌++◌, length, Option, Some, None, Result, Ok, refl, sym, ap, ◌∙◌, arith, ℤ}
 use Rattle.std.proofs.lemmas.Int.{ints}
 use Rattle.std.proofs.lemmas.List.Kept.{IsStrictlySortedBy-filter}
 use Rattle.std.specs.BTreeSet.{insert_key}
@@ -13,11 +13,12 @@ use Rattle.day_shift.proofs.SetLemmas.{by_test}
 use Rattle.schedule_rules.specs.declared.faults.PlanFault.{PlanFault}
 use Rattle.schedule_rules.specs.Raw.{put_into, rising}
 use Rattle.schedule_rules.specs.Schedule.{day_and, each_of, rising_or_fault, ended}
+use Rattle.schedule_rules.proofs.RawLemmas.{length-put_most}
 
 abbrev pub Rises : List ℤ → Type 0
 Rises days = IsStrictlySortedBy int_cmp days
 
-abbrev AllAfter : ℤ → List ℤ → Type 0
+abbrev pub AllAfter : ℤ → List ℤ → Type 0
 AllAfter day days = AllByRecursion (λ x. int_cmp day x ≡ Less) days
 
 abbrev AllBefore : ℤ → List ℤ → Type 0
@@ -228,3 +229,54 @@ two-ended days start end h before =
 
 pub past_end : (end start : ℤ) → is_le (int_cmp end start) ≡ false → not (le_z end start) ≡ true
 past_end end start e = grind (arith, ints)
+
+-- as many adjusted days as raw ones at most
+length-both : (o : Option ℤ) (rest : Option (List ℤ)) (days : List ℤ) (n : ℕ) → day_and o rest ≡ Some days → ((more : List ℤ) → rest ≡ Some more → length more ≡ n) → length days ≡ suc n
+length-both None rest days n e h = absurd (cc)
+length-both (Some x) None days n e h = absurd (cc)
+length-both (Some x) (Some more) days n e h =
+    let same : x ∷ more ≡ days = cc in
+    ap length (sym same) ∙ ap suc (h more refl)
+
+length-each : (makes : ℤ → Option ℤ) (raw days : List ℤ) → each_of makes raw ≡ Some days → length days ≡ length raw
+unfolding each_of
+length-each makes [] days e = let none : [] ≡ days = cc in ap length (sym none)
+length-each makes (x ∷ raw) days e =
+    length-both (makes x) (each_of makes raw) days (length raw) e (λ more rest. length-each makes raw more rest)
+
+length-rising : (o : Option (List ℤ)) (days : List ℤ) (n : ℕ) → Fine (rising_or_fault o) days → ((more : List ℤ) → o ≡ Some more → length more ≡ n) → length days ≤ n
+length-rising None days n e h = absurd (cc)
+length-rising (Some more) days n e h =
+    let same : rising more ≡ days = cc in
+    omega (arith, ap length same, length-put_most more [], h more refl)
+
+pub length-adjusted : (makes : ℤ → Option ℤ) (raw days : List ℤ) → Fine (rising_or_fault (each_of makes raw)) days → length days ≤ length raw
+length-adjusted makes raw days e =
+    length-rising (each_of makes raw) days (length raw) e (λ more rest. length-each makes raw more rest)
+
+-- and no more where the end comes last, which is one of them
+length-kept : (days : List ℤ) (end : ℤ) → length (filter (is_before end) days) ≤ length days
+length-kept [] end = omega arith
+length-kept (x ∷ xs) end =
+    let rest = length-kept xs end in
+    by_test (is_before end x) (λ holds. rw holds (omega arith)) (λ fails. rw fails (omega arith))
+
+not_before_itself : (end : ℤ) → is_before end end ≡ false
+not_before_itself end = grind (arith, ints)
+
+end-dropped : (days : List ℤ) (end : ℤ) → has days end ≡ true → length (filter (is_before end) days) + 1 ≤ length days
+end-dropped [] end h = absurd (cc)
+end-dropped (x ∷ xs) end h =
+    elim (or_cases (int_eq end x) (has xs end) h) [
+      | inl same ↦
+          let own : is_before end x ≡ false = ap (is_before end) (sym (same_day end x same)) ∙ not_before_itself end in
+          let rest = length-kept xs end in
+          rw own (omega arith)
+      | inr later ↦
+          let rest = end-dropped xs end later in
+          by_test (is_before end x) (λ holds. rw holds (omega arith)) (λ fails. rw fails (omega arith))
+    ]
+
+pub length-ended : (days : List ℤ) (end : ℤ) → has days end ≡ true → length (ended end days) ≤ length days
+length-ended days end h =
+    omega (arith, end-dropped days end h, length-last (filter (is_before end) days) end)

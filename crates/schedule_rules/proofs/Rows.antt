@@ -19,6 +19,7 @@ use Rattle.schedule_rules.specs.declared.plans.Rule.{Rule}
 use Rattle.schedule_rules.specs.declared.plans.Rule.TheVariants.{Backward, Forward, Zero}
 use Rattle.schedule_rules.specs.declared.plans.Plan.{Plan}
 use Rattle.schedule_rules.specs.declared.faults.PlanFault.TheVariants.{Order, Tenor, Stub, TooMany, Collapsed}
+use Rattle.schedule_rules.specs.declared.schedules.TheConstants.{MOST_DAYS}
 use Rattle.schedule_rules.specs.Step.{step, steps_from}
 use Rattle.schedule_rules.specs.Raw.{put_into, raw_days}
 use Rattle.schedule_rules.specs.Schedule.{each_of, schedule}
@@ -76,6 +77,10 @@ collapsed cal = refl
 end_following : (cal : Bor Calendar) → schedule target (plan cal (pos 19_752) (pos 19_812) Months (pos 1) Forward false None None Preceding Following) ≡ Ok (pos 19_752 ∷ pos 19_782 ∷ pos 19_815 ∷ [])
 unfolding schedule each_of adjusted next previous first_from last_to raw_days put_into step steps_from months_later last_of_month is_business_day is_target_holiday weekday_number date_of date_after date_in_year moon_days sunday_days early_weeks easter_place easter_day civil_number days_from_civil day_count days_of_years days_of_months
 end_following cal = refl
+
+-- this project's limit
+most_days : MOST_DAYS ≡ 801
+most_days = refl
 
 -- 1901-01-01 to 1904-01-01 day by day
 too_many : (cal : Bor Calendar) → schedule every (plan cal (neg_ℤ (pos 25_202)) (neg_ℤ (pos 24_107)) Days (pos 1) Backward false None None Unadjusted Unadjusted) ≡ Err TooMany

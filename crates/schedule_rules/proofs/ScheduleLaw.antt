@@ -18,24 +18,24 @@ use Rattle.schedule_rules.proofs.RawLaw.{raw_days_are_steps}
 use Rattle.schedule_rules.proofs.RawLemmas.{few-is}
 use Rattle.schedule_rules.proofs.RisingLemmas.{has, has-rising, has-append, has-adjusted, rises-each, rises-ended, or_cases, or_left, or_right, same_day, day_itself}
 
-abbrev Days : Type 0
+abbrev pub Days : Type 0
 Days = Result (List ℤ) PlanFault
 
 -- what is behind days that are there
-record Behind (first : Days) (next : List ℤ → Days) (dates : List ℤ) : Type 0 where
-  days : List ℤ
-  is : first ≡ Ok days
-  then_is : next days ≡ Ok dates
+pub record Behind (first : Days) (next : List ℤ → Days) (dates : List ℤ) : Type 0 where
+  pub days : List ℤ
+  pub is : first ≡ Ok days
+  pub then_is : next days ≡ Ok dates
 
-behind : (first : Days) (next : List ℤ → Days) (dates : List ℤ) → on_ok first next ≡ Ok dates → Behind first next dates
+pub behind : (first : Days) (next : List ℤ → Days) (dates : List ℤ) → on_ok first next ≡ Ok dates → Behind first next dates
 behind (Ok days) next dates e = record { days = days; is = refl; then_is = e }
 behind (Err fault) next dates e = absurd (cc)
 
-record InTerms (o : Option PlanFault) (rest : Days) (dates : List ℤ) : Type 0 where
-  none : o ≡ None
-  is : rest ≡ Ok dates
+pub record InTerms (o : Option PlanFault) (rest : Days) (dates : List ℤ) : Type 0 where
+  pub none : o ≡ None
+  pub is : rest ≡ Ok dates
 
-in_terms : (o : Option PlanFault) (rest : Days) (dates : List ℤ) → unless o rest ≡ Ok dates → InTerms o rest dates
+pub in_terms : (o : Option PlanFault) (rest : Days) (dates : List ℤ) → unless o rest ≡ Ok dates → InTerms o rest dates
 in_terms (Some fault) rest dates e = absurd (cc)
 in_terms None rest dates e = record { none = refl; is = e }
 
@@ -98,7 +98,7 @@ ended-by : (b : Bool) (days : List ℤ) (dates : List ℤ) → ◌≡◌ {A = Da
 ended-by true days dates e = absurd (cc)
 ended-by false days dates e = cc
 
-ended-is : (days : List ℤ) (start : Option ℤ) (end : ℤ) (dates : List ℤ) → ended_or_fault days start (Some end) ≡ Ok dates → ended end days ≡ dates
+pub ended-is : (days : List ℤ) (start : Option ℤ) (end : ℤ) (dates : List ℤ) → ended_or_fault days start (Some end) ≡ Ok dates → ended end days ≡ dates
 ended-is days None end dates e = absurd (cc)
 ended-is days (Some start) end dates e = ended-by (le_z end start) (ended end days) dates e
 

@@ -8,6 +8,7 @@ use Rattle.day_number.specs.Day.{IsDayNumber}
 use Rattle.schedule_rules.specs.declared.plans.Plan.{Plan}
 use Rattle.schedule_rules.specs.declared.faults.PlanFault.{PlanFault}
 use Rattle.schedule_rules.specs.declared.faults.PlanFault.TheVariants.{TooMany}
+use Rattle.schedule_rules.specs.declared.schedules.TheConstants.{MOST_DAYS}
 use Rattle.schedule_rules.specs.Step.{seed_by, step, steps_from, most_steps}
 use Rattle.schedule_rules.specs.Terms.{fault_of_terms}
 
@@ -28,11 +29,11 @@ named_days plan = plan.start ∷ plan.end ∷ cons_option plan.first (cons_optio
 unfoldable pub raw_days : Plan → List ℤ
 raw_days plan = rising (named_days plan ++ steps_from plan 1 (most_steps plan))
 
--- days, of which there are 801 at most (this project's limit)
+-- days, of which there are not too many (this project's limit)
 abbrev pub few_or_fault : List ℤ → Result (List ℤ) PlanFault
-few_or_fault days = if nat_lt 801 (length days) then Err TooMany else Ok days
+few_or_fault days = if nat_lt MOST_DAYS (length days) then Err TooMany else Ok days
 
--- the raw days, of which there are 801 at most
+-- the raw days, where there are not too many
 abbrev pub raw_or_fault : Plan → Result (List ℤ) PlanFault
 raw_or_fault plan = few_or_fault (raw_days plan)
 

@@ -1,10 +1,12 @@
 -- The schedule of a plan (QuantLib's Schedule).
-use Rattle.std.specs.Prelude.{◌≡◌, ◌↔◌, ◌⊎◌, ◌<ℤ◌, Bool, true, not, if◌then◌else◌, List, [], ◌∷◌, ◌++◌, Option, Some, None, Result, Ok, Err, ℤ}
+use Rattle.std.specs.Prelude.{◌≡◌, ◌↔◌, ◌⊎◌, ◌<ℤ◌, ◌-◌, length, slice_get, Bool, true, not, if◌then◌else◌, List, [], ◌∷◌, ◌++◌, Option, Some, None, Result, Ok, Err, ℤ}
+use Rattle.std.specs.Borrow.{Bor}
 use Rattle.std.specs.Int.Signed.{le_z}
 use Rattle.std.specs.List.{filter, list_any}
 use Rattle.std.specs.List.Sorted.{IsStrictlySortedBy}
 use Rattle.std.specs.Ordering.{int_cmp, int_eq}
 use Rattle.day_number.specs.Day.{IsDayNumber}
+use Rattle.holiday_calendars.specs.declared.calendars.Calendar.{Calendar}
 use Rattle.day_shift.specs.Adjusted.{adjusted}
 use Rattle.schedule_rules.specs.declared.plans.Plan.{Plan}
 use Rattle.schedule_rules.specs.declared.faults.PlanFault.{PlanFault}
@@ -100,3 +102,18 @@ SchedulesAreAdjustedDays =
     × ((day : ℤ)
     → (list_any (int_eq day) dates ≡ true)
     ↔ ((day ≡ end) ⊎ ((day <ℤ end) × IsAdjusted business plan day)))
+
+-- law: the first day of a schedule is the adjusted start, and the last is the adjusted end
+abbrev pub SchedulesBeginAndEnd : Type 0
+SchedulesBeginAndEnd =
+    (business : ℤ → Bool) (plan : Plan) (dates : List ℤ)
+    → IsDayNumber plan.start → IsDayNumber plan.end
+    → schedule business plan ≡ Ok dates
+    → (slice_get dates 0 ≡ adjusted_raw business plan plan.start)
+    × (slice_get dates (length dates - 1) ≡ adjusted_raw business plan plan.end)
+
+-- law: a schedule goes by the business days and not by the reference that a plan holds to its calendar
+abbrev pub SchedulesGoByTheDays : Type 0
+SchedulesGoByTheDays =
+    (business : ℤ → Bool) (plan : Plan) (cal : Bor Calendar)
+    → schedule business (record plan { cal = cal }) ≡ schedule business plan

@@ -1,7 +1,7 @@
 //! The days of a schedule: from a start to an end in steps of a tenor, backward or forward, with stubs, each moved to a
 //! business day.
 //!
-//! `Plan`, `Rule`, `make`, `Schedule`, `PlanFault`.
+//! `Plan`, `Rule`, `make`, `Schedule`, `MOST_DAYS`, `PlanFault`.
 #![tactic(auto)]
 
 mod checks;
@@ -16,7 +16,4 @@ mod steps;
 pub use faults::PlanFault;
 pub use making::make;
 pub use plans::{Plan, Rule};
-pub use schedules::Schedule;
-
-#[cfg(test)]
-mod tests;
+pub use schedules::{MOST_DAYS, Schedule};

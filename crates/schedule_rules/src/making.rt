@@ -1,5 +1,5 @@
 // Schedules made from plans.
-ghost use Rattle.std.specs.Prelude.{◌≡◌, ◌⊎◌, Ok, Err, None, IfOk, IfErr, IfSome};
+ghost use Rattle.std.specs.Prelude.{◌≡◌, ◌⊎◌, ◌-◌, Ok, Err, None, IfOk, IfErr, IfSome, length, slice_get};
 ghost use Rattle.std.specs.BTreeSet.{keys};
 ghost use Rattle.holiday_calendars.specs.Calendar.{is_business_day};
 ghost use Rattle.schedule_rules.specs.Terms as terms;
@@ -17,12 +17,18 @@ use std::collections::BTreeSet;
 /// or the end backward and `first` or the start forward; each is adjusted, and those before the adjusted end are listed
 /// once and in the order of time, then the adjusted end. A step starts at the seed and not at the day before it. The
 /// fault is the first that holds, in the order of `PlanFault`; `NoMemory` may come instead of the last three and of a schedule.
+/// The first day is the adjusted start and the last the adjusted end.
 pub fn make(alloc: Global, plan: &Plan<'_>) -> Result<Schedule, PlanFault>
     ensures dates { IfOk result (λ dates. schedule.schedule (is_business_day plan.now.cal.now) plan.now ≡ Ok dates) }
     ensures fault { IfErr result (λ fault. schedule.IsMemory fault
         ⊎ (schedule.schedule (is_business_day plan.now.cal.now) plan.now ≡ Err fault)) }
+    ensures first { IfOk result (λ dates. slice_get dates 0
+        ≡ schedule.adjusted_raw (is_business_day plan.now.cal.now) plan.now plan.now.start) }
+    ensures last { IfOk result (λ dates. slice_get dates (length dates - 1)
+        ≡ schedule.adjusted_raw (is_business_day plan.now.cal.now) plan.now plan.now.end) }
     ensures terms { IfSome (terms.fault_of_terms plan.now) (λ fault. result ≡ Err fault) }
 {
+    let _numbers = (plan.start.number(), plan.end.number());
     match fault_of_terms(plan) {
         Some(fault) => Err(fault),
         None => dated(alloc, plan),

@@ -7,13 +7,14 @@ ghost use Rattle.schedule_rules.specs.Raw as raw;
 ghost use Rattle.schedule_rules.specs.Schedule as schedule;
 ghost use Rattle.schedule_rules.specs.Terms as terms;
 
+use crate::schedules::MOST_DAYS;
 use crate::steps::{seed, step};
 use crate::{Plan, PlanFault};
 use day_number::Day;
 use std::alloc::Global;
 use std::collections::BTreeSet;
 
-// The days that the plan names and the steps, 801 at most.
+// The days that the plan names and the steps, `MOST_DAYS` at most.
 pub(crate) fn raw_days(alloc: Global, plan: &Plan<'_>) -> Result<BTreeSet<Day>, PlanFault>
     requires { terms.fault_of_terms plan.now ≡ None }
     ensures { schedule.Gives keys (raw.raw_or_fault plan.now) result }
@@ -41,7 +42,7 @@ fn put(given: BTreeSet<Day>, day: Option<Day>) -> Result<BTreeSet<Day>, PlanFaul
     Ok(days)
 }
 
-// Days and the steps, 801 at most. The numbers are read for their range, which bounds the steps.
+// Days and the steps, `MOST_DAYS` at most. The numbers are read for their range, which bounds the steps.
 fn with_steps(plan: &Plan<'_>, given: BTreeSet<Day>) -> Result<BTreeSet<Day>, PlanFault>
     requires { terms.fault_of_terms plan.now ≡ None }
     ensures { let steps = step.steps_from plan.now 1 (step.most_steps plan.now) in
@@ -50,7 +51,7 @@ fn with_steps(plan: &Plan<'_>, given: BTreeSet<Day>) -> Result<BTreeSet<Day>, Pl
     let _numbers = (seed(plan).number(), plan.start.number(), plan.end.number());
     let mut days = given;
     let mut k = 1;
-    while days.len() <= 801 {
+    while days.len() <= MOST_DAYS {
         let Some(day) = step(plan, k) else {
             return Ok(days);
         };

@@ -1,5 +1,5 @@
 // The days a number of tenors from a plan's seed.
-ghost use Rattle.std.specs.Prelude.{◌≡◌, ◌*ℤ◌, pos};
+ghost use Rattle.std.specs.Prelude.{◌≡◌, ◌*ℤ◌, ◌^◌, ◌-◌, pos};
 ghost use Rattle.jiff_core.specs.Calendar.{IsWithin};
 ghost use Rattle.day_shift.specs.Month.{month_at};
 ghost use Rattle.schedule_rules.specs.Step as step;
@@ -48,10 +48,18 @@ fn count(rule: Rule, tenor: Tenor, k: u32) -> i64
     ensures { result ≡ step.count_by rule tenor k }
 {
     match rule {
-        Rule::Backward => -(i64::from(k) * i64::from(tenor.count)),
-        Rule::Forward => i64::from(k) * i64::from(tenor.count),
+        Rule::Backward => -times(k, tenor.count),
+        Rule::Forward => times(k, tenor.count),
         Rule::Zero => 0,
     }
+}
+
+// A count k times.
+fn times(k: u32, count: i32) -> i64
+    ensures value { result ≡ pos k *ℤ count }
+    ensures range { IsWithin (2 ^ 63 - 1) result }
+{
+    i64::from(k) * i64::from(count)
 }
 
 // The day n of a unit from a seed, whose month end is kept or not.

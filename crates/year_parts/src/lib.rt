@@ -8,8 +8,6 @@ mod bases;
 mod counters;
 mod laws;
 mod parts;
-#[cfg(test)]
-mod tests;
 
 pub use bases::{Basis, of_days};
 pub use counters::Counter;

@@ -21,7 +21,7 @@ room : (c : goal.In_ok-insert) → c.loop-day.k ≤ most_steps c.args.plan.now
 room c =
     let plan = c.args.plan.now in
     let seed : IsDayNumber (seed_by plan.rule plan) = rw (c.number.ensures.value ∙ c.seed.ensures) at c.number.ensures.range in
-    step-room plan c.loop-day.k c.in-Some.day (in_order plan c.requires) seed c.loop-day.invariant.low (sym c.step.ensures ∙ c.in-Some.is)
+    (step-room plan c.loop-day.k c.in-Some.day (in_order plan c.requires) seed c.loop-day.invariant.low (sym c.step.ensures ∙ c.in-Some.is)).few
 
 pub overflow_add-k : goal.overflow_add-k
 overflow_add-k c =

@@ -1,0 +1,44 @@
+// Days that counters count, by QuantLib 1.29.
+use crate::row::{Row, RowFault};
+use day_counters::fraction;
+use day_number::Day;
+use year_parts::Counter;
+
+// The parts of a day of a year of 360, of 365 and of 366 days.
+const PARTS_OF_360: i64 = 4_453;
+
+const PARTS_OF_365: i64 = 4_392;
+
+const PARTS_OF_366: i64 = 4_380;
+
+/// `from,to,days,leap,other,bond,european`: the days from one day to another: all of them, those in leap years, the
+/// others, and those of 30/360 by Bond Basis and by the European rule.
+pub(crate) fn count_agrees(row: &mut Row<'_>) -> Result<bool, RowFault> {
+    let from = row.day()?;
+    let to = row.day()?;
+    let days = row.number()?;
+    let leap = row.number()?;
+    let other = row.number()?;
+    let bond = row.number()?;
+    let european = row.number()?;
+    if !(from <= to) {
+        return Err(RowFault::NotARow);
+    }
+    let by_year = parts(leap, PARTS_OF_366).wrapping_add(parts(other, PARTS_OF_365));
+    Ok(
+        has_parts(Counter::Act360, from, to, parts(days, PARTS_OF_360))
+            && has_parts(Counter::Act365, from, to, parts(days, PARTS_OF_365))
+            && has_parts(Counter::ActAct, from, to, by_year)
+            && has_parts(Counter::Thirty360, from, to, parts(bond, PARTS_OF_360))
+            && has_parts(Counter::ThirtyE360, from, to, parts(european, PARTS_OF_360)),
+    )
+}
+
+fn parts(days: i32, each: i64) -> i64 {
+    i64::from(days).wrapping_mul(each)
+}
+
+// Whether the fraction from a day to one that is not before it has so many parts.
+fn has_parts(counter: Counter, from: Day, to: Day, parts: i64) -> bool {
+    from <= to && fraction(counter, from, to).0 == parts
+}

@@ -1,0 +1,21 @@
+//! Discount curves as nodes after a reference day: the discount factor at a day, the curve seen from a later day, and a
+//! copy of a curve.
+//!
+//! `CurveValue`, `CurveNode`, `NodeList`, `are_rising`, `ONE`, `MOST`; `discount`, `PointFault`; `implied`,
+//! `ImpliedFault`; `copy_curve`; `factor_beyond`, `factor_between`. Functions whose names end in `law` do nothing: their
+//! contracts are what is proved of the definitions.
+#![tactic(auto)]
+
+mod copies;
+mod curves;
+mod laws;
+mod points;
+mod seen;
+mod segments;
+
+pub use copies::copy_curve;
+pub use curves::{CurveNode, CurveValue, MOST, NodeList, ONE, are_rising};
+pub use laws::{between_nodes_law, implied_there_law, node_day_law, segment_law};
+pub use points::{PointFault, discount, factor_beyond};
+pub use seen::{ImpliedFault, implied};
+pub use segments::factor_between;

@@ -1,0 +1,9 @@
+pub mod CastLemmas
+pub mod SumLemmas
+pub mod CouponLemmas
+pub mod GivenLemmas
+pub mod SwapLemmas
+pub mod NodeLemmas
+pub mod BuiltLemmas
+pub mod LawLemmas
+pub mod Rows

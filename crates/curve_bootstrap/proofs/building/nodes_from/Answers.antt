@@ -1,0 +1,35 @@
+use Rattle.std.proofs.Common.{arith, ◌≡◌, ◌∙◌, ◌<◌, sym, ap, subst, length, List, [], ◌∷◌, ◌++◌, ◌<ℤ◌, Ok, Err}
+use Rattle.curve_points.specs.declared.curves.CurveNode.{CurveNode}
+use Rattle.curve_points.specs.Curve.{IsRisingFrom, origin}
+use Rattle.curve_bootstrap.specs.Node.{last_of}
+use Rattle.curve_bootstrap.specs.Built.{coupons_of, node_by}
+use Rattle.curve_bootstrap.proofs.NodeLemmas.{rising_push, last_push}
+use Rattle.curve_bootstrap.proofs.GivenLemmas.{gives_by}
+use Rattle.curve_bootstrap.proofs.BuiltLemmas.{nodes_more, nodes_fault, nodes_done}
+use Rattle.curve_bootstrap.proofs.building.nodes_from.Goals as goal
+
+pub returns-clause-given : goal.returns-clause-given
+returns-clause-given c =
+    c.loop-at.invariant.due ∙ nodes_done (coupons_of c.args.calendar.now c.args.reference) (origin c.args.reference) _ c.loop-at.nodes c.args.helpers.now c.args.rates.now c.loop-at.at c.loop-at-test.false
+
+pub returns-in-Err-clause-given : goal.returns-in-Err-clause-given
+returns-in-Err-clause-given c =
+    let rates : c.loop-at.at < length c.args.rates.now = omega (arith, c.requires.rates) in
+    let coupons = coupons_of c.args.calendar.now c.args.reference in
+    let same = ap (λ (ns : List CurveNode). node_by (origin c.args.reference) ns c.index-rates-at.result (coupons c.index-helpers-at.result)) c.items.ensures in
+    nodes_fault coupons (origin c.args.reference) c.loop-at.nodes c.args.helpers.now c.args.rates.now c.loop-at.at c.index-helpers-at.result c.index-rates-at.result c.in-Err.fault c.numbered.result
+    _ c.loop-at.invariant.due c.loop-at-test.true c.index-helpers-at.is rates c.index-rates-at.is (gives_by {X = CurveNode} {Y = CurveNode} (λ node. node) _ _ (Err c.in-Err.fault) same c.in-Err.ensures.given) c.numbered.ensures
+
+pub loop-at-preserved : goal.loop-at-preserved
+loop-at-preserved c =
+    let rates : c.loop-at.at < length c.args.rates.now = omega (arith, c.requires.rates) in
+    let coupons = coupons_of c.args.calendar.now c.args.reference in
+    let same = ap (λ (ns : List CurveNode). node_by (origin c.args.reference) ns c.index-rates-at.result (coupons c.index-helpers-at.result)) c.items.ensures in
+    let pushed : c.push.new.self ≡ c.loop-at.nodes ++ c.in-Ok.found ∷ [] = c.in_ok-push-in-Ok.ensures.ok in
+    let after = subst (λ (n : CurveNode). n.day <ℤ c.in-Ok.found.day) c.loop-at.invariant.last c.in-Ok.ensures.after in
+    record {
+      rising = subst (λ (ns : List CurveNode). IsRisingFrom c.args.reference ns) (sym pushed) (rising_push (origin c.args.reference) c.loop-at.nodes c.in-Ok.found c.loop-at.invariant.rising after);
+      last = subst (λ (ns : List CurveNode). c.in-Ok.found ≡ last_of (origin c.args.reference) ns) (sym pushed) (last_push (origin c.args.reference) c.loop-at.nodes c.in-Ok.found);
+      due = c.loop-at.invariant.due ∙ nodes_more coupons (origin c.args.reference) c.loop-at.nodes c.push.new.self c.args.helpers.now c.args.rates.now c.loop-at.at c.index-helpers-at.result c.index-rates-at.result c.in-Ok.found
+          c.loop-at-test.true c.index-helpers-at.is rates c.index-rates-at.is (sym same ∙ c.in-Ok.ensures.given) pushed;
+    }

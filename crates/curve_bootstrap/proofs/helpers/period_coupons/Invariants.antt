@@ -1,0 +1,6 @@
+use Rattle.std.proofs.Common.{◌≡◌, take}
+use Rattle.curve_bootstrap.specs.Built.{periods}
+use Rattle.curve_bootstrap.proofs.helpers.period_coupons.Given as goal
+
+abbrev pub invariant-loop-at : goal.invariant-loop-at
+invariant-loop-at l = l.coupons.items ≡ periods l.counter (take l.at l.dates)

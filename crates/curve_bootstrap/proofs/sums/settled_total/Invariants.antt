@@ -1,0 +1,7 @@
+use Rattle.std.proofs.Common.{◌≡◌, ◌*◌, ◌^◌, pos, ◌≤ℤ◌, take}
+use Rattle.curve_bootstrap.specs.Coupon.{total}
+use Rattle.curve_bootstrap.specs.Split.{settled_of}
+use Rattle.curve_bootstrap.proofs.sums.settled_total.Given as goal
+
+abbrev pub invariant-loop-coupon : goal.invariant-loop-coupon
+invariant-loop-coupon l = record { value : l.sum ≡ total (settled_of l.from l.nodes) (take l.coupon-index l.coupons); low : pos 0 ≤ℤ l.sum; high : l.sum ≤ℤ pos (l.coupon-index * (8 * 10 ^ 24)) }

@@ -1,0 +1,5 @@
+pub mod Coupon
+pub mod Node
+pub mod Split
+pub mod Built
+pub mod Laws

@@ -1,0 +1,169 @@
+// A curve from its terms.
+ghost use Rattle.std.specs.Prelude.{◌≡◌, ◌≤◌, length, [], ◌<ℤ◌, IfOk, IfNone, Ok, Err};
+ghost use Rattle.std.specs.List.{All};
+ghost use Rattle.day_shift.specs.Business.{IsBusinessDay};
+ghost use Rattle.holiday_calendars.specs.Calendar.{is_business_day};
+ghost use Rattle.curve_terms.specs.Terms.{IsInRange, IsHelper};
+ghost use Rattle.curve_points.specs.Curve.{IsRisingFrom, origin};
+ghost use Rattle.curve_bootstrap.specs.Coupon.{AreCoupons};
+ghost use Rattle.curve_bootstrap.specs.Node.{last_of};
+ghost use Rattle.curve_bootstrap.specs.Built as due;
+
+use crate::faults::{HelperFault, numbered};
+use crate::helpers::coupons_of;
+use crate::nodes::node;
+use crate::{BuildFault, Coupon};
+use curve_points::{CurveNode, CurveValue, NodeList, ONE};
+use curve_terms::{CurveTerms, Helper};
+use day_number::{Convention, Day, Unit};
+use day_shift::advance;
+use desk_names::ObjId;
+use fixed_amount::{Discount, Rate};
+use holiday_calendars::Calendar;
+use std::alloc::Global;
+
+/// The curve of terms on an evaluation date, by the rates of the helpers in their order. The reference day is the date
+/// with the settlement days added; every helper starts there. The factor at a helper's end is the least whole number of
+/// units from 1 to 4 * 10^12 at which the helper is worth 1 or more on the curve so far.
+pub fn build(
+    alloc: Global,
+    owner: ObjId,
+    terms: &CurveTerms,
+    today: Day,
+    rates: &[Rate],
+) -> Result<CurveValue, BuildFault>
+    requires range { IsInRange terms.now }
+    requires rates { length rates.now ≡ length terms.now.helpers }
+    ensures curve { due.Gives (due.built_curve owner terms.now today rates.now) result }
+    ensures reference { IfNone (due.reference_day terms.now today) (result ≡ Err BuildFault.DateRange) }
+{
+    let _number = today.number();
+    let settlement = i32::from(terms.settlement);
+    match advance(
+        &terms.cal,
+        today,
+        settlement,
+        Unit::Days,
+        Convention::Following,
+        false,
+    ) {
+        Ok(reference) => built(alloc, owner, terms, reference, rates),
+        Err(_) => Err(BuildFault::DateRange),
+    }
+}
+
+// The curve from a reference day.
+fn built(
+    alloc: Global,
+    owner: ObjId,
+    terms: &CurveTerms,
+    reference: Day,
+    rates: &[Rate],
+) -> Result<CurveValue, BuildFault>
+    requires range { IsInRange terms.now }
+    requires rates { length rates.now ≡ length terms.now.helpers }
+    requires business { IsBusinessDay (is_business_day terms.now.cal) reference }
+    ensures { due.Gives (due.curve_of owner reference
+        (due.nodes_of (due.coupons_of terms.now.cal reference) (origin reference) 1 [] terms.now.helpers rates.now)) result }
+{
+    match nodes_from(alloc, &terms.cal, reference, terms.helpers.items(), rates) {
+        Ok(nodes) => Ok(CurveValue::new(owner, reference, nodes)),
+        Err(fault) => Err(fault),
+    }
+}
+
+// The nodes of all helpers.
+fn nodes_from(
+    alloc: Global,
+    calendar: &Calendar,
+    reference: Day,
+    helpers: &[Helper],
+    rates: &[Rate],
+) -> Result<NodeList, BuildFault>
+    requires business { IsBusinessDay (is_business_day calendar.now) reference }
+    requires range { All IsHelper helpers.now }
+    requires count { length helpers.now ≤ 64 }
+    requires rates { length rates.now ≡ length helpers.now }
+    ensures given { due.Gives (due.nodes_of (due.coupons_of calendar.now reference) (origin reference) 1 [] helpers.now rates.now) result }
+    ensures rising { IfOk result (λ nodes. IsRisingFrom reference nodes) }
+{
+    let first = CurveNode {
+        day: reference,
+        factor: Discount(ONE),
+    };
+    let mut nodes = NodeList::new(alloc);
+    let mut last = first;
+    for (at, helper) in helpers.iter().enumerate() {
+        match next_node(
+            alloc,
+            calendar,
+            &first,
+            nodes.items(),
+            &last,
+            helper,
+            rates[at],
+        ) {
+            Ok(found) => {
+                last = found;
+                nodes.push(found)?;
+            }
+            Err(fault) => return Err(numbered(fault, at as u32 + 1)),
+        }
+    }
+    Ok(nodes)
+}
+
+// The node of one helper behind others.
+fn next_node(
+    alloc: Global,
+    calendar: &Calendar,
+    from: &CurveNode,
+    nodes: &[CurveNode],
+    last: &CurveNode,
+    helper: &Helper,
+    rate: Rate,
+) -> Result<CurveNode, HelperFault>
+    requires business { IsBusinessDay (is_business_day calendar.now) from.now.day }
+    requires range { IsHelper helper.now }
+    requires rising { IsRisingFrom from.now.day nodes.now }
+    requires last { last.now ≡ last_of from.now nodes.now }
+    ensures given { due.GivesHelper (λ node. node) (due.node_by from.now nodes.now rate (due.coupons_of calendar.now from.now.day helper.now)) result }
+    ensures after { IfOk result (λ node. last.now.day <ℤ node.day) }
+{
+    match coupons_of(alloc, calendar, from.day, helper) {
+        Ok(coupons) => node_by(from, nodes, last, rate, &coupons),
+        Err(fault) => Err(fault),
+    }
+}
+
+// The node of one helper by its coupons.
+fn node_by(
+    from: &CurveNode,
+    nodes: &[CurveNode],
+    last: &CurveNode,
+    rate: Rate,
+    coupons: &[Coupon],
+) -> Result<CurveNode, HelperFault>
+    requires rising { IsRisingFrom from.now.day nodes.now }
+    requires last { last.now ≡ last_of from.now nodes.now }
+    requires coupons { AreCoupons from.now.day (due.end_of from.now.day coupons.now) coupons.now }
+    ensures given { result ≡ due.node_by from.now nodes.now rate (Ok coupons.now) }
+    ensures after { IfOk result (λ node. last.now.day <ℤ node.day) }
+{
+    let end = end_of(from.day, coupons);
+    match node(from, nodes, last, end, rate, coupons) {
+        Ok(factor) => Ok(CurveNode { day: end, factor }),
+        Err(fault) => Err(fault),
+    }
+}
+
+// The day of the last coupon.
+fn end_of(reference: Day, coupons: &[Coupon]) -> Day
+    ensures { result ≡ due.end_of reference coupons.now }
+{
+    let count = coupons.len();
+    if count == 0 {
+        return reference;
+    }
+    coupons[count - 1].day
+}

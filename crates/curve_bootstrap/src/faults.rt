@@ -1,0 +1,83 @@
+// Why a curve is not built.
+ghost use Rattle.std.specs.Prelude.{◌≡◌};
+ghost use Rattle.curve_bootstrap.specs.Built.{numbered};
+
+use std::alloc::{AllocError, AllocFailed};
+use thiserror::Error;
+
+/// Why a helper has no node. The first that holds, in this order, is the answer; want of memory may come in its place.
+#[derive(Clone, Copy, Debug, PartialEq, Eq)]
+pub enum HelperFault {
+    /// A day leaves the range.
+    DateRange,
+    /// Its end is not after the end of the helper before it, or, of the first, not after the reference day.
+    Pillar,
+    /// Its rate is beyond 10 either way.
+    RateRange,
+    /// Its rate is so far below zero that its coupons outweigh what is paid at the end.
+    Negative,
+    /// No factor from one unit to 4 fits it.
+    Discount,
+    /// Memory is wanting.
+    NoMemory,
+}
+
+/// Why a curve is not built. Helpers are counted from 1; the first that is refused decides. Want of memory may come in
+/// place of each, but of a reference day that leaves the range.
+#[derive(Clone, Copy, Debug, PartialEq, Eq, Error)]
+pub enum BuildFault {
+    /// The helper's end is not after the end of the one before it, or, of the first, not after the reference day.
+    #[error("the end of helper {0} is not after the one before it")]
+    Pillar(u32),
+    /// No discount factor from one unit to 4 fits the helper.
+    #[error("no discount factor fits helper {0}")]
+    Discount(u32),
+    /// The helper's rate is so far below zero that its coupons outweigh what is paid at the end.
+    #[error("the negative rate of helper {0} outweighs its notional")]
+    Negative(u32),
+    /// A rate is beyond 10 either way.
+    #[error("a rate is beyond 10")]
+    RateRange,
+    /// A day leaves the range from 1901-01-01 to 2199-12-31.
+    #[error("a day is out of range")]
+    DateRange,
+    /// Memory is wanting.
+    #[error("out of memory")]
+    NoMemory,
+}
+
+/// A helper's fault with the helper's number.
+pub(crate) fn numbered(fault: HelperFault, k: u32) -> BuildFault
+    ensures { result ≡ numbered k fault }
+{
+    match fault {
+        HelperFault::DateRange => BuildFault::DateRange,
+        HelperFault::Pillar => BuildFault::Pillar(k),
+        HelperFault::RateRange => BuildFault::RateRange,
+        HelperFault::Negative => BuildFault::Negative(k),
+        HelperFault::Discount => BuildFault::Discount(k),
+        HelperFault::NoMemory => BuildFault::NoMemory,
+    }
+}
+
+impl From<AllocError> for BuildFault {
+    ghost use Rattle.std.specs.Prelude.{◌≡◌};
+    ghost use Rattle.curve_bootstrap.specs.declared.faults.BuildFault.TheVariants.{NoMemory};
+
+    ghost from_gives = { λ _ e. e ≡ NoMemory };
+
+    fn from(_: AllocError) -> BuildFault {
+        BuildFault::NoMemory
+    }
+}
+
+impl<T: Drop> From<AllocFailed<T>> for HelperFault {
+    ghost use Rattle.std.specs.Prelude.{◌≡◌};
+    ghost use Rattle.curve_bootstrap.specs.declared.faults.HelperFault.TheVariants.{NoMemory};
+
+    ghost from_gives = { λ _ e. e ≡ NoMemory };
+
+    fn from(_: AllocFailed<T>) -> HelperFault {
+        HelperFault::NoMemory
+    }
+}

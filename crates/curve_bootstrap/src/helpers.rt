@@ -1,0 +1,171 @@
+// The coupons of a helper.
+ghost use Rattle.std.specs.Prelude.{◌≡◌, ◌≤ℤ◌, pos, IfOk, Some, None, Ok};
+ghost use Rattle.std.specs.List.Sorted.{IsStrictlySortedBy};
+ghost use Rattle.std.specs.Ordering.{int_cmp};
+ghost use Rattle.day_counters.specs.Counter.{frac};
+ghost use Rattle.day_number.specs.Tenor.{IsTenor};
+ghost use Rattle.day_shift.specs.Business.{IsBusinessDay};
+ghost use Rattle.holiday_calendars.specs.Calendar.{is_business_day};
+ghost use Rattle.schedule_rules.specs.Step.{units_on};
+ghost use Rattle.curve_terms.specs.Terms.{IsHelper, IsOfMonths};
+ghost use Rattle.curve_bootstrap.specs.Coupon.{AreCoupons};
+ghost use Rattle.curve_bootstrap.specs.Built as due;
+
+use crate::Coupon;
+use crate::faults::HelperFault;
+use curve_terms::Helper;
+use day_counters::fraction;
+use day_number::{Day, Tenor, Unit, add_days, add_months};
+use day_shift::advance;
+use holiday_calendars::Calendar;
+use schedule_rules::{Plan, PlanFault, Rule, make};
+use std::alloc::Global;
+use year_parts::Counter;
+
+/// The coupons of a helper that starts at the reference day.
+pub(crate) fn coupons_of(
+    alloc: Global,
+    calendar: &Calendar,
+    reference: Day,
+    helper: &Helper,
+) -> Result<Vec<Coupon>, HelperFault>
+    requires business { IsBusinessDay (is_business_day calendar.now) reference }
+    requires range { IsHelper helper.now }
+    ensures given { due.GivesHelper (λ cs. cs.items) (due.coupons_of calendar.now reference helper.now) result }
+    ensures fits { IfOk result (λ cs. AreCoupons reference (due.end_of reference cs.items) cs.items) }
+{
+    match helper.every {
+        None => deposit_coupons(alloc, calendar, reference, helper),
+        Some(every) => swap_coupons(alloc, calendar, reference, helper, every),
+    }
+}
+
+// The one coupon of a deposit.
+fn deposit_coupons(
+    alloc: Global,
+    calendar: &Calendar,
+    reference: Day,
+    helper: &Helper,
+) -> Result<Vec<Coupon>, HelperFault>
+    requires business { IsBusinessDay (is_business_day calendar.now) reference }
+    requires range { IsTenor helper.now.tenor }
+    ensures given { due.GivesHelper (λ cs. cs.items) (due.coupons_by calendar.now reference helper.now None) result }
+    ensures fits { IfOk result (λ cs. AreCoupons reference (due.end_of reference cs.items) cs.items) }
+{
+    let tenor = helper.tenor;
+    match advance(
+        calendar,
+        reference,
+        tenor.count,
+        tenor.unit,
+        helper.conv,
+        helper.eom,
+    ) {
+        Ok(day) => one_coupon(alloc, helper.counter, reference, day),
+        Err(_) => Err(HelperFault::DateRange),
+    }
+}
+
+// A coupon for one period.
+fn one_coupon(
+    alloc: Global,
+    counter: Counter,
+    from: Day,
+    to: Day,
+) -> Result<Vec<Coupon>, HelperFault>
+    requires { from ≤ℤ to }
+    ensures given { due.GivesHelper (λ cs. cs.items) (due.deposit_to counter from (Some to)) result }
+    ensures fits { IfOk result (λ cs. AreCoupons from (due.end_of from cs.items) cs.items) }
+{
+    let mut coupons = Vec::new(alloc);
+    coupons.push(coupon(counter, from, to))?;
+    Ok(coupons)
+}
+
+// The coupon of a period.
+fn coupon(counter: Counter, from: Day, to: Day) -> Coupon
+    requires { from ≤ℤ to }
+    ensures { result ≡ record { day = to; parts = pos (frac counter from to) } }
+{
+    Coupon {
+        day: to,
+        parts: fraction(counter, from, to),
+    }
+}
+
+// The coupons of a par swap.
+fn swap_coupons(
+    alloc: Global,
+    calendar: &Calendar,
+    reference: Day,
+    helper: &Helper,
+    every: Tenor,
+) -> Result<Vec<Coupon>, HelperFault>
+    requires business { IsBusinessDay (is_business_day calendar.now) reference }
+    requires tenor { IsOfMonths helper.now.tenor }
+    requires every { IsOfMonths every }
+    ensures given { due.GivesHelper (λ cs. cs.items) (due.coupons_by calendar.now reference helper.now (Some every)) result }
+    ensures fits { IfOk result (λ cs. AreCoupons reference (due.end_of reference cs.items) cs.items) }
+{
+    let Some(end) = moved(reference, helper.tenor) else {
+        return Err(HelperFault::DateRange);
+    };
+    let plan = Plan {
+        start: reference,
+        end,
+        tenor: every,
+        cal: calendar,
+        conv: helper.conv,
+        end_conv: helper.conv,
+        rule: Rule::Backward,
+        eom: helper.eom,
+        first: None,
+        last: None,
+    };
+    match make(alloc, &plan) {
+        Ok(schedule) => period_coupons(alloc, helper.counter, schedule.dates()),
+        Err(fault) => Err(refused_by(fault)),
+    }
+}
+
+// What a fault of a schedule is for a helper whose terms are in range.
+fn refused_by(fault: PlanFault) -> HelperFault
+    requires { due.Comes fault }
+    ensures { result ≡ due.fault_of fault }
+{
+    match fault {
+        PlanFault::DateRange => HelperFault::DateRange,
+        PlanFault::Collapsed => HelperFault::Pillar,
+        PlanFault::NoMemory => HelperFault::NoMemory,
+        PlanFault::Order | PlanFault::Tenor | PlanFault::Stub | PlanFault::TooMany =>
+            unreachable!(),
+    }
+}
+
+// The day a tenor of months later, not adjusted.
+fn moved(day: Day, tenor: Tenor) -> Option<Day>
+    requires { IsOfMonths tenor }
+    ensures { result ≡ units_on tenor.unit day tenor.count }
+{
+    match tenor.unit {
+        Unit::Months => add_months(day, tenor.count).ok(),
+        Unit::Years => add_months(day, tenor.count * 12).ok(),
+        Unit::Days | Unit::Weeks => unreachable!(),
+    }
+}
+
+// A coupon for each period of a schedule.
+fn period_coupons(
+    alloc: Global,
+    counter: Counter,
+    dates: &[Day],
+) -> Result<Vec<Coupon>, HelperFault>
+    requires { IsStrictlySortedBy int_cmp dates.now }
+    ensures { due.GivesHelper (λ cs. cs.items) (Ok (due.periods counter dates.now)) result }
+{
+    let mut coupons = Vec::new(alloc);
+    for at in 1..dates.len() {
+        coupons.push(coupon(counter, dates[at - 1], dates[at]))?;
+    }
+    Ok(coupons)
+}

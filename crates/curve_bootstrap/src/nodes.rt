@@ -1,0 +1,161 @@
+// The node of a helper whose coupons are known.
+ghost use Rattle.std.specs.Prelude.{◌≡◌, length, ◌≤◌, ◌*◌, ◌^◌, pos, ◌≤ℤ◌, ◌<ℤ◌, ◌-ℤ◌, ◌+ℤ◌, unsigned_abs, int_le, IfOk};
+ghost use Rattle.std.specs.List.{AllWithin};
+ghost use Rattle.curve_points.specs.Curve.{IsRisingFrom};
+ghost use Rattle.curve_points.specs.Segment.{most};
+ghost use Rattle.curve_bootstrap.specs.Coupon.{AreCoupons, AreOrdered, AreAfter, AreUpTo};
+ghost use Rattle.curve_bootstrap.specs.Node.{node_of, last_of, is_negative_sum};
+ghost use Rattle.curve_bootstrap.specs.Split.{split_excess, IsRoot};
+
+use crate::Coupon;
+use crate::excesses::{MOST_FACTOR, WHOLE, excess_at};
+use crate::faults::HelperFault;
+use crate::sums::{parts_total, settled_total, wide};
+use curve_points::CurveNode;
+use day_number::Day;
+use fixed_amount::{Discount, Rate};
+
+/// The factor at the end of a helper that pays coupons for a rate, behind the nodes so far.
+pub(crate) fn node(
+    from: &CurveNode,
+    nodes: &[CurveNode],
+    last: &CurveNode,
+    end: Day,
+    rate: Rate,
+    coupons: &[Coupon],
+) -> Result<Discount, HelperFault>
+    requires rising { IsRisingFrom from.now.day nodes.now }
+    requires last { last.now ≡ last_of from.now nodes.now }
+    requires coupons { AreCoupons from.now.day end coupons.now }
+    ensures value { result ≡ node_of from.now nodes.now end rate coupons.now }
+    ensures after { IfOk result (λ _. last.now.day <ℤ end) }
+{
+    if is_not_after(end, last.day) {
+        return Err(HelperFault::Pillar);
+    }
+    let units = units_of(rate);
+    if units.unsigned_abs() > 10_000_000_000 {
+        return Err(HelperFault::RateRange);
+    }
+    if is_negative_sum(units, parts_total(coupons)) {
+        return Err(HelperFault::Negative);
+    }
+    let _factor = wide(last.factor);
+    let (reached, open) = coupons.split_at(reached_by(coupons, last.day, from.day));
+    let settled = settled_total(from, nodes, reached);
+    match least_root(last, end, units, settled, open) {
+        Some(factor) => Ok(factor),
+        None => Err(HelperFault::Discount),
+    }
+}
+
+// How many of the first coupons are paid on a day or before.
+fn reached_by(coupons: &[Coupon], day: Day, from: Day) -> usize
+    requires { AreOrdered from coupons.now }
+    ensures bound { result ≤ length coupons.now }
+    ensures before { AllWithin (λ coupon. coupon.day ≤ℤ day) coupons.now 0 result }
+    ensures after { AllWithin (λ coupon. day <ℤ coupon.day) coupons.now result (length coupons.now) }
+{
+    coupons.partition_point(
+        |coupon: &Coupon| -> bool
+            ensures { result ≡ int_le coupon.now.day day }
+        { coupon.day <= day },
+    )
+}
+// Whether a day is not after another.
+fn is_not_after(day: Day, other: Day) -> bool
+    ensures { result ≡ int_le day other }
+{
+    day <= other
+}
+
+// The units of a rate.
+fn units_of(rate: Rate) -> i128
+    ensures { result ≡ rate }
+{
+    i128::from(rate.units())
+}
+
+// Whether a rate below zero takes as much as the whole.
+fn is_negative_sum(rate: i128, parts: i128) -> bool
+    requires parts { pos 0 ≤ℤ parts }
+    requires high { parts ≤ℤ pos (801 * (2 * 10 ^ 12)) }
+    requires rate { unsigned_abs rate ≤ 10 ^ 10 }
+    ensures { result ≡ is_negative_sum rate parts }
+{
+    rate < 0 && rate * parts <= -WHOLE
+}
+
+// The factor at which the excess turns, found by halving.
+fn least_root(
+    last: &CurveNode,
+    end: Day,
+    rate: i128,
+    settled: i128,
+    coupons: &[Coupon],
+) -> Option<Discount>
+    requires few { length coupons.now ≤ 801 }
+    requires after { AreAfter last.now.day coupons.now }
+    requires up_to { AreUpTo end coupons.now }
+    requires settled { pos 0 ≤ℤ settled }
+    requires settled_high { settled ≤ℤ pos (801 * (8 * 10 ^ 24)) }
+    requires rate { unsigned_abs rate ≤ 10 ^ 10 }
+    ensures { IsRoot (split_excess last.now end rate settled coupons.now) result }
+{
+    if excess_at(last, end, rate, settled, coupons, 0) >= 0 {
+        return None;
+    }
+    if excess_at(last, end, rate, settled, coupons, MOST_FACTOR) < 0 {
+        return None;
+    }
+    let root = halved(last, end, rate, settled, coupons);
+    Some(factor_of(root))
+}
+
+// The discount factor of so many units.
+fn factor_of(root: i128) -> Discount
+    requires low { pos 1 ≤ℤ root }
+    requires high { root ≤ℤ most }
+    ensures { result ≡ root }
+{
+    Discount(root as i64)
+}
+
+// The place at which the excess turns between 0 and the greatest factor.
+fn halved(last: &CurveNode, end: Day, rate: i128, settled: i128, coupons: &[Coupon]) -> i128
+    requires few { length coupons.now ≤ 801 }
+    requires after { AreAfter last.now.day coupons.now }
+    requires up_to { AreUpTo end coupons.now }
+    requires settled { pos 0 ≤ℤ settled }
+    requires settled_high { settled ≤ℤ pos (801 * (8 * 10 ^ 24)) }
+    requires rate { unsigned_abs rate ≤ 10 ^ 10 }
+    requires below { split_excess last.now end rate settled coupons.now (pos 0) <ℤ pos 0 }
+    requires above { pos 0 ≤ℤ split_excess last.now end rate settled coupons.now most }
+    ensures low { pos 1 ≤ℤ result }
+    ensures high { result ≤ℤ most }
+    ensures above { pos 0 ≤ℤ split_excess last.now end rate settled coupons.now result }
+    ensures below { split_excess last.now end rate settled coupons.now (result -ℤ pos 1) <ℤ pos 0 }
+{
+    let mut low: i128 = 0;
+    let mut high: i128 = MOST_FACTOR;
+    while high - low > 1 {
+        let middle = mean(low, high);
+        if excess_at(last, end, rate, settled, coupons, middle) < 0 {
+            low = middle;
+        } else {
+            high = middle;
+        }
+    }
+    high
+}
+
+// A number strictly between two that differ by more than 1.
+fn mean(low: i128, high: i128) -> i128
+    requires low { pos 0 ≤ℤ low }
+    requires apart { (low +ℤ pos 1) <ℤ high }
+    requires high { high ≤ℤ most }
+    ensures low { low <ℤ result }
+    ensures high { result <ℤ high }
+{
+    low + (high - low) / 2
+}

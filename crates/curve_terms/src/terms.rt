@@ -1,0 +1,37 @@
+// What a curve is built from, its rates apart.
+use day_number::{Convention, Tenor};
+use desk_names::ObjId;
+use holiday_calendars::Calendar;
+use item_lists::Items;
+use year_parts::Counter;
+
+/// A deposit, or a swap at par, whose rate a quote gives (QuantLib's `DepositRateHelper` and `SwapRateHelper`).
+#[derive(Clone, Copy, Debug, PartialEq, Eq)]
+pub struct Helper {
+    /// The quote, or the object that stands for one.
+    pub quote: ObjId,
+    /// How long it runs from the curve's reference day.
+    pub tenor: Tenor,
+    /// How often a swap pays coupons, in months or years. None for a deposit, which pays one at its end.
+    pub every: Option<Tenor>,
+    /// How each of its days is adjusted.
+    pub conv: Convention,
+    /// Whether a day from a month's end leads to a month's end.
+    pub eom: bool,
+    /// How the days of a coupon's period are counted as a part of a year.
+    pub counter: Counter,
+}
+
+/// Helpers in the order of their ends.
+pub type HelperList = Items<Helper>;
+
+/// What a curve is built from, the quotes' rates and the evaluation date apart (QuantLib's `PiecewiseYieldCurve`).
+#[derive(Debug, Drop)]
+pub struct CurveTerms {
+    /// The calendar of the reference day and of all helpers.
+    pub cal: Calendar,
+    /// How many business days lie from the evaluation date to the reference day.
+    pub settlement: u8,
+    /// The helpers, in the order of their ends.
+    pub helpers: HelperList,
+}

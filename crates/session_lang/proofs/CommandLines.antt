@@ -6,26 +6,27 @@ use Rattle.std.proofs.lemmas.Bool.{eq-eqb}
 use Rattle.std.proofs.lemmas.List.{append-nil}
 use Rattle.std.proofs.lemmas.List.Elements.{All-nil, All-cons}
 use Rattle.desk_names.specs.Names.{IsNames}
-use Rattle.session_lang.specs.declared.table.Verb.{Verb}
-use Rattle.session_lang.specs.declared.table.Kind.{Kind}
-use Rattle.session_lang.specs.declared.table.Kind.TheVariants as kind
-use Rattle.session_lang.specs.declared.field.Field.{Field}
-use Rattle.session_lang.specs.declared.fault.ScriptKind.TheVariants as fault
-use Rattle.session_lang.specs.declared.command.Command.{Command}
+use Rattle.session_commands.specs.declared.table.Verb.{Verb}
+use Rattle.session_commands.specs.declared.table.Kind.{Kind}
+use Rattle.session_commands.specs.declared.table.Kind.TheVariants as kind
+use Rattle.session_commands.specs.declared.field.Field.{Field}
+use Rattle.session_commands.specs.declared.script_kind.ScriptKind.TheVariants as fault
+use Rattle.session_commands.specs.declared.command.Command.{Command}
 use Rattle.session_lang.specs.declared.statement.Statement.TheVariants.{Run}
-use Rattle.session_lang.specs.declared.parts.Parts.{Parts}
-use Rattle.session_lang.specs.Line.{is_good, words_of}
-use Rattle.session_lang.specs.Table.{Row, row_of, verb_of, words_at, words_in}
-use Rattle.session_lang.specs.Parts.{command_of, together, parts_of}
-use Rattle.session_lang.specs.Sorts.{IsOf}
+use Rattle.session_commands.specs.declared.parts.Parts.{Parts}
+use Rattle.script_words.specs.Line.{is_good, words_of}
+use Rattle.session_commands.specs.Table.{Row, row_of, verb_of, words_at, words_in}
+use Rattle.session_commands.specs.Parts.{command_of, together, parts_of}
+use Rattle.session_commands.specs.Sorts.{IsOf, Sorted}
 use Rattle.session_lang.specs.Statement.{Known, word, words_fault, fields_meaning, unless_fault, command_meaning, begin_meaning, end_meaning, words_meaning, line_meaning}
-use Rattle.session_lang.specs.Printing.{field_text, word_text, row_text}
-use Rattle.session_lang.specs.Whole.{FieldsFit, IsCommand}
-use Rattle.session_lang.proofs.WordBytes.{IsWord}
-use Rattle.session_lang.proofs.PrintedLines.{is_printable, spaced, words_read, words_printable, printable_line}
-use Rattle.session_lang.proofs.Fields.{as_read, Back, nothing_back, field_back}
-use Rattle.session_lang.proofs.TableLaws.{word_found}
-use Rattle.session_lang.proofs.RowFacts.{Count, none, one, two, three, Stands, row_is, Sorted, parts_sorted, command_as_read, read_parts_made}
+use Rattle.script_words.specs.WordText.{field_text, word_text}
+use Rattle.session_lang.specs.Printing.{row_text}
+use Rattle.session_commands.specs.Whole.{FieldsFit, IsCommand}
+use Rattle.script_words.proofs.WordBytes.{IsWord}
+use Rattle.script_words.proofs.PrintedLines.{is_printable, spaced, words_read, words_printable, printable_line}
+use Rattle.script_words.proofs.Fields.{as_read, Back, nothing_back, field_back}
+use Rattle.session_commands.proofs.TableLaws.{word_found}
+use Rattle.session_lang.proofs.RowFacts.{Count, none, one, two, three, Stands, row_is, parts_sorted, command_as_read, read_parts_made}
 
 there : (names : List (List ℕ)) (an : List ℕ) (k : Kind) (f : Field) → words_at k ≡ 1 → word_text names an k f ≡ 32 ∷ field_text names an k f
 unfolding word_text

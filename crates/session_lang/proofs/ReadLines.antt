@@ -5,25 +5,26 @@ use Rattle.std.specs.Str.{bytes_eq}
 use Rattle.desk_names.specs.Name.{is_name}
 use Rattle.desk_names.specs.Names.{has_text, IsNames}
 use Rattle.desk_names.proofs.NameLaws.{new_goes_last}
-use Rattle.session_lang.specs.declared.table.Verb.{Verb}
-use Rattle.session_lang.specs.declared.field.Field.{Field}
-use Rattle.session_lang.specs.declared.fault.ScriptKind.{ScriptKind}
-use Rattle.session_lang.specs.declared.fault.ScriptKind.TheVariants as fault
-use Rattle.session_lang.specs.declared.command.Command.{Command}
+use Rattle.session_commands.specs.declared.table.Verb.{Verb}
+use Rattle.session_commands.specs.declared.field.Field.{Field}
+use Rattle.session_commands.specs.declared.script_kind.ScriptKind.{ScriptKind}
+use Rattle.session_commands.specs.declared.script_kind.ScriptKind.TheVariants as fault
+use Rattle.session_commands.specs.declared.command.Command.{Command}
 use Rattle.session_lang.specs.declared.statement.Statement.{Statement}
 use Rattle.session_lang.specs.declared.statement.Statement.TheVariants.{Blank, Begin, End, Run}
-use Rattle.session_lang.specs.Given.{◌>>=◌, Grows}
-use Rattle.session_lang.specs.Line.{is_good, words_of}
-use Rattle.session_lang.specs.Table.{row_of, verb_of, words_in}
-use Rattle.session_lang.specs.Field.{fault_of, numbered, field_of}
-use Rattle.session_lang.specs.Parts.{command_of, together, parts_of}
-use Rattle.session_lang.specs.Sorts.{IsOf}
+use Rattle.script_words.specs.Given.{◌>>=◌, Grows}
+use Rattle.script_words.specs.Line.{is_good, words_of}
+use Rattle.session_commands.specs.Table.{row_of, verb_of, words_in}
+use Rattle.script_words.specs.Word.{fault_of, numbered, field_of}
+use Rattle.session_commands.specs.Parts.{command_of, the_command, together, parts_of}
+use Rattle.session_commands.specs.Sorts.{IsOf}
 use Rattle.session_lang.specs.Statement.{Known, word, or_fault, words_fault, run, fields_meaning, unless_fault, command_meaning, begin_meaning, end_meaning, words_meaning, line_meaning}
-use Rattle.session_lang.specs.Whole.{FieldsFit, IsCommand}
-use Rattle.session_lang.proofs.Interning.{grows_same, grows_on}
-use Rattle.session_lang.proofs.Sorts.{field_sorted}
+use Rattle.session_commands.specs.Whole.{FieldsFit, IsCommand}
+use Rattle.script_words.proofs.Interning.{grows_same, grows_on}
+use Rattle.script_words.proofs.Sorts.{field_sorted}
+use Rattle.session_commands.proofs.RowMakes.{row_makes}
 use Rattle.session_lang.proofs.RowLinks.{row_parts, fits_more}
-use Rattle.session_lang.proofs.ReadFields.{bind_ok, went_on, went_in, okay, ok_is, numbered_is, field_read}
+use Rattle.script_words.proofs.ReadFields.{bind_ok, went_on, went_in, okay, ok_is, numbered_is, field_read}
 
 -- names that grew are no fewer
 pub grows_length : (a b : List (List ℕ)) → Grows a b → length a ≤ length b
@@ -47,13 +48,12 @@ first_none : (a b : Option ScriptKind) → or_fault a b ≡ None → (a ≡ None
 first_none None b h = (refl, h)
 first_none (Some f) b h = absurd (cc)
 
-run_is : (known : Known) (names : List (List ℕ)) (o : Option Command) (st : Statement) (next : Known) → run known names o ≡ okay (st, next) → (c : Command) × (o ≡ Some c) × (Run c ≡ st) × (record { names = names; begun = known.begun } ≡ next)
-run_is known names (Some c) st next h =
+run_is : (known : Known) (names : List (List ℕ)) (o : Option Command) (c : Command) (st : Statement) (next : Known) → o ≡ Some c → run known names (the_command o) ≡ okay (st, next) → (Run c ≡ st) × (record { names = names; begun = known.begun } ≡ next)
+run_is known names o c st next made h =
     let kept : Known = record { names = names; begun = known.begun } in
     let said : Statement = Run c in
-    let same : (said, kept) ≡ (st, next) = ok_is (said, kept) (st, next) h in
-    (c, refl, ap (λ z. z.0) same, ap (λ z. z.1) same)
-run_is known names None st next h = absurd (cc)
+    let same : (said, kept) ≡ (st, next) = ok_is (said, kept) (st, next) (ap (λ p. run known names (the_command p)) (sym made) ∙ h) in
+    (ap (λ z. z.0) same, ap (λ z. z.1) same)
 
 made_fits : (m : ℕ) (v : Verb) (a b c : Field) (cmd : Command) → IsOf (row_of v).first a → IsOf (row_of v).second b → IsOf (row_of v).third c → command_of (together v a b c) ≡ Some cmd → FieldsFit m m (row_of v) (together v a b c) → IsCommand m m cmd
 unfolding IsCommand
@@ -69,13 +69,17 @@ fields_read known next v words st sound begun good h =
     let r = row_of v in
     let good1 = first_none (fault_of r.first (word words 0)) (or_fault (fault_of r.second (word words 1)) (fault_of r.third (word words 2))) good in
     let good2 = first_none (fault_of r.second (word words 1)) (fault_of r.third (word words 2)) good1.1 in
-    let a = bind_ok (field_of known.names r.first (word words 0)) (λ a. field_of a.1 r.second (word words 1) >>= (λ b. field_of b.1 r.third (word words 2) >>= (λ c. run known c.1 (command_of (together v a.0 b.0 c.0))))) (st, next) h in
-    let b = bind_ok (field_of a.0.1 r.second (word words 1)) (λ b. field_of b.1 r.third (word words 2) >>= (λ c. run known c.1 (command_of (together v a.0.0 b.0 c.0)))) (st, next) a.2 in
-    let c = bind_ok (field_of b.0.1 r.third (word words 2)) (λ c. run known c.1 (command_of (together v a.0.0 b.0.0 c.0))) (st, next) b.2 in
+    let a = bind_ok (field_of known.names r.first (word words 0)) (λ a. field_of a.1 r.second (word words 1) >>= (λ b. field_of b.1 r.third (word words 2) >>= (λ c. run known c.1 (the_command (command_of (together v a.0 b.0 c.0)))))) (st, next) h in
+    let b = bind_ok (field_of a.0.1 r.second (word words 1)) (λ b. field_of b.1 r.third (word words 2) >>= (λ c. run known c.1 (the_command (command_of (together v a.0.0 b.0 c.0))))) (st, next) a.2 in
+    let c = bind_ok (field_of b.0.1 r.third (word words 2)) (λ c. run known c.1 (the_command (command_of (together v a.0.0 b.0.0 c.0)))) (st, next) b.2 in
     let one = field_read known.names r.first (word words 0) a.0.0 a.0.1 sound good1.0 a.1 in
     let two = field_read a.0.1 r.second (word words 1) b.0.0 b.0.1 one.kept good2.0 b.1 in
     let three = field_read b.0.1 r.third (word words 2) c.0.0 c.0.1 two.kept good2.1 c.1 in
-    let ran = run_is known c.0.1 (command_of (together v a.0.0 b.0.0 c.0.0)) st next c.2 in
+    let ha = field_sorted known.names r.first (word words 0) a.0.0 a.0.1 good1.0 a.1 in
+    let hb = field_sorted a.0.1 r.second (word words 1) b.0.0 b.0.1 good2.0 b.1 in
+    let hc = field_sorted b.0.1 r.third (word words 2) c.0.0 c.0.1 good2.1 c.1 in
+    let made = row_makes v a.0.0 b.0.0 c.0.0 ha hb hc in
+    let ran = run_is known c.0.1 (command_of (together v a.0.0 b.0.0 c.0.0)) made.0 st next made.1 c.2 in
     let second = grows_length b.0.1 c.0.1 three.grows in
     let first : length a.0.1 ≤ length c.0.1 = omega (arith, second, grows_length a.0.1 b.0.1 two.grows) in
     let fit : FieldsFit (length c.0.1) (length c.0.1) (row_of v) (together v a.0.0 b.0.0 c.0.0) = record {
@@ -83,16 +87,15 @@ fields_read known next v words st sound begun good h =
       second = fits_more (length b.0.1) (length c.0.1) second r.second b.0.0 two.fits;
       third = three.fits;
     } in
-    let command : IsCommand (length c.0.1) (length c.0.1) ran.0 = made_fits (length c.0.1) v a.0.0 b.0.0 c.0.0 ran.0
-    (field_sorted known.names r.first (word words 0) a.0.0 a.0.1 good1.0 a.1) (field_sorted a.0.1 r.second (word words 1) b.0.0 b.0.1 good2.0 b.1) (field_sorted b.0.1 r.third (word words 2) c.0.0 c.0.1 good2.1 c.1) ran.1 fit in
+    let command : IsCommand (length c.0.1) (length c.0.1) made.0 = made_fits (length c.0.1) v a.0.0 b.0.0 c.0.0 made.0 ha hb hc made.1 fit in
     let kept : Known = record { names = c.0.1; begun = known.begun } in
-    let line : LineRead known kept (Run ran.0) = record {
+    let line : LineRead known kept (Run made.0) = record {
       names_kept = three.kept;
       begun_kept = begun;
       grows = grows_on known.names b.0.1 c.0.1 (grows_on known.names a.0.1 b.0.1 one.grows two.grows) three.grows;
       says = (refl, command);
     } in
-    subst (λ s. LineRead known next s) ran.2 (subst (λ k. LineRead known k (Run ran.0)) ran.3 line)
+    subst (λ s. LineRead known next s) ran.0 (subst (λ k. LineRead known k (Run made.0)) ran.1 line)
 
 unless_is : (o : Option ScriptKind) (r : Result (Statement × Known) ScriptKind) (y : Statement × Known) → unless_fault o r ≡ Ok y → (o ≡ None) × (r ≡ Ok y)
 unless_is None r y h = (refl, h)

@@ -7,24 +7,25 @@ use Rattle.std.proofs.lemmas.List.Elements.{All-nil, All-cons, All-head, All-tai
 use Rattle.std.proofs.lemmas.Option.{slice_get_within, get_or_from_slice_get}
 use Rattle.desk_names.specs.Name.{IsName}
 use Rattle.desk_names.specs.Names.{IsNames}
-use Rattle.session_lang.specs.declared.fault.ScriptKind.{ScriptKind}
-use Rattle.session_lang.specs.declared.fault.ScriptKind.TheVariants as fault
-use Rattle.session_lang.specs.declared.command.Command.{Command}
+use Rattle.session_commands.specs.declared.script_kind.ScriptKind.{ScriptKind}
+use Rattle.session_commands.specs.declared.script_kind.ScriptKind.TheVariants as fault
+use Rattle.session_commands.specs.declared.command.Command.{Command}
 use Rattle.session_lang.specs.declared.statement.Statement.{Statement}
 use Rattle.session_lang.specs.declared.statement.Statement.TheVariants.{Blank, Begin, End, Run}
 use Rattle.session_lang.specs.declared.steps.Step.{Step}
-use Rattle.session_lang.specs.declared.script.Script.{Script}
-use Rattle.session_lang.specs.Given.{◌>>=◌, Grows, GivesAt}
+use Rattle.session_commands.specs.declared.script.Script.{Script}
+use Rattle.script_words.specs.Given.{◌>>=◌, Grows}
+use Rattle.session_lang.specs.Given.{GivesAt}
 use Rattle.session_lang.specs.declared.fault.ScriptFault.{ScriptFault}
 use Rattle.std.specs.Prelude.{IfOk}
 use Rattle.session_lang.specs.Statement.{Known, line_meaning}
 use Rattle.session_lang.specs.Reading.{Said, said_before, opened, at_line, lines_meaning, lacks, linked, line_of, block_with, block_of, action_with, actions_of, action_names_of, inside_after, command_with, commands_of, script_of, unless_lacking, together_of, most_bytes, script_meaning}
-use Rattle.session_lang.specs.Printing.{name_text}
-use Rattle.session_lang.specs.Whole.{IsCommand, IsScript}
+use Rattle.session_commands.specs.Whole.{name_text}
+use Rattle.session_commands.specs.Whole.{IsCommand, IsScript}
 use Rattle.session_lang.proofs.Blocks.{one_name_each}
-use Rattle.session_lang.proofs.Interning.{grows_same, grows_on}
+use Rattle.script_words.proofs.Interning.{grows_same, grows_on}
 use Rattle.session_lang.proofs.RowLinks.{command_more, linked_fits}
-use Rattle.session_lang.proofs.ReadFields.{bind_ok, went_on}
+use Rattle.script_words.proofs.ReadFields.{bind_ok, went_on}
 use Rattle.session_lang.proofs.ReadLines.{LineRead, line_is_read, grows_length}
 
 abbrev StepFits : ℕ → Statement → Type 0

@@ -1,17 +1,16 @@
 -- The table of commands, row by row: what a row and the parts of a command are for the reader of a printed line.
 use Rattle.std.proofs.Common.{◌≡◌, ℕ, false, List, length, slice_index_or, Some, codes, refl, lit<}
 use Rattle.std.specs.Str.{bytes_eq}
-use Rattle.session_lang.specs.declared.table.Verb.{Verb}
-use Rattle.session_lang.specs.declared.table.Verb.TheVariants as verb
-use Rattle.session_lang.specs.declared.table.Kind.TheVariants as kind
-use Rattle.session_lang.specs.declared.command.Command.{Command}
-use Rattle.session_lang.specs.declared.command.Command.TheVariants as command
-use Rattle.session_lang.specs.declared.parts.Parts.{Parts}
-use Rattle.session_lang.specs.Table.{Row, row_of, words_at}
-use Rattle.session_lang.specs.Parts.{command_of, together, parts_of}
-use Rattle.session_lang.specs.Sorts.{IsOf}
-use Rattle.session_lang.proofs.WordBytes.{IsWord}
-use Rattle.session_lang.proofs.Fields.{as_read}
+use Rattle.session_commands.specs.declared.table.Verb.{Verb}
+use Rattle.session_commands.specs.declared.table.Verb.TheVariants as verb
+use Rattle.session_commands.specs.declared.table.Kind.TheVariants as kind
+use Rattle.session_commands.specs.declared.command.Command.{Command}
+use Rattle.session_commands.specs.declared.command.Command.TheVariants as command
+use Rattle.session_commands.specs.Table.{Row, row_of, words_at}
+use Rattle.session_commands.specs.Parts.{command_of, together, parts_of}
+use Rattle.session_commands.specs.Sorts.{Sorted}
+use Rattle.script_words.proofs.WordBytes.{IsWord}
+use Rattle.script_words.proofs.Fields.{as_read}
 
 -- how many words stand behind a first word
 pub data Count : Type 0 where
@@ -65,11 +64,6 @@ row_is verb.Ask = record { count = one; stands = (refl, refl, refl); word = reco
 row_is verb.Df = record { count = two; stands = (refl, refl, refl); word = record { some = lit< tt; bytes = refl }; no_action = refl; no_end = refl }
 
 -- the fields of a command are of its row's sorts
-pub record Sorted (r : Row) (p : Parts) : Type 0 where
-  pub first : IsOf r.first p.first
-  pub second : IsOf r.second p.second
-  pub third : IsOf r.third p.third
-
 pub parts_sorted : (c : Command) → Sorted (row_of (parts_of c).verb) (parts_of c)
 unfolding row_of parts_of
 parts_sorted (command.Quote a b) = record { first = (a, refl); second = (b, refl); third = refl }

@@ -1,19 +1,19 @@
 -- The table of commands, row by row: the parts of a command that was made, and the links of a command that was read.
 use Rattle.std.proofs.Common.{◌≡◌, ℕ, ◌≤◌, Option, Some, None, refl, arith}
-use Rattle.session_lang.specs.declared.table.Verb.{Verb}
-use Rattle.session_lang.specs.declared.table.Verb.TheVariants as verb
-use Rattle.session_lang.specs.declared.table.Kind.{Kind}
-use Rattle.session_lang.specs.declared.field.Field.{Field}
-use Rattle.session_lang.specs.declared.field.Field.TheVariants.{Nothing, Name, Value, Number, Day, Weight, Engine, Flag, Action}
-use Rattle.session_lang.specs.declared.command.Command.{Command}
-use Rattle.session_lang.specs.declared.command.Command.TheVariants as command
+use Rattle.session_commands.specs.declared.table.Verb.{Verb}
+use Rattle.session_commands.specs.declared.table.Verb.TheVariants as verb
+use Rattle.session_commands.specs.declared.table.Kind.{Kind}
+use Rattle.session_commands.specs.declared.field.Field.{Field}
+use Rattle.session_commands.specs.declared.field.Field.TheVariants.{Nothing, Name, Value, Number, Day, Weight, Engine, Flag, Action}
+use Rattle.session_commands.specs.declared.command.Command.{Command}
+use Rattle.session_commands.specs.declared.command.Command.TheVariants as command
 use Rattle.session_lang.specs.declared.statement.Statement.TheVariants.{Run}
-use Rattle.session_lang.specs.Table.{row_of}
-use Rattle.session_lang.specs.Parts.{command_of, together, parts_of}
-use Rattle.session_lang.specs.Sorts.{IsOf}
+use Rattle.session_commands.specs.Table.{row_of}
+use Rattle.session_commands.specs.Parts.{command_of, together, parts_of}
+use Rattle.session_commands.specs.Sorts.{IsOf}
 use Rattle.session_lang.specs.Statement.{Known}
 use Rattle.session_lang.specs.Reading.{text_of, lacks, linked}
-use Rattle.session_lang.specs.Whole.{IsEngine, Fits, IsCommand}
+use Rattle.session_commands.specs.Whole.{IsEngine, Fits, IsCommand}
 use Rattle.desk_names.specs.Names.{has_text}
 use Rattle.desk_names.proofs.NameLaws.{place_of-lt}
 use Rattle.std.proofs.Common.{Bool, true, false, cond, length}

@@ -4,15 +4,16 @@ use Rattle.std.specs.Fmt.{digits}
 use Rattle.fixed_amount.specs.Decimal.{decimal_value, decimal_text}
 use Rattle.desk_names.specs.Name.{is_name, has_form, is_name_byte, is_reserved}
 use Rattle.desk_names.specs.Names.{has_text, with_text, place_of}
-use Rattle.session_lang.specs.declared.fault.ScriptKind.TheVariants as fault
-use Rattle.session_lang.specs.declared.command.Command.TheVariants.{Set, Watch, Ask, Member}
-use Rattle.session_lang.specs.Line.{words_of}
-use Rattle.session_lang.specs.Table.{row_of, verb_of}
-use Rattle.session_lang.specs.Field.{fault_of, numbered, plain_field, field_of}
-use Rattle.session_lang.specs.Parts.{command_of, parts_of}
+use Rattle.session_commands.specs.declared.script_kind.ScriptKind.TheVariants as fault
+use Rattle.session_commands.specs.declared.command.Command.TheVariants.{Set, Watch, Ask, Member}
+use Rattle.script_words.specs.Line.{words_of}
+use Rattle.session_commands.specs.Table.{row_of, verb_of}
+use Rattle.script_words.specs.Word.{fault_of, numbered, plain_field, field_of}
+use Rattle.session_commands.specs.Parts.{command_of, parts_of}
 use Rattle.session_lang.specs.Statement.{fields_meaning, command_meaning, begin_meaning, words_meaning, line_meaning}
 use Rattle.session_lang.specs.Reading.{lines_meaning, block_of, actions_of, action_names_of, commands_of, script_meaning}
-use Rattle.session_lang.specs.Printing.{word_text, command_text}
+use Rattle.script_words.specs.WordText.{word_text}
+use Rattle.session_lang.specs.Printing.{command_text}
 
 -- one command, among blanks and before a comment
 reads_a_set : script_meaning [] (codes "  set q  1.50  # x") ≡ Ok (record { actions = []; commands = Set 0 (pos 1_500_000_000) ∷ []; action_names = [] }, codes "q" ∷ [])

@@ -9,20 +9,22 @@ use Rattle.std.proofs.lemmas.List.Elements.{All-nil, All-cons, All-head, All-tai
 use Rattle.desk_names.specs.Name.{is_name}
 use Rattle.desk_names.specs.Names.{has_text, with_text, place_of, most_names, IsNames}
 use Rattle.desk_names.proofs.NameLaws.{IsName-at, place_of-lt, place_of-at, slice_get-place_of, new_goes_last}
-use Rattle.session_lang.specs.declared.fault.ScriptKind.TheVariants as fault
-use Rattle.session_lang.specs.declared.command.Command.{Command}
+use Rattle.session_commands.specs.declared.script_kind.ScriptKind.TheVariants as fault
+use Rattle.session_commands.specs.declared.command.Command.{Command}
 use Rattle.session_lang.specs.declared.statement.Statement.TheVariants.{Begin, End}
 use Rattle.session_lang.specs.declared.steps.Step.{Step}
-use Rattle.session_lang.specs.declared.script.Script.{Script}
-use Rattle.session_lang.specs.Given.{◌>>=◌}
-use Rattle.session_lang.specs.Field.{numbered}
+use Rattle.session_commands.specs.declared.script.Script.{Script}
+use Rattle.script_words.specs.Given.{◌>>=◌}
+use Rattle.script_words.specs.Word.{numbered}
 use Rattle.session_lang.specs.Statement.{Known, begin_meaning, words_meaning, line_meaning}
 use Rattle.session_lang.specs.Reading.{Said, lines_meaning, lacks, actions_of, action_names_of, commands_of, line_of, script_of, unless_lacking, together_of, most_bytes, script_meaning}
-use Rattle.session_lang.specs.Printing.{name_text, action_text, commands_text, block_text, blocks_text, script_text}
-use Rattle.session_lang.specs.Whole.{IsCommand, IsScript}
-use Rattle.session_lang.proofs.Words.{name_again}
-use Rattle.session_lang.proofs.WordBytes.{IsWord, name_word}
-use Rattle.session_lang.proofs.PrintedLines.{is_printable, spaced, words_printable, line_first}
+use Rattle.session_commands.specs.Whole.{name_text}
+use Rattle.script_words.specs.WordText.{action_text}
+use Rattle.session_lang.specs.Printing.{commands_text, block_text, blocks_text, script_text}
+use Rattle.session_commands.specs.Whole.{IsCommand, IsScript}
+use Rattle.script_words.proofs.Words.{name_again}
+use Rattle.script_words.proofs.WordBytes.{IsWord, name_word}
+use Rattle.script_words.proofs.PrintedLines.{is_printable, spaced, words_printable, line_first}
 use Rattle.session_lang.proofs.CommandLines.{words_line}
 use Rattle.session_lang.proofs.Tells.{Tells, tells_none, tells_begin, tells_end, retell, all_known, after, after_inside, after_outside, commands_tell}
 

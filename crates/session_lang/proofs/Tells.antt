@@ -7,19 +7,20 @@ use Rattle.std.proofs.lemmas.Option.{slice_get-get_or, slice_get-map}
 use Rattle.std.proofs.lemmas.List.Elements.{All-head, All-tail}
 use Rattle.desk_names.specs.Names.{IsNames}
 use Rattle.desk_names.proofs.NameLaws.{has_text-at, place_of-at}
-use Rattle.session_lang.specs.declared.fault.ScriptKind.{ScriptKind}
-use Rattle.session_lang.specs.declared.command.Command.{Command}
-use Rattle.session_lang.specs.declared.command.Command.TheVariants as command
+use Rattle.session_commands.specs.declared.script_kind.ScriptKind.{ScriptKind}
+use Rattle.session_commands.specs.declared.command.Command.{Command}
+use Rattle.session_commands.specs.declared.command.Command.TheVariants as command
 use Rattle.session_lang.specs.declared.statement.Statement.{Statement}
 use Rattle.session_lang.specs.declared.statement.Statement.TheVariants.{Begin, End, Run}
-use Rattle.session_lang.specs.Given.{◌>>=◌}
-use Rattle.session_lang.specs.Table.{row_of}
-use Rattle.session_lang.specs.Parts.{parts_of}
+use Rattle.script_words.specs.Given.{◌>>=◌}
+use Rattle.session_commands.specs.Table.{row_of}
+use Rattle.session_commands.specs.Parts.{parts_of}
 use Rattle.session_lang.specs.Statement.{Known, line_meaning}
 use Rattle.session_lang.specs.Reading.{Said, said_before, opened, at_line, lines_meaning, lacks, linked, block_of, actions_of, action_names_of, command_with, commands_of}
-use Rattle.session_lang.specs.Printing.{name_text, row_text, command_text, commands_text}
-use Rattle.session_lang.specs.Whole.{IsCommand}
-use Rattle.session_lang.proofs.PrintedLines.{line_first}
+use Rattle.session_commands.specs.Whole.{name_text}
+use Rattle.session_lang.specs.Printing.{row_text, command_text, commands_text}
+use Rattle.session_commands.specs.Whole.{IsCommand}
+use Rattle.script_words.proofs.PrintedLines.{line_first}
 use Rattle.session_lang.proofs.RowFacts.{command_as_read}
 use Rattle.session_lang.proofs.CommandLines.{command_back}
 

@@ -1,13 +1,14 @@
 -- Reading lines one after another.
 use Rattle.std.proofs.Common.{◌≡◌, ℕ, ◌+◌, Bool, List, [], ◌∷◌, ◌++◌, Option, is_some, Result, Ok, Err, refl, sym, ap, ◌∙◌, append_assoc}
 use Rattle.std.proofs.lemmas.List.{append-nil}
-use Rattle.session_lang.specs.declared.fault.ScriptKind.{ScriptKind}
+use Rattle.session_commands.specs.declared.script_kind.ScriptKind.{ScriptKind}
 use Rattle.session_lang.specs.declared.statement.Statement.{Statement}
 use Rattle.session_lang.specs.declared.statement.Statement.TheVariants.{Blank, Begin, End, Run}
 use Rattle.session_lang.specs.declared.steps.Step.{Step}
-use Rattle.session_lang.specs.declared.fault.LineFault.{LineFault}
-use Rattle.session_lang.specs.declared.fault.LineFault.TheVariants as fault
-use Rattle.session_lang.specs.Given.{◌>>=◌, Fails, FailsAt, at_number}
+use Rattle.script_words.specs.declared.line_fault.LineFault.{LineFault}
+use Rattle.script_words.specs.declared.line_fault.LineFault.TheVariants as fault
+use Rattle.script_words.specs.Given.{◌>>=◌, Fails}
+use Rattle.session_lang.specs.Given.{FailsAt, at_number}
 use Rattle.session_lang.specs.Statement.{Known, line_meaning}
 use Rattle.session_lang.specs.Reading.{onto, Said, said_before, kept, opened, at_line, lines_meaning}
 

@@ -1,12 +1,5 @@
-pub mod Table
-pub mod Fault
-pub mod Refusal
 pub mod Given
-pub mod Field
-pub mod Sorts
-pub mod Parts
-pub mod Line
 pub mod Statement
 pub mod Reading
 pub mod Printing
-pub mod Whole
+pub mod FirstFault

@@ -3,16 +3,17 @@ use Rattle.std.specs.Prelude.{◌≡◌, ℕ, ◌+◌, Bool, true, false, nat_lt
 use Rattle.std.specs.List.{find}
 use Rattle.std.specs.Str.Lines.{lines}
 use Rattle.desk_names.specs.Names.{has_text, place_of}
-use Rattle.session_lang.specs.declared.fault.ScriptKind.{ScriptKind}
-use Rattle.session_lang.specs.declared.fault.ScriptKind.TheVariants as fault
+use Rattle.session_commands.specs.declared.script_kind.ScriptKind.{ScriptKind}
+use Rattle.session_commands.specs.declared.script_kind.ScriptKind.TheVariants as fault
 use Rattle.session_lang.specs.declared.fault.ScriptFault.{ScriptFault}
-use Rattle.session_lang.specs.declared.command.Command.{Command}
-use Rattle.session_lang.specs.declared.command.Command.TheVariants.{Watch}
+use Rattle.session_commands.specs.declared.command.Command.{Command}
+use Rattle.session_commands.specs.declared.command.Command.TheVariants.{Watch}
 use Rattle.session_lang.specs.declared.statement.Statement.{Statement}
 use Rattle.session_lang.specs.declared.statement.Statement.TheVariants.{Blank, Begin, End, Run}
 use Rattle.session_lang.specs.declared.steps.Step.{Step}
-use Rattle.session_lang.specs.declared.script.Script.{Script}
-use Rattle.session_lang.specs.Given.{◌>>=◌, FailsAt}
+use Rattle.session_commands.specs.declared.script.Script.{Script}
+use Rattle.script_words.specs.Given.{◌>>=◌}
+use Rattle.session_lang.specs.Given.{FailsAt}
 use Rattle.session_lang.specs.Statement.{Known, line_meaning}
 
 -- the most bytes of a script (this project's profile)

@@ -1,20 +1,21 @@
 -- What one line of a script says, or its first fault.
-use Rattle.std.specs.Prelude.{ℕ, Bool, not, ◌==◌, if◌then◌else◌, List, [], ◌∷◌, length, codes, slice_index_or, Option, Some, None, Result, Ok, Err}
+use Rattle.std.specs.Prelude.{◌≡◌, ℕ, Bool, not, ◌==◌, if◌then◌else◌, List, [], ◌∷◌, length, codes, slice_index_or, Option, Some, None, Result, Ok, Err}
 use Rattle.std.specs.List.{list_all}
 use Rattle.std.specs.Str.{bytes_eq}
 use Rattle.desk_names.specs.Name.{is_name}
 use Rattle.desk_names.specs.Names.{has_text}
-use Rattle.session_lang.specs.declared.fault.ScriptKind.{ScriptKind}
-use Rattle.session_lang.specs.declared.fault.ScriptKind.TheVariants as fault
-use Rattle.session_lang.specs.declared.table.Verb.{Verb}
-use Rattle.session_lang.specs.declared.command.Command.{Command}
+use Rattle.session_commands.specs.declared.script_kind.ScriptKind.{ScriptKind}
+use Rattle.session_commands.specs.declared.script_kind.ScriptKind.TheVariants as fault
+use Rattle.session_commands.specs.declared.table.Verb.{Verb}
+use Rattle.session_commands.specs.declared.command.Command.{Command}
+use Rattle.session_commands.specs.declared.parts.Parts.{Parts}
 use Rattle.session_lang.specs.declared.statement.Statement.{Statement}
 use Rattle.session_lang.specs.declared.statement.Statement.TheVariants.{Blank, Begin, End, Run}
-use Rattle.session_lang.specs.Given.{◌>>=◌}
-use Rattle.session_lang.specs.Line.{is_good, words_of}
-use Rattle.session_lang.specs.Table.{Row, row_of, verb_of, words_in}
-use Rattle.session_lang.specs.Field.{fault_of, numbered, field_of}
-use Rattle.session_lang.specs.Parts.{command_of, together}
+use Rattle.script_words.specs.Given.{◌>>=◌}
+use Rattle.script_words.specs.Line.{is_good, words_of}
+use Rattle.session_commands.specs.Table.{Row, row_of, verb_of, words_in}
+use Rattle.script_words.specs.Word.{fault_of, numbered, plain_field, field_of}
+use Rattle.session_commands.specs.Parts.{command_of, the_command, together}
 
 -- what the lines above a line leave to it: the session's names, and the names of the actions that were begun
 pub record Known : Type 0 where
@@ -34,10 +35,23 @@ or_fault None other = other
 abbrev pub words_fault : Row → List (List ℕ) → Option ScriptKind
 words_fault r words = or_fault (fault_of r.first (word words 0)) (or_fault (fault_of r.second (word words 1)) (fault_of r.third (word words 2)))
 
--- a command as a statement; a row's fields always make one
-abbrev pub run : Known → List (List ℕ) → Option Command → Result (Statement × Known) ScriptKind
-run known names (Some command) = Ok (Run command, record { names = names; begun = known.begun })
-run known names None = Err fault.Count
+-- the words have no fault, and these parts are what they say apart from the names in them
+pub record PlainOf (v : Verb) (words : List (List ℕ)) (p : Parts) : Type 0 where
+  pub first_good : fault_of (row_of v).first (word words 0) ≡ None
+  pub second_good : fault_of (row_of v).second (word words 1) ≡ None
+  pub third_good : fault_of (row_of v).third (word words 2) ≡ None
+  pub first : p.first ≡ plain_field (row_of v).first (word words 0)
+  pub second : p.second ≡ plain_field (row_of v).second (word words 1)
+  pub third : p.third ≡ plain_field (row_of v).third (word words 2)
+
+-- what was returned for the words is what they say apart from the names in them, or the first fault among them
+abbrev pub ArePlain : Verb → List (List ℕ) → Result Parts ScriptKind → Type 0
+ArePlain v words (Ok p) = PlainOf v words p
+ArePlain v words (Err f) = words_fault (row_of v) words ≡ Some f
+
+-- a command as a statement
+abbrev pub run : Known → List (List ℕ) → Command → Result (Statement × Known) ScriptKind
+run known names command = Ok (Run command, record { names = names; begun = known.begun })
 
 -- the command of a row, its names interned in order
 unfoldable pub fields_meaning : Known → Verb → List (List ℕ) → Result (Statement × Known) ScriptKind
@@ -45,7 +59,7 @@ fields_meaning known v words =
     field_of known.names (row_of v).first (word words 0) >>= (λ a.
     field_of a.1 (row_of v).second (word words 1) >>= (λ b.
     field_of b.1 (row_of v).third (word words 2) >>= (λ c.
-    run known c.1 (command_of (together v a.0 b.0 c.0)))))
+    run known c.1 (the_command (command_of (together v a.0 b.0 c.0))))))
 
 -- the same where no word has a fault
 abbrev pub unless_fault : Option ScriptKind → Result (Statement × Known) ScriptKind → Result (Statement × Known) ScriptKind

@@ -1,17 +1,19 @@
 // Scripts, read.
 ghost use Rattle.std.specs.Prelude.{◌≡◌, ◌<◌, ◌^◌, ◌+◌, ◌∷◌, ℕ, List, length, None, IfOk};
 ghost use Rattle.std.specs.Str.Lines.{lines};
-ghost use Rattle.session_lang.specs.Given.{GivesAt, Grows, at_number};
+ghost use Rattle.session_lang.specs.Given.{GivesAt, at_number};
+ghost use Rattle.script_words.specs.Given.{Grows};
 ghost use Rattle.desk_names.specs.Names.{IsNames};
-ghost use Rattle.session_lang.specs.Whole.{IsScript};
+ghost use Rattle.session_commands.specs.Whole.{IsScript};
+ghost use Rattle.session_lang.specs.FirstFault.{ToldFirst, names_after};
 ghost use Rattle.session_lang.specs.Reading.{onto, Takes, lines_meaning, together_of, script_meaning};
 
-use crate::fault::LineFault;
-use crate::line::next_line;
+use crate::ScriptFault;
 use crate::statement::read_line;
 use crate::steps::{Step, action_names_of, actions_of, add, commands_of, first_lacking, is_open};
-use crate::{Script, ScriptFault, ScriptKind};
 use desk_names::Names;
+use script_words::{LineFault, next_line};
+use session_commands::{Script, ScriptKind};
 use std::alloc::Global;
 
 /// The most bytes of a script.
@@ -123,7 +125,7 @@ fn finished(alloc: Global, names: &Names, begun: &Names, read: &Read) -> Result<
 }
 
 // The script that a text says, where the text is no longer than a script may be.
-#[tactic(auto, unfolding(crate::specs::Reading::script_meaning), using(crate::proofs::Interning::grows_same))]
+#[tactic(auto, unfolding(crate::specs::Reading::script_meaning), using(script_words::proofs::Interning::grows_same))]
 fn read_text(alloc: Global, text: &[u8], names: &mut Names) -> Result<Script, ScriptFault>
     ensures gives { GivesAt (λ s. (s, names.new)) result (script_meaning names.old text.now) }
     ensures paired { IfOk result (λ s. length s.actions ≡ length s.action_names) }
@@ -142,14 +144,16 @@ fn read_text(alloc: Global, text: &[u8], names: &mut Names) -> Result<Script, Sc
 
 /// The script that a text says, or its first fault with the line, counted from 1 (this project's profile).
 ///
-/// The names of its lines get numbers in order of first use, those of actions too; a line with a fault adds none.
-/// After a fault the names may have grown, and the old ones keep their numbers. The numbers in a script that is read
+/// The names of its lines get numbers in order of first use, those of actions too. After a fault the names may have
+/// grown, and the old ones keep their numbers. The numbers in a script that is read
 /// stand for names and actions that are there. It takes time in proportion to the text, with one look-up of a name for
 /// each word.
 pub fn read_script(alloc: Global, text: &[u8], names: &mut Names) -> Result<Script, ScriptFault>
     ensures gives { GivesAt (λ s. (s, names.new)) result (script_meaning names.old text.now) }
     ensures whole { IsNames names.old → IfOk result (λ s. IsScript names.new s) }
     ensures paired { IfOk result (λ s. length s.actions ≡ length s.action_names) }
+    ensures fault { IsNames names.old → ToldFirst names.old text.now result }
+    ensures names { IsNames names.old → IfOk result (λ s. names.new ≡ names_after names.old (lines text.now)) }
     ensures grows { Grows names.old names.new }
 {
     read_text(alloc, text, names)

@@ -1,16 +1,12 @@
 // What one line of a script says.
 ghost use Rattle.std.specs.Prelude.{◌≡◌, ◌≤◌, ℕ, List, map};
-ghost use Rattle.session_lang.specs.Given.{Gives, Grows};
-ghost use Rattle.session_lang.specs.Table.{row_of, verb_of, words_at, words_in};
-ghost use Rattle.session_lang.specs.Statement.{Known, words_fault, fields_meaning, command_meaning, begin_meaning, end_meaning, words_meaning, line_meaning};
+ghost use Rattle.script_words.specs.Given.{Gives, Grows};
+ghost use Rattle.session_commands.specs.Table.{row_of, verb_of, words_at, words_in};
+ghost use Rattle.session_lang.specs.Statement.{Known, ArePlain, PlainOf, fields_meaning, command_meaning, begin_meaning, end_meaning, words_meaning, line_meaning};
 
-use crate::Command;
-use crate::fault::{LineFault, ScriptKind};
-use crate::field::{fault_of, field_of, number_of};
-use crate::line::{has_good_bytes, word_at, words_of};
-use crate::parts::Parts;
-use crate::table::{Kind, Verb};
 use desk_names::{NameId, Names, is_name};
+use script_words::{LineFault, field_of, has_good_bytes, number_of, word_at, word_said, words_of};
+use session_commands::{Command, Kind, Parts, ScriptKind, Verb};
 use std::alloc::Global;
 
 /// What a line says: nothing, that a block begins or ends, or a command. A watch names its action by the number of
@@ -23,50 +19,51 @@ pub(crate) enum Statement {
     Run(Command),
 }
 
-// The first fault among the words behind the first.
-fn words_fault(verb: Verb, words: &[&[u8]]) -> Option<ScriptKind>
-    ensures { result ≡ words_fault (row_of verb) (map (λ word. word.now) words.now) }
+// What the words behind the first say apart from the names in them, or the first fault among them.
+fn words_said(verb: Verb, words: &[&[u8]]) -> Result<Parts, ScriptKind>
+    ensures { ArePlain verb (map (λ word. word.now) words.now) result }
 {
-    let (_, first, second, third) = verb.row();
-    if let Some(fault) = fault_of(first, word_at(words, 0)) {
-        return Some(fault);
-    }
-    if let Some(fault) = fault_of(second, word_at(words, 1)) {
-        return Some(fault);
-    }
-    fault_of(third, word_at(words, 2))
+    let (_, kind1, kind2, kind3) = verb.row();
+    let first = word_said(kind1, word_at(words, 0))?;
+    let second = word_said(kind2, word_at(words, 1))?;
+    let third = word_said(kind3, word_at(words, 2))?;
+    Ok(Parts {
+        verb,
+        first,
+        second,
+        third,
+    })
 }
 
-// The command of a row whose words have no fault.
-#[tactic(auto, unfolding(crate::specs::Statement::fields_meaning), using(crate::proofs::Interning::grows_on))]
+// The command of a row whose words have no fault; `plain` is what they say apart from the names in them.
+#[tactic(auto, unfolding(crate::specs::Statement::fields_meaning), using(script_words::proofs::Interning::grows_on))]
 fn run_fields(
     verb: Verb,
+    plain: Parts,
     words: &[&[u8]],
     names: &mut Names,
     begun: &mut Names,
 ) -> Result<Statement, LineFault>
+    requires { PlainOf verb (map (λ word. word.now) words.now) plain }
     ensures gives { Gives (λ s. (s, record { names = names.new; begun = begun.new })) result
         (fields_meaning (record { names = names.old; begun = begun.old }) verb (map (λ word. word.now) words.now)) }
     ensures grows { Grows names.old names.new }
 {
     let (_, kind1, kind2, kind3) = verb.row();
-    let first = field_of(names, kind1, word_at(words, 0))?;
-    let second = field_of(names, kind2, word_at(words, 1))?;
-    let third = field_of(names, kind3, word_at(words, 2))?;
+    let first = field_of(names, kind1, word_at(words, 0), plain.first)?;
+    let second = field_of(names, kind2, word_at(words, 1), plain.second)?;
+    let third = field_of(names, kind3, word_at(words, 2), plain.third)?;
     let parts = Parts {
         verb,
         first,
         second,
         third,
     };
-    match parts.command() {
-        Some(command) => Ok(Statement::Run(command)),
-        None => Err(LineFault::Kind(ScriptKind::Count)),
-    }
+    Ok(Statement::Run(parts.command()))
 }
 
 // A line of a command, by its first word and the words behind it.
-#[tactic(auto, unfolding(crate::specs::Statement::command_meaning), using(crate::proofs::Interning::grows_same))]
+#[tactic(auto, unfolding(crate::specs::Statement::command_meaning), using(script_words::proofs::Interning::grows_same))]
 fn run_line(
     first: &[u8],
     words: &[&[u8]],
@@ -83,10 +80,10 @@ fn run_line(
     if words.len() != words_in(verb) {
         return Err(LineFault::Kind(ScriptKind::Count));
     }
-    if let Some(fault) = words_fault(verb, words) {
-        return Err(LineFault::Kind(fault));
+    match words_said(verb, words) {
+        Ok(plain) => run_fields(verb, plain, words, names, begun),
+        Err(fault) => Err(LineFault::Kind(fault)),
     }
-    run_fields(verb, words, names, begun)
 }
 
 fn words_at(kind: Kind) -> usize
@@ -108,7 +105,7 @@ fn words_in(verb: Verb) -> usize
 }
 
 // `action A`.
-#[tactic(auto, unfolding(crate::specs::Statement::begin_meaning), using(crate::proofs::Interning::grows_same))]
+#[tactic(auto, unfolding(crate::specs::Statement::begin_meaning), using(script_words::proofs::Interning::grows_same))]
 fn begin_line(
     words: &[&[u8]],
     names: &mut Names,
@@ -151,7 +148,7 @@ fn end_line(words: &[&[u8]], inside: bool) -> Result<Statement, LineFault>
 }
 
 // What the words of a line say.
-#[tactic(auto, unfolding(crate::specs::Statement::words_meaning), using(crate::proofs::Interning::grows_same))]
+#[tactic(auto, unfolding(crate::specs::Statement::words_meaning), using(script_words::proofs::Interning::grows_same))]
 fn words_line(
     words: &[&[u8]],
     names: &mut Names,
@@ -175,7 +172,7 @@ fn words_line(
 }
 
 /// What a line says, or its first fault. The names of a line without a fault get numbers, in order.
-#[tactic(auto, unfolding(crate::specs::Statement::line_meaning), using(crate::proofs::Interning::grows_same))]
+#[tactic(auto, unfolding(crate::specs::Statement::line_meaning), using(script_words::proofs::Interning::grows_same))]
 pub(crate) fn read_line(
     alloc: Global,
     line: &[u8],

@@ -3,12 +3,13 @@ ghost use Rattle.std.specs.Prelude.{◌≡◌, ◌∷◌, ◌++◌, [], ℕ, Lis
 ghost use Rattle.std.specs.List.{find};
 ghost use Rattle.desk_names.specs.Names.{place_of};
 ghost use Rattle.session_lang.specs.Statement.{Known};
-ghost use Rattle.session_lang.specs.Reading.{kept, opened, text_of, action_of, lacks, linked, line_of, block_of, actions_of, action_with, action_names_of, command_with, commands_of, inside_after};
-ghost use Rattle.session_lang.specs.declared.command.Command.{Command};
+ghost use Rattle.session_lang.specs.Reading.{kept, opened, text_of, action_of, lacks, linked, line_of, block_of, actions_of, action_with, action_names_of, commands_of, inside_after};
+ghost use Rattle.session_commands.specs.declared.command.Command.{Command};
 
 use crate::statement::Statement;
-use crate::{ActionId, Actions, Command, CommandList};
 use desk_names::{NameId, NameList, Names};
+use script_words::text_at;
+use session_commands::{ActionId, Actions, Command, CommandList};
 use std::alloc::{AllocError, Global};
 
 /// A statement with the number of its line.
@@ -80,17 +81,6 @@ pub(crate) fn add(
 {
     keep(steps, line, &statement)?;
     Ok(opened(&statement, line, open_at))
-}
-
-// The text of a name, or no bytes where there is no name of that number.
-pub(crate) fn text_at(names: &Names, name: NameId) -> &[u8]
-    ensures { result.now ≡ slice_index_or names.now name [] }
-{
-    if name.0 < names.len() {
-        names.text(name)
-    } else {
-        &[]
-    }
 }
 
 // The name of the action that a command names.
@@ -225,25 +215,6 @@ fn inside_after(statement: Statement, inside: bool) -> bool
     }
 }
 
-// Puts a command behind the others.
-fn put(
-    commands: &mut CommandList,
-    names: &Names,
-    begun: &Names,
-    inside: bool,
-    statement: Statement,
-) -> Result<(), AllocError>
-    ensures { OnOk result (commands.new ≡ commands.old ++ command_with (record { names = names.now; begun = begun.now }) inside statement []) }
-{
-    if inside {
-        return Ok(());
-    }
-    if let Statement::Run(command) = statement {
-        commands.push(linked(names, begun, command))?;
-    }
-    Ok(())
-}
-
 /// The commands outside of blocks.
 #[tactic(auto, unfolding(crate::specs::Reading::commands_of))]
 pub(crate) fn commands_of(
@@ -257,7 +228,9 @@ pub(crate) fn commands_of(
     let mut commands = CommandList::new(alloc);
     let mut inside = false;
     for step in steps {
-        put(&mut commands, names, begun, inside, step.what)?;
+        if let (false, Statement::Run(command)) = (inside, step.what) {
+            commands.push(linked(names, begun, command))?;
+        }
         inside = inside_after(step.what, inside);
     }
     Ok(commands)

@@ -1,6 +1,6 @@
 use Rattle.std.proofs.Common.{◌≡◌, ◌+◌, ◌≤◌, length, None}
 use Rattle.std.specs.Str.Lines.{lines}
-use Rattle.session_lang.specs.Given.{Grows}
+use Rattle.script_words.specs.Given.{Grows}
 use Rattle.session_lang.specs.Reading.{lines_meaning, onto}
 use Rattle.session_lang.proofs.read.read_lines.Given as goal
 

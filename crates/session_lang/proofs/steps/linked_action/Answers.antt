@@ -1,6 +1,6 @@
 use Rattle.std.proofs.Common.{◌≡◌, sym, ◌∙◌, false, ap, slice_index_or, []}
 use Rattle.desk_names.specs.Names.{place_of, has_text}
-use Rattle.session_lang.proofs.Interning.{place_absent}
+use Rattle.script_words.proofs.Interning.{place_absent}
 use Rattle.session_lang.proofs.steps.linked_action.Goals as goal
 
 pub returns-in-None : goal.returns-in-None

@@ -1,0 +1,4 @@
+pub mod Given
+pub mod Line
+pub mod Word
+pub mod WordText

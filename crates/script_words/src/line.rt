@@ -1,0 +1,83 @@
+// The lines of a script, and the words of a line.
+ghost use Rattle.std.specs.Prelude.{◌≡◌, ◌<◌, ◌≤◌, ◌==◌, not, ◌∷◌, length, map, IfOk, [], slice_index_or};
+ghost use Rattle.std.specs.List.{list_all, prefix_len};
+ghost use Rattle.std.specs.Str.Lines.{lines, strip_carriage_return};
+ghost use Rattle.script_words.specs.Line.{is_good, is_blank, before_comment, words_of};
+
+use std::alloc::{AllocError, Global};
+
+fn is_good(byte: u8) -> bool
+    ensures { result ≡ is_good byte }
+{
+    byte == b'\t' || (32 <= byte && byte <= 126)
+}
+
+/// Each byte of the line may stand in a script.
+pub fn has_good_bytes(line: &[u8]) -> bool
+    ensures { result ≡ list_all is_good line.now }
+{
+    line.iter().all(|byte| is_good(*byte))
+}
+
+fn is_blank(byte: u8) -> bool
+    ensures { result ≡ is_blank byte }
+{
+    byte == b' ' || byte == b'\t'
+}
+
+// How many bytes stand before the first one of this value, or in all.
+fn bytes_before(line: &[u8], mark: u8) -> usize
+    ensures value { result ≡ prefix_len (λ byte. not (byte == mark)) line.now }
+    ensures bound { result ≤ length line.now }
+{
+    line.iter().take_while(|byte| **byte != mark).count()
+}
+
+// What stands before the line's comment.
+fn before_comment(line: &[u8]) -> &[u8]
+    ensures { result.now ≡ before_comment line.now }
+{
+    let (text, _) = line.split_at(bytes_before(line, b'#'));
+    text
+}
+
+/// The words of a line, as parts of it.
+pub fn words_of(alloc: Global, line: &[u8]) -> Result<Vec<&[u8]>, AllocError>
+    ensures { IfOk result (λ words. map (λ word. word.now) words.items ≡ words_of line.now) }
+{
+    let text = before_comment(line);
+    text.split(|byte| is_blank(*byte))
+        .filter(|word| !word.is_empty())
+        .collect(alloc)
+}
+
+/// The word at the place, or no bytes where there is none.
+pub fn word_at<'a>(words: &[&'a [u8]], at: usize) -> &'a [u8]
+    ensures { result.now ≡ slice_index_or (map (λ word. word.now) words.now) at [] }
+{
+    if at < words.len() { words[at] } else { &[] }
+}
+
+// The line without one carriage return at its end.
+fn without_return(line: &[u8]) -> &[u8]
+    ensures { result.now ≡ strip_carriage_return line.now }
+{
+    match line {
+        [text @ .., b'\r'] => text,
+        _ => line,
+    }
+}
+
+/// The first line of a text, and the text behind it.
+pub fn next_line(text: &[u8]) -> (&[u8], &[u8])
+    requires { 0 < length text.now }
+    ensures line { lines text.now ≡ result.0.now ∷ lines result.1.now }
+    ensures less { length result.1.now < length text.now }
+{
+    let (line, rest) = text.split_at(bytes_before(text, b'\n'));
+    if rest.is_empty() {
+        return (line, rest);
+    }
+    let (_, after) = rest.split_at(1);
+    (without_return(line), after)
+}

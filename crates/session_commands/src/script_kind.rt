@@ -1,0 +1,63 @@
+// What is wrong with a script.
+use std::fmt;
+
+/// What is wrong with a line of a script. Within a line the first that holds is told, in this order; `Name`, `Number`,
+/// `Date` and `Choice` word by word from the left. (This project's profile.)
+#[derive(Clone, Copy, Debug, PartialEq, Eq)]
+pub enum ScriptKind {
+    /// The script is over 8,388,608 bytes; told with line 0.
+    TooLong,
+    /// A byte that is neither tab nor one from 32 to 126 stands in the line.
+    Byte,
+    /// The first word is no word of the language.
+    Word,
+    /// The number of words is another.
+    Count,
+    /// `action` stands inside a block.
+    Nested,
+    /// `end` stands outside a block.
+    End,
+    /// A word in a name's place is no name.
+    Name,
+    /// An action of that name was begun before.
+    Twice,
+    /// A decimal or whole number is not in its form or its limit.
+    Number,
+    /// A day is not in its form or its range.
+    Date,
+    /// A word is not one of those listed.
+    Choice,
+    /// The name would be the 65,537th.
+    Names,
+    /// The script ends inside a block; told with the line of its `action`.
+    Unclosed,
+    /// An action is named that no block defines; told with the least such line.
+    NoAction,
+}
+
+// A fault prints as its word.
+impl fmt::Display for ScriptKind {
+    ghost use Rattle.std.specs.Prelude.{Some};
+    ghost use Rattle.session_commands.specs.ScriptKind.{kind_text};
+
+    ghost output = { λ k. Some (kind_text k) };
+
+    fn fmt<W: fmt::Write>(&self, f: &mut fmt::Formatter<W>) -> fmt::Result {
+        match self {
+            ScriptKind::TooLong => write!(f, "toolong"),
+            ScriptKind::Byte => write!(f, "byte"),
+            ScriptKind::Word => write!(f, "word"),
+            ScriptKind::Count => write!(f, "count"),
+            ScriptKind::Nested => write!(f, "nested"),
+            ScriptKind::End => write!(f, "end"),
+            ScriptKind::Name => write!(f, "name"),
+            ScriptKind::Twice => write!(f, "twice"),
+            ScriptKind::Number => write!(f, "number"),
+            ScriptKind::Date => write!(f, "date"),
+            ScriptKind::Choice => write!(f, "choice"),
+            ScriptKind::Names => write!(f, "names"),
+            ScriptKind::Unclosed => write!(f, "unclosed"),
+            ScriptKind::NoAction => write!(f, "noaction"),
+        }
+    }
+}

@@ -1,0 +1,9 @@
+pub mod Exactly
+pub mod Members
+pub mod Marks
+pub mod Edits
+pub mod Growth
+pub mod Mirrors
+pub mod Waves
+pub mod Settling
+pub mod Wholes

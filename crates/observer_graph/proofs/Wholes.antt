@@ -1,0 +1,362 @@
+-- A graph stays whole.
+use Rattle.std.proofs.Common.{◌≡◌, ◌≢◌, ◌⊎◌, inl, inr, ℕ, zero, suc, ◌<◌, ◌≤◌, ◌^◌, Bool, true, false, List, [], ◌∷◌, ◌++◌, length, refl, sym, ◌∙◌, ap, subst, arith, Option, Some, None, Ok, Err, Result}
+use Rattle.std.specs.Prelude.{◌↔◌, slice_index_or, slice_set, IsSome, OnOk, OnErr}
+use Rattle.std.proofs.lemmas.Bool.{cases_eq, false≢true}
+use Rattle.std.proofs.lemmas.List.{get_or-set_same, get_or-set_other, length-set, length-append, get_or_append_left, get_or_default}
+use Rattle.walks.specs.Walk.{Among}
+use Rattle.observer_graph.specs.declared.node.Role.{Role}
+use Rattle.observer_graph.specs.declared.node.Role.TheVariants.{Source, Forwarder, Lazy}
+use Rattle.observer_graph.specs.declared.node.Flags.{Flags}
+use Rattle.observer_graph.specs.declared.node.Node.{Node}
+use Rattle.observer_graph.specs.Lists.{AreOnce, is_marked, list_at, IsOnce, PairsView, SetView}
+use Rattle.observer_graph.specs.Stands.{Stands}
+use Rattle.observer_graph.specs.Walks.{IsWithin, graph_of}
+use Rattle.walks.specs.Walk.Below.{next, beyond}
+use Rattle.observer_graph.specs.GraphView.{GraphView, IsWhole, IsLive, IsLazy, IsPair, IsPlain, HasFlags, node_at, no_flags}
+use Rattle.observer_graph.specs.Notice.{IsTold, Tells, unsettled}
+use Rattle.observer_graph.specs.Change.{with_node, with_flags, with_source, flagged}
+use Rattle.observer_graph.proofs.Members.{among_or_not}
+use Rattle.observer_graph.proofs.Marks.{marked_front}
+use Rattle.observer_graph.proofs.Mirrors.{list_grown}
+
+-- what holds on both exits
+pub either : {T E : Type 0} {A B P : Type 0} (result : Result T E) → OnOk result A → OnErr result B → (A → P)
+    → (B → P) → P
+either (Ok x) a b f g = f a
+either (Err e) a b f g = g b
+
+-- a live node is within
+pub live_within : (nodes : List (Option Node)) (o : ℕ) → IsSome (slice_index_or nodes o None) → o < length nodes
+live_within [] zero live = absurd (false≢true live)
+live_within [] (suc o) live = absurd (false≢true live)
+live_within (n ∷ nodes) zero live = omega arith
+live_within (n ∷ nodes) (suc o) live = let w = live_within nodes o live in omega arith
+
+-- other pairs of live nodes
+pub whole_pairs : (graph : GraphView) (subjects2 : List (List ℕ)) → IsWhole graph
+    → length subjects2 ≡ length graph.subjects → AreOnce subjects2
+    → ((x o : ℕ) → Among x (list_at subjects2 o) → IsLive graph x × IsLive graph o)
+    → IsWhole (record graph { subjects = subjects2 })
+whole_pairs graph subjects2 w len once live = record {
+  lists = len
+      ∙ w.lists;
+  marks = w.marks;
+  ends = live;
+  once = once;
+  sources = w.sources;
+  flags = w.flags;
+  limit = w.limit;
+}
+
+-- one node more
+front_node : (nodes : List (Option Node)) (node : Option Node) (o : ℕ) → IsSome (slice_index_or nodes o None)
+    → IsSome (slice_index_or (nodes ++ node ∷ []) o None)
+front_node nodes node o live = subst IsSome
+    (sym (get_or_append_left nodes (node ∷ []) None o (live_within nodes o live))) live
+
+plain_role : (role : Role) → HasFlags role no_flags
+plain_role Source = refl
+plain_role Forwarder = refl
+plain_role Lazy = tt
+
+plain_front : (nodes : List (Option Node)) (role : Role) → ((o : ℕ) → IsPlain (slice_index_or nodes o None)) → (o : ℕ)
+    → IsPlain (slice_index_or (nodes ++ Some (record { role = role; flags = no_flags }) ∷ []) o None)
+plain_front [] role plain zero = plain_role role
+plain_front [] role plain (suc o) = by_place o
+  where
+    by_place : (o : ℕ) → IsPlain (slice_index_or [] o None)
+    by_place zero = tt
+    by_place (suc o) = tt
+plain_front (n ∷ nodes) role plain zero = plain 0
+plain_front (n ∷ nodes) role plain (suc o) = plain_front nodes role (λ p. plain (suc p)) o
+
+pub whole_added : (graph : GraphView) (role : Role) → length graph.nodes < 2 ^ 16 → IsWhole graph
+    → IsWhole (with_node role graph)
+whole_added graph role low w = record {
+  lists = let a = length-append graph.subjects ([] ∷ []) in let b = length-append graph.nodes (node ∷ [])
+      in let l = w.lists in omega arith;
+  marks = let a = length-append graph.sources (false ∷ []) in let b = length-append graph.nodes (node ∷ [])
+      in let l = w.marks in omega arith;
+  ends = λ x o a. let e = w.ends x o (subst (Among x) (list_grown graph.subjects o) a) in
+      (front_node graph.nodes node x e.0, front_node graph.nodes node o e.1);
+  once = λ o. subst IsOnce (sym (list_grown graph.subjects o)) (w.once o);
+  sources = λ o e. front_node graph.nodes node o (w.sources o (marked_front graph.sources o e));
+  flags = plain_front graph.nodes role w.flags;
+  limit = let b = length-append graph.nodes (node ∷ []) in omega arith;
+}
+  where
+    node : Option Node
+    node = Some (record { role = role; flags = no_flags })
+
+-- other values of the same live nodes
+pub whole_nodes : (graph : GraphView) (nodes2 : List (Option Node)) → IsWhole graph
+    → length nodes2 ≡ length graph.nodes → ((o : ℕ) → IsLive graph o → IsSome (slice_index_or nodes2 o None))
+    → ((o : ℕ) → IsPlain (slice_index_or nodes2 o None)) → IsWhole (record graph { nodes = nodes2 })
+whole_nodes graph nodes2 w len live plain = record {
+  lists = w.lists ∙ sym len;
+  marks = w.marks ∙ sym len;
+  ends = λ x o a. let e = w.ends x o a in (live x e.0, live o e.1);
+  once = w.once;
+  sources = λ o e. live o (w.sources o e);
+  flags = plain;
+  limit = subst (λ (n : ℕ). n ≤ 2 ^ 16) (sym len) w.limit;
+}
+
+lazy_live : (node : Option Node) → IsLazy node → IsSome node
+lazy_live None lazy = absurd lazy
+lazy_live (Some node) lazy = refl
+
+pub is_live : (graph : GraphView) (o : ℕ) → IsLazy (node_at graph o) → IsLive graph o
+is_live graph o lazy = lazy_live (node_at graph o) lazy
+
+pub whole_flagged : (graph : GraphView) (o : ℕ) (flags : Flags) → IsLazy (node_at graph o) → IsWhole graph
+    → IsWhole (with_flags o flags graph)
+whole_flagged graph o flags lazy w = whole_nodes graph (slice_set graph.nodes o new) w (length-set graph.nodes o new)
+    (λ p live. elim (cases_eq p o) [
+      | inl same ↦ subst (λ (z : ℕ). IsSome (slice_index_or (slice_set graph.nodes o new) z None)) (sym same)
+          (subst IsSome (sym (get_or-set_same graph.nodes o new None low)) (some_flagged (node_at graph o) lazy))
+      | inr other ↦ subst IsSome (sym (get_or-set_other graph.nodes o p new None other)) live
+    ])
+    (λ p. elim (cases_eq p o) [
+      | inl same ↦ subst (λ (z : ℕ). IsPlain (slice_index_or (slice_set graph.nodes o new) z None)) (sym same)
+          (subst IsPlain (sym (get_or-set_same graph.nodes o new None low)) (plain_flagged (node_at graph o) lazy))
+      | inr other ↦ subst IsPlain (sym (get_or-set_other graph.nodes o p new None other)) (w.flags p)
+    ])
+  where
+    new : Option Node
+    new = flagged flags (node_at graph o)
+
+    low : o < length graph.nodes
+    low = live_within graph.nodes o (is_live graph o lazy)
+
+    some_flagged : (node : Option Node) → IsLazy node → IsSome (flagged flags node)
+    some_flagged None lazy = absurd lazy
+    some_flagged (Some node) lazy = refl
+
+    plain_as : (role : Role) → role ≡ Lazy → HasFlags role flags
+    plain_as role is = subst (λ (r : Role). HasFlags r flags) (sym is) tt
+
+    plain_flagged : (node : Option Node) → IsLazy node → IsPlain (flagged flags node)
+    plain_flagged None lazy = absurd lazy
+    plain_flagged (Some node) lazy = plain_as node.role lazy
+
+-- a source more
+pub whole_source : (graph : GraphView) (o : ℕ) → IsLive graph o → IsWhole graph → IsWhole (with_source o graph)
+whole_source graph o live w = record {
+  lists = w.lists;
+  marks = length-set graph.sources o true ∙ w.marks;
+  ends = w.ends;
+  once = w.once;
+  sources = λ p e. elim (cases_eq p o) [
+    | inl same ↦ subst (IsLive graph) (sym same) live
+    | inr other ↦ w.sources p (sym (get_or-set_other graph.sources o p true false other) ∙ e)
+  ];
+  flags = w.flags;
+  limit = w.limit;
+}
+
+-- a node less
+pub whole_removed : (graph : GraphView) (o : ℕ) (subjects2 : List (List ℕ)) (sources2 : List Bool) → IsLive graph o
+    → length subjects2 ≡ length graph.subjects → AreOnce subjects2
+    → ((x p : ℕ) → Among x (list_at subjects2 p) ↔ (IsPair graph x p × ((x ≡ o) ⊎ (p ≡ o) → ⊥)))
+    → sources2 ≡ slice_set graph.sources o false → IsWhole graph
+    → IsWhole (record { nodes = slice_set graph.nodes o None; subjects = subjects2; sources = sources2 })
+whole_removed graph o subjects2 sources2 live len once pairs marks w = record {
+  lists = len ∙ w.lists ∙ sym (length-set graph.nodes o None);
+  marks = ap length marks ∙ length-set graph.sources o false ∙ w.marks ∙ sym (length-set graph.nodes o None);
+  ends = λ x p a. let h = (pairs x p).0 a in let e = w.ends x p h.0 in
+      (stays x e.0 (λ same. h.1 (inl same)), stays p e.1 (λ same. h.1 (inr same)));
+  once = once;
+  sources = λ p e. elim (cases_eq p o) [
+    | inl same ↦ absurd (false≢true (sym (get_or-set_same graph.sources o false false low)
+        ∙ ap (is_marked (slice_set graph.sources o false)) (sym same) ∙ ap (λ (l : List Bool). is_marked l p)
+        (sym marks) ∙ e))
+    | inr other ↦ stays p (w.sources p (sym (get_or-set_other graph.sources o p false false other)
+        ∙ ap (λ (l : List Bool). is_marked l p) (sym marks) ∙ e)) other
+  ];
+  flags = λ p. elim (cases_eq p o) [
+    | inl same ↦ subst (λ (z : ℕ). IsPlain (slice_index_or (slice_set graph.nodes o None) z None)) (sym same)
+        (subst IsPlain (sym (get_or-set_same graph.nodes o None None within)) tt)
+    | inr other ↦ subst IsPlain (sym (get_or-set_other graph.nodes o p None None other)) (w.flags p)
+  ];
+  limit = subst (λ (n : ℕ). n ≤ 2 ^ 16) (sym (length-set graph.nodes o None)) w.limit;
+}
+  where
+    within : o < length graph.nodes
+    within = live_within graph.nodes o live
+
+    low : o < length graph.sources
+    low = let m = w.marks in let l = live_within graph.nodes o live in omega arith
+
+    stays : (p : ℕ) → IsLive graph p → p ≢ o → IsSome (slice_index_or (slice_set graph.nodes o None) p None)
+    stays p alive other = subst IsSome (sym (get_or-set_other graph.nodes o p None None other)) alive
+
+-- after a notice
+pub some_unsettled : (node : Option Node) → IsSome node → IsSome (unsettled node)
+some_unsettled None live = live
+some_unsettled (Some node) live = refl
+
+pub plain_unsettled : (node : Option Node) → IsPlain node → IsPlain (unsettled node)
+plain_unsettled None plain = tt
+plain_unsettled (Some node) plain = by_role node.role plain
+  where
+    by_role : (role : Role) → HasFlags role node.flags → HasFlags role (record node.flags { current = false })
+    by_role Source plain = ap (λ (f : Flags). record f { current = false }) plain
+    by_role Forwarder plain = ap (λ (f : Flags). record f { current = false }) plain
+    by_role Lazy plain = tt
+
+pub whole_told : (graph : GraphView) (nodes2 : List (Option Node)) (sources2 : List Bool) → IsWhole graph
+    → length nodes2 ≡ length graph.nodes → length sources2 ≡ length graph.sources
+    → ((o : ℕ) → (slice_index_or nodes2 o None ≡ unsettled (node_at graph o))
+    ⊎ (slice_index_or nodes2 o None ≡ node_at graph o)) → ((o : ℕ) → is_marked sources2 o ≡ false)
+    → IsWhole (record { nodes = nodes2; subjects = graph.subjects; sources = sources2 })
+whole_told graph nodes2 sources2 w len long changes none = record {
+  lists = w.lists ∙ sym len;
+  marks = long ∙ w.marks ∙ sym len;
+  ends = λ x o a. let e = w.ends x o a in (live x e.0, live o e.1);
+  once = w.once;
+  sources = λ o e. absurd (false≢true (sym (none o) ∙ e));
+  flags = λ o. elim (changes o) [
+    | inl is ↦ subst IsPlain (sym is) (plain_unsettled (node_at graph o) (w.flags o))
+    | inr is ↦ subst IsPlain (sym is) (w.flags o)
+  ];
+  limit = subst (λ (n : ℕ). n ≤ 2 ^ 16) (sym len) w.limit;
+}
+  where
+    live : (o : ℕ) → IsLive graph o → IsSome (slice_index_or nodes2 o None)
+    live o alive = elim (changes o) [
+      | inl is ↦ subst IsSome (sym is) (some_unsettled (node_at graph o) alive)
+      | inr is ↦ subst IsSome (sym is) alive
+    ]
+
+-- a graph with one node more stands
+pub stands_added : (nodes nodes2 : List (Option Node)) (pairs pairs2 : PairsView)
+    (sources sources2 wave wave2 : SetView) (role : Role) (flags : Flags) → Stands nodes pairs sources wave
+    → length nodes < 2 ^ 16 → flags ≡ no_flags
+    → nodes2 ≡ nodes ++ Some (record { role = role; flags = flags }) ∷ []
+    → pairs2.subjects ≡ pairs.subjects ++ [] ∷ [] → sources2.marks ≡ sources.marks ++ false ∷ []
+    → wave2.marks ≡ wave.marks ++ false ∷ [] → wave2.items ≡ wave.items → Stands nodes2 pairs2 sources2 wave2
+stands_added nodes nodes2 pairs pairs2 sources sources2 wave wave2 role flags s low off nodes_are pairs_are
+    sources_are marks_are items_are = record {
+      whole = subst (λ (n : List (Option Node)). IsWhole (graph_of n pairs2.subjects sources2.marks))
+          (sym (nodes_are ∙ ap (λ (f : Flags). nodes ++ Some (record { role = role; flags = f }) ∷ []) off))
+          (subst (λ (p : List (List ℕ)). IsWhole (graph_of (nodes ++ Some (record { role = role; flags = no_flags }) ∷ [])
+          p sources2.marks)) (sym pairs_are)
+          (subst (λ (m : List Bool). IsWhole (graph_of (nodes ++ Some (record { role = role; flags = no_flags }) ∷ [])
+          (pairs.subjects ++ [] ∷ []) m)) (sym sources_are)
+          (whole_added (graph_of nodes pairs.subjects sources.marks) role low s.whole)));
+      room = let a = ap length marks_are ∙ length-append wave.marks (false ∷ []) in let b = ap length nodes_are
+          ∙ length-append nodes (Some (record { role = role; flags = flags }) ∷ []) in let r = s.room in omega arith;
+      empty = items_are ∙ s.empty;
+    }
+
+pub off_flags : (flags : Flags) → (flags.current ≡ false) × ((flags.frozen ≡ false) × (flags.forward ≡ false))
+    → flags ≡ no_flags
+off_flags flags off = λ i. record { current = off.0 i; frozen = off.1.0 i; forward = off.1.1 i }
+
+-- a graph with other pairs of live nodes stands
+pub stands_pairs : (nodes : List (Option Node)) (pairs pairs2 : PairsView) (sources wave : SetView)
+    → Stands nodes pairs sources wave → length pairs2.subjects ≡ length pairs.subjects → AreOnce pairs2.subjects
+    → ((x o : ℕ) → Among x (list_at pairs2.subjects o) → IsSome (slice_index_or nodes x None)
+    × IsSome (slice_index_or nodes o None)) → Stands nodes pairs2 sources wave
+stands_pairs nodes pairs pairs2 sources wave s len once live = record {
+  whole = whole_pairs (graph_of nodes pairs.subjects sources.marks) pairs2.subjects s.whole len once live;
+  room = s.room;
+  empty = s.empty;
+}
+
+-- one pair more leads to live nodes
+pub live_linked : (graph : GraphView) (subjects2 : List (List ℕ)) (subject observer : ℕ) → IsWhole graph
+    → IsLive graph subject → IsLive graph observer
+    → ((x o : ℕ) → Among x (list_at subjects2 o) → IsPair graph x o ⊎ ((x ≡ subject) × (o ≡ observer))) → (x o : ℕ)
+    → Among x (list_at subjects2 o) → IsLive graph x × IsLive graph o
+live_linked graph subjects2 subject observer w alive watching pairs x o a = elim (pairs x o a) [
+  | inl was ↦ w.ends x o was
+  | inr p ↦ (subst (IsLive graph) (sym p.0) alive, subst (IsLive graph) (sym p.1) watching)
+]
+
+-- a graph with other flags of a lazy node stands
+pub stands_flagged : (nodes : List (Option Node)) (pairs : PairsView) (sources wave : SetView) (o : ℕ) (flags : Flags)
+    → IsLazy (slice_index_or nodes o None) → Stands nodes pairs sources wave
+    → Stands (slice_set nodes o (flagged flags (slice_index_or nodes o None))) pairs sources wave
+stands_flagged nodes pairs sources wave o flags lazy s = record {
+  whole = whole_flagged (graph_of nodes pairs.subjects sources.marks) o flags lazy s.whole;
+  room = s.room ∙ sym (length-set nodes o (flagged flags (slice_index_or nodes o None)));
+  empty = s.empty;
+}
+
+-- a graph without a node stands
+pub stands_removed : (nodes : List (Option Node)) (pairs pairs2 : PairsView) (sources sources2 wave : SetView) (o : ℕ)
+    → IsSome (slice_index_or nodes o None) → length pairs2.subjects ≡ length pairs.subjects → AreOnce pairs2.subjects
+    → ((x p : ℕ) → Among x (list_at pairs2.subjects p) ↔ (Among x (list_at pairs.subjects p) × ((x ≡ o) ⊎ (p ≡ o)
+    → ⊥))) → sources2.marks ≡ slice_set sources.marks o false → Stands nodes pairs sources wave
+    → Stands (slice_set nodes o None) pairs2 sources2 wave
+stands_removed nodes pairs pairs2 sources sources2 wave o live len once left marks s = record {
+  whole = whole_removed (graph_of nodes pairs.subjects sources.marks) o pairs2.subjects sources2.marks live len once
+      left marks s.whole;
+  room = s.room ∙ sym (length-set nodes o None);
+  empty = s.empty;
+}
+
+-- what a read of a live node gives
+pub node_read : (nodes : List (Option Node)) (place o : ℕ) (node : Option Node) → place ≡ o → o < length nodes
+    → node ≡ slice_index_or nodes place node → node ≡ slice_index_or nodes o None
+node_read nodes place o node same low is = is ∙ ap (λ (i : ℕ). slice_index_or nodes i node) same
+    ∙ get_or_default nodes o node None low
+
+-- all pairs are of nodes within
+pub pairs_within : (nodes : List (Option Node)) (pairs : PairsView) (sources wave : SetView)
+    → Stands nodes pairs sources wave → IsWithin pairs.subjects (length nodes)
+pairs_within nodes pairs sources wave s x o a = let e = s.whole.ends x o a in
+    (live_within nodes x e.0, live_within nodes o e.1)
+
+-- who is told is within
+pub told_within : (graph : GraphView) (n : ℕ) → IsWithin graph.subjects n → (o : ℕ) → IsTold graph o → o < n
+told_within graph n within o (next {x = x} a here) = (within x o a).1
+told_within graph n within o (beyond {x = x} a passes below) = (within x o a).1
+
+-- A notice, where the set of those told is at hand. The nodes were read twice, and are the same each time.
+pub tells_of : (nodes read written nodes2 : List (Option Node)) (subjects : List (List ℕ))
+    (sources sources2 : List Bool) (items : List ℕ) → read ≡ nodes → written ≡ nodes → length nodes2 ≡ length written
+    → ((o : ℕ) → Among o items ↔ IsTold (graph_of read subjects sources) o)
+    → ((o : ℕ) → Among o items → slice_index_or nodes2 o None ≡ unsettled (slice_index_or written o None))
+    → ((o : ℕ) → (Among o items → ⊥) → slice_index_or nodes2 o None ≡ slice_index_or written o None)
+    → ((o : ℕ) → is_marked sources2 o ≡ false) → Tells (graph_of nodes subjects sources)
+    (graph_of nodes2 subjects sources2)
+tells_of nodes read written nodes2 subjects sources sources2 items read_is written_is len told unsettles others none =
+    record {
+      subjects = refl;
+      len = len ∙ ap length written_is;
+      node = λ o. elim (among_or_not o items) [
+        | inl a ↦ inl (
+          of_read o ((told o).0 a),
+          unsettles o a
+              ∙ ap (λ (n : List (Option Node)). unsettled (slice_index_or n o None)) written_is,
+        )
+        | inr apart ↦ inr (
+          (λ t. apart ((told o).1 (to_read o t))),
+          others o apart
+              ∙ ap (λ (n : List (Option Node)). slice_index_or n o None) written_is,
+        )
+      ];
+      sources = none;
+    }
+  where
+    of_read : (o : ℕ) → IsTold (graph_of read subjects sources) o → IsTold (graph_of nodes subjects sources) o
+    of_read o t = subst (λ (n : List (Option Node)). IsTold (graph_of n subjects sources) o) read_is t
+
+    to_read : (o : ℕ) → IsTold (graph_of nodes subjects sources) o → IsTold (graph_of read subjects sources) o
+    to_read o t = subst (λ (n : List (Option Node)). IsTold (graph_of n subjects sources) o) (sym read_is) t
+
+-- and the graph after it stands
+pub stands_told : (nodes nodes2 : List (Option Node)) (pairs : PairsView) (sources sources2 wave wave2 : SetView)
+    → Stands nodes pairs sources wave → Tells (graph_of nodes pairs.subjects sources.marks)
+    (graph_of nodes2 pairs.subjects sources2.marks)
+    → length sources2.marks ≡ length sources.marks → length wave2.marks ≡ length wave.marks → wave2.items ≡ []
+    → Stands nodes2 pairs sources2 wave2
+stands_told nodes nodes2 pairs sources sources2 wave wave2 s t marks room empty = record {
+  whole = whole_told (graph_of nodes pairs.subjects sources.marks) nodes2 sources2.marks s.whole t.len marks
+      (λ o. elim (t.node o) [ inl h ↦ inl h.1 | inr h ↦ inr h.1 ]) t.sources;
+  room = room ∙ s.room ∙ sym t.len;
+  empty = empty;
+}

@@ -1,0 +1,34 @@
+use Rattle.std.proofs.Common.{◌∙◌, sym, arith}
+use Rattle.std.proofs.lemmas.Option.{get_or_from_slice_get, slice_get_within}
+use Rattle.observer_graph.proofs.Members.{among_item}
+use Rattle.observer_graph.proofs.Marks.{marked_within}
+use Rattle.observer_graph.proofs.Waves.{first_more, first_all}
+use Rattle.observer_graph.proofs.walk.tell_observers.Goals as goal
+
+pub observers-requires : goal.observers-requires
+observers-requires c =
+    let here = among_item c.args.sources.now.items c.loop-at.at c.get.result
+    (slice_get_within c.args.sources.now.items c.loop-at.at c.get.result c.get.ensures)
+    (sym (get_or_from_slice_get c.args.sources.now.items c.loop-at.at c.get.result c.get.result c.get.ensures)) in
+    let low = marked_within c.args.sources.now.marks c.get.result (c.len-at-end.ensures.set.marked c.get.result here)
+    in
+    let s = c.requires.sources in let p = c.requires.pairs in omega arith
+
+pub insert_all-requires : goal.insert_all-requires
+insert_all-requires c = λ o a. let w = (c.requires.within c.get.result o ((c.observers.ensures o).0 a)).1 in let r =
+    c.loop-at.invariant.room in omega arith
+
+pub loop-at-preserved : goal.loop-at-preserved
+loop-at-preserved c = record {
+  room = c.insert_all.ensures.room ∙ c.loop-at.invariant.room;
+  first = first_more c.args.pairs.now.subjects c.args.sources.now.items c.loop-at.at c.get.result c.loop-at.wave
+      c.insert_all.new.self c.observers.result.now
+      (slice_get_within c.args.sources.now.items c.loop-at.at c.get.result c.get.ensures)
+      (sym (get_or_from_slice_get c.args.sources.now.items c.loop-at.at c.get.result c.get.result c.get.ensures))
+      c.observers.ensures c.loop-at.invariant.first c.insert_all.ensures;
+}
+
+pub returns-clause-first : goal.returns-clause-first
+returns-clause-first c = first_all c.args.pairs.now.subjects c.args.sources.now.marks c.args.sources.now.items
+    c.loop-at.wave.items c.loop-at.at (let e = c.len-at-end.ensures.len in let t = c.loop-at-test.false in omega
+    arith) c.len-at-end.ensures.set c.loop-at.invariant.first

@@ -1,0 +1,44 @@
+-- What the calls change.
+use Rattle.std.specs.Prelude.{◌≡◌, ◌⊎◌, ◌↔◌, ◌++◌, ℕ, true, false, [], ◌∷◌, Option, Some, None, slice_set}
+use Rattle.observer_graph.specs.declared.node.Role.{Role}
+use Rattle.observer_graph.specs.declared.node.Flags.{Flags}
+use Rattle.observer_graph.specs.declared.node.Node.{Node}
+use Rattle.observer_graph.specs.GraphView.{GraphView, node_at, IsPair, no_flags}
+
+-- a new node is last; it observes nothing, is no source, and its flags are off
+abbrev pub with_node : Role → GraphView → GraphView
+with_node role graph = record {
+  nodes = graph.nodes ++ Some (record { role = role; flags = no_flags }) ∷ [];
+  subjects = graph.subjects ++ [] ∷ [];
+  sources = graph.sources ++ false ∷ [];
+}
+
+-- one pair more
+pub record AddsPair (old new : GraphView) (subject observer : ℕ) : Type 0 where
+  pub nodes : new.nodes ≡ old.nodes
+  pub sources : new.sources ≡ old.sources
+  pub pairs : (x o : ℕ) → IsPair new x o ↔ (IsPair old x o ⊎ ((x ≡ subject) × (o ≡ observer)))
+
+-- all pairs but this one
+pub record TakesPair (old new : GraphView) (subject observer : ℕ) : Type 0 where
+  pub nodes : new.nodes ≡ old.nodes
+  pub sources : new.sources ≡ old.sources
+  pub pairs : (x o : ℕ) → IsPair new x o ↔ (IsPair old x o × ((x ≡ subject) × (o ≡ observer) → ⊥))
+
+-- the node is gone, is no source, and all pairs but its own stay
+pub record TakesNode (old new : GraphView) (node : ℕ) : Type 0 where
+  pub nodes : new.nodes ≡ slice_set old.nodes node None
+  pub sources : new.sources ≡ slice_set old.sources node false
+  pub pairs : (x o : ℕ) → IsPair new x o ↔ (IsPair old x o × ((x ≡ node) ⊎ (o ≡ node) → ⊥))
+
+abbrev pub flagged : Flags → Option Node → Option Node
+flagged flags None = None
+flagged flags (Some node) = Some (record node { flags = flags })
+
+-- a node with these flags
+abbrev pub with_flags : ℕ → Flags → GraphView → GraphView
+with_flags o flags graph = record graph { nodes = slice_set graph.nodes o (flagged flags (node_at graph o)) }
+
+-- the node is a marked source too
+abbrev pub with_source : ℕ → GraphView → GraphView
+with_source o graph = record graph { sources = slice_set graph.sources o true }

@@ -1,0 +1,6 @@
+pub mod GraphView
+pub mod Lists
+pub mod Notice
+pub mod Change
+pub mod Stands
+pub mod Walks

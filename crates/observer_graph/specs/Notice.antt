@@ -1,0 +1,45 @@
+-- Whom a notice reaches, and what lies beneath a node.
+use Rattle.std.specs.Prelude.{◌≡◌, ◌⊎◌, ◌==◌, ◌&&◌, ◌||◌, not, ℕ, Bool, true, false, length, Option, Some, None}
+use Rattle.walks.specs.Walk.{Below}
+use Rattle.observer_graph.specs.declared.node.Role.{Role}
+use Rattle.observer_graph.specs.declared.node.Role.TheVariants.{Source, Forwarder, Lazy}
+use Rattle.observer_graph.specs.declared.node.Flags.{Flags}
+use Rattle.observer_graph.specs.declared.node.Node.{Node}
+use Rattle.observer_graph.specs.GraphView.{GraphView, node_at, subjects_of, is_source}
+
+-- whether a node that a notice reaches passes it on: a forwarder does, and a lazy node that is not frozen and is
+-- current or always forwards (QuantLib's `LazyObject::update`)
+abbrev pub passes_as : Role → Flags → Bool
+passes_as Source flags = false
+passes_as Forwarder flags = true
+passes_as Lazy flags = not flags.frozen && (flags.current || flags.forward)
+
+abbrev pub passes_of : Option Node → Bool
+passes_of None = false
+passes_of (Some node) = passes_as node.role node.flags
+
+abbrev pub passes_at : GraphView → ℕ → Bool
+passes_at graph x = passes_of (node_at graph x)
+
+-- a notice from the marked sources reaches o: the least set that holds the observers of each marked source, and
+-- those of each node in the set that passes the notice on
+abbrev pub IsTold : GraphView → ℕ → Type 0
+IsTold graph o = Below (subjects_of graph) (is_source graph) (passes_at graph) o
+
+-- a node is another, or observes it on a path of pairs
+abbrev pub Reaches : GraphView → ℕ → ℕ → Type 0
+Reaches graph from to = (from ≡ to) ⊎ Below (subjects_of graph) (λ y. y == to) (λ y. true) from
+
+-- a node that was told is not current
+abbrev pub unsettled : Option Node → Option Node
+unsettled None = None
+unsettled (Some node) = Some (record node { flags = record node.flags { current = false } })
+
+-- what a notice from the marked sources does: who is told is not current, nothing else of a node changes, pairs stay,
+-- and no source stays marked
+pub record Tells (old new : GraphView) : Type 0 where
+  pub subjects : new.subjects ≡ old.subjects
+  pub len : length new.nodes ≡ length old.nodes
+  pub node : (o : ℕ) → (IsTold old o × (node_at new o ≡ unsettled (node_at old o)))
+      ⊎ ((IsTold old o → ⊥) × (node_at new o ≡ node_at old o))
+  pub sources : (o : ℕ) → is_source new o ≡ false

@@ -1,0 +1,170 @@
+// The graph of observers and its calls.
+ghost use Rattle.std.specs.Prelude.{◌≡◌, ◌↔◌, ◌<◌, ◌≤◌, [], length, IsTrue, IfOk, OnOk, OnErr};
+ghost use Rattle.observer_graph.specs.GraphView.{IsLive, IsLazy, IsPair, IsWhole, node_at, flags_at};
+ghost use Rattle.observer_graph.specs.Notice.{Reaches, Tells};
+ghost use Rattle.observer_graph.specs.Change.{AddsPair, TakesPair, TakesNode, flagged, with_node, with_flags, with_source};
+
+use crate::node::{Flags, Node, Role};
+use crate::node_set::NodeSet;
+use crate::pairs::Pairs;
+use crate::walk::{is_beneath, tell_all, unsettle};
+use desk_names::ObjId;
+use std::alloc::{AllocError, Global};
+use std::marker::Model;
+
+/// How many numbers a graph gives at most.
+pub const MOST_NODES: usize = 65_536;
+
+/// Nodes with their roles and flags, the pairs of a subject and one of its observers, each once, and the marked
+/// sources, from which the next notice starts. A clause sees a `GraphView`.
+#[derive(Drop)]
+pub struct Graph {
+    nodes: Vec<Option<Node>>,
+    pairs: Pairs,
+    sources: NodeSet,
+    // Those whom a notice reaches or who lie beneath a node, during a call; empty between calls.
+    wave: NodeSet,
+}
+
+impl Model for Graph {
+    ghost use Rattle.observer_graph.specs.GraphView.{GraphView};
+    ghost use Rattle.observer_graph.specs.Stands.{Stands};
+
+    ghost Value = { GraphView };
+
+    ghost view = { λ g. record { nodes = g.nodes.items; subjects = g.pairs.subjects; sources = g.sources.marks } };
+
+    ghost invariant = { λ g. Stands g.nodes.items g.pairs g.sources g.wave };
+}
+
+impl Graph {
+    /// No nodes. Later calls take memory from the allocator given here.
+    pub fn new(alloc: Global) -> Graph
+        ensures { result ≡ record { nodes = []; subjects = []; sources = [] } }
+    {
+        Graph {
+            nodes: Vec::new(alloc),
+            pairs: Pairs::new(alloc),
+            sources: NodeSet::new(alloc),
+            wave: NodeSet::new(alloc),
+        }
+    }
+
+    /// A new node, numbered next. It observes nothing, is no source, and its flags are off. After want of memory
+    /// the graph is as it was.
+    pub fn add(&mut self, role: Role) -> Result<ObjId, AllocError>
+        requires { length self.old.nodes < MOST_NODES }
+        ensures number { IfOk result (λ node. node ≡ length self.old.nodes) }
+        ensures ok { OnOk result (self.new ≡ with_node role self.old) }
+        ensures err { OnErr result (self.new ≡ self.old) }
+        ensures whole { IsWhole self.new }
+    {
+        self.nodes.reserve(1)?;
+        self.pairs.reserve()?;
+        self.sources.reserve()?;
+        self.wave.reserve()?;
+        let node = ObjId(self.nodes.len() as u32);
+        self.nodes.push_reserved(Some(Node {
+            role,
+            flags: Flags::default(),
+        }));
+        self.pairs.grow();
+        self.sources.grow();
+        self.wave.grow();
+        Ok(node)
+    }
+
+    /// The observer observes the subject too. After want of memory the graph is as it was.
+    pub fn watch(&mut self, subject: ObjId, observer: ObjId) -> Result<(), AllocError>
+        requires subject { IsLive self.old subject }
+        requires observer { IsLive self.old observer }
+        requires new { IsPair self.old subject observer → ⊥ }
+        ensures ok { OnOk result (AddsPair self.old self.new subject observer) }
+        ensures err { OnErr result (self.new ≡ self.old) }
+        ensures whole { IsWhole self.new }
+    {
+        self.pairs.link(subject, observer)
+    }
+
+    /// The observer does not observe the subject; whether it did. Takes no memory.
+    pub fn unwatch(&mut self, subject: ObjId, observer: ObjId) -> bool
+        requires subject { IsLive self.old subject }
+        requires observer { IsLive self.old observer }
+        ensures was { IsTrue result ↔ IsPair self.old subject observer }
+        ensures pairs { TakesPair self.old self.new subject observer }
+    {
+        self.pairs.unlink(subject, observer)
+    }
+
+    /// The node is gone, with every pair in which it stands and its mark as a source. Takes no memory.
+    pub fn remove(&mut self, node: ObjId)
+        requires { IsLive self.old node }
+        ensures { TakesNode self.old self.new node }
+    {
+        self.pairs.cut(node);
+        self.sources.remove(node);
+        self.nodes[node.place()] = None;
+    }
+
+    /// Whether a node is another, or observes it on a path of pairs. Takes no memory, and time in proportion to
+    /// what lies beneath the node.
+    pub fn reaches(&mut self, from: ObjId, to: ObjId) -> bool
+        requires from { IsLive self.old from }
+        requires to { IsLive self.old to }
+        ensures answer { IsTrue result ↔ Reaches self.old from to }
+        ensures same { self.new ≡ self.old }
+        ensures whole { IsWhole self.new }
+    {
+        let answer = is_beneath(&self.pairs, from, to, &mut self.wave);
+        self.wave.clear();
+        answer
+    }
+
+    /// The flags of a node; all are off on a node that is not lazy.
+    pub fn flags(&self, node: ObjId) -> Flags
+        requires { IsLive self.now node }
+        ensures { result ≡ flags_at self.now node }
+    {
+        match &self.nodes[node.place()] {
+            None => Flags::default(),
+            Some(live) => live.flags,
+        }
+    }
+
+    /// Sets the flags of a lazy node. Nobody is told. Takes no memory.
+    pub fn set_flags(&mut self, node: ObjId, flags: Flags)
+        requires { IsLazy (node_at self.old node) }
+        ensures { self.new ≡ with_flags node flags self.old }
+    {
+        set_flags_of(&mut self.nodes[node.place()], flags);
+    }
+
+    /// The next notice starts from this node too. Takes no memory.
+    pub fn mark_source(&mut self, node: ObjId)
+        requires { IsLive self.old node }
+        ensures { self.new ≡ with_source node self.old }
+    {
+        self.sources.insert(node);
+    }
+
+    /// A notice from all marked sources together: whom it reaches is no longer current, and no source stays marked.
+    /// Who is told, and who passes it on, goes by the flags before the call. Takes no memory, and time in
+    /// proportion to the sources, to those who are told and to their pairs.
+    pub fn tell(&mut self)
+        ensures { Tells self.old self.new }
+    {
+        tell_all(&self.pairs, &self.nodes, &self.sources, &mut self.wave);
+        unsettle(&mut self.nodes, &self.wave);
+        self.wave.clear();
+        self.sources.clear();
+    }
+}
+
+// A live node has these flags.
+fn set_flags_of(node: &mut Option<Node>, flags: Flags)
+    ensures { node.new ≡ flagged flags node.old }
+{
+    if let Some(live) = node {
+        live.flags = flags;
+    }
+}

@@ -1,0 +1,15 @@
+//! Who observes whom, and whom a notice reaches: the graph of observers (QuantLib's `Observable` and `LazyObject`).
+//! Nodes are numbered from 0 in order of creation. A subject and one of its observers are a pair, each pair there once.
+//!
+//! `Graph`, `Role`, `Flags`. Words of `specs/`: `GraphView`, `IsPair`, `IsTold`, `Reaches`.
+#![tactic(auto)]
+
+mod graph;
+mod lists;
+mod node;
+mod node_set;
+mod pairs;
+mod walk;
+
+pub use graph::Graph;
+pub use node::{Flags, Role};

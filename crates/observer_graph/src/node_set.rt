@@ -1,0 +1,144 @@
+// Sets of nodes that keep the order in which the nodes came, with room for every node.
+ghost use Rattle.std.specs.Prelude.{◌≡◌, ◌⊎◌, ◌↔◌, ◌<◌, ◌++◌, ℕ, [], ◌∷◌, false, true, length, IsTrue, OnOk, OnErr, slice_get, slice_set};
+ghost use Rattle.walks.specs.Walk.{Among};
+ghost use Rattle.observer_graph.specs.Lists.{is_marked, IsSet, Extends};
+
+use crate::lists::take_out;
+use desk_names::ObjId;
+use std::alloc::{AllocError, Global};
+use std::marker::Model;
+
+/// A set of nodes. A clause sees the list of them in the order in which they came, a mark for each node, and for how
+/// many nodes more there is room.
+#[derive(Drop)]
+pub struct NodeSet {
+    marks: Vec<bool>,
+    items: Vec<ObjId>,
+}
+
+impl Model for NodeSet {
+    ghost use Rattle.std.specs.Prelude.{◌≤◌, ◌-◌, length, min, vec_capacity};
+    ghost use Rattle.observer_graph.specs.Lists.{SetView, IsSet};
+
+    ghost Value = { SetView };
+
+    ghost view = { λ s. record {
+      marks = s.marks.items;
+      items = s.items.items;
+      spare = min (vec_capacity s.marks) (vec_capacity s.items) - length s.marks.items;
+    } };
+
+    ghost invariant = { λ s. IsSet s.marks.items s.items.items × (length s.marks.items ≤ vec_capacity s.items) };
+}
+
+impl NodeSet {
+    /// The empty set, with room for no node.
+    pub fn new(alloc: Global) -> NodeSet
+        ensures marks { result.marks ≡ [] }
+        ensures items { result.items ≡ [] }
+    {
+        NodeSet {
+            marks: Vec::new(alloc),
+            items: Vec::new(alloc),
+        }
+    }
+
+    /// Finds the room for one node more, where memory is not wanting.
+    pub fn reserve(&mut self) -> Result<(), AllocError>
+        ensures ok { OnOk result (0 < self.new.spare) }
+        ensures marks { self.new.marks ≡ self.old.marks }
+        ensures items { self.new.items ≡ self.old.items }
+    {
+        let room = self.marks.len() + 1;
+        self.marks.reserve(1)?;
+        self.items.reserve(room - self.items.len())?;
+        Ok(())
+    }
+
+    /// One node more may be put in.
+    pub fn grow(&mut self)
+        requires { 0 < self.old.spare }
+        ensures marks { self.new.marks ≡ self.old.marks ++ false ∷ [] }
+        ensures items { self.new.items ≡ self.old.items }
+    {
+        self.marks.push_reserved(false);
+    }
+
+    /// How many nodes are in the set.
+    pub fn len(&self) -> usize
+        ensures len { result ≡ length self.now.items }
+        ensures set { IsSet self.now.marks self.now.items }
+    {
+        self.items.len()
+    }
+
+    /// The node at a place in the order in which they came, from 0.
+    pub fn get(&self, at: usize) -> ObjId
+        requires { at < length self.now.items }
+        ensures { slice_get self.now.items at ≡ Some result }
+    {
+        self.items[at]
+    }
+
+    /// Whether a node is in the set.
+    pub fn contains(&self, node: ObjId) -> bool
+        requires { node < length self.now.marks }
+        ensures marks { result ≡ is_marked self.now.marks node }
+        ensures items { IsTrue result ↔ Among node self.now.items }
+    {
+        self.marks[node.place()]
+    }
+
+    /// Puts a node last, unless it is in the set.
+    pub fn insert(&mut self, node: ObjId)
+        requires { node < length self.old.marks }
+        ensures marks { self.new.marks ≡ slice_set self.old.marks node true }
+        ensures extends { Extends self.old self.new (λ o. o ≡ node) }
+    {
+        if !self.marks[node.place()] {
+            self.marks[node.place()] = true;
+            self.items.push_reserved(node);
+        }
+    }
+
+    /// Puts each of these nodes last that is not in the set.
+    pub fn insert_all(&mut self, nodes: &[ObjId])
+        requires { (o : ℕ) → Among o nodes.now → o < length self.old.marks }
+        ensures { Extends self.old self.new (λ o. Among o nodes.now) }
+    {
+        for node in nodes {
+            self.insert(*node);
+        }
+    }
+
+    /// Takes a node out, if it is in the set.
+    pub fn remove(&mut self, node: ObjId)
+        requires { node < length self.old.marks }
+        ensures { self.new.marks ≡ slice_set self.old.marks node false }
+    {
+        if self.marks[node.place()] {
+            self.marks[node.place()] = false;
+            take_out(&mut self.items, node);
+        }
+    }
+
+    /// Takes all nodes out, in time in proportion to their number.
+    pub fn clear(&mut self)
+        ensures marks { (o : ℕ) → is_marked self.new.marks o ≡ false }
+        ensures len { length self.new.marks ≡ length self.old.marks }
+        ensures items { self.new.items ≡ [] }
+    {
+        unmark_all(&mut self.marks, &self.items);
+        self.items.clear();
+    }
+}
+
+// The marks of these nodes are taken back.
+fn unmark_all(marks: &mut [bool], nodes: &[ObjId])
+    requires { IsSet marks.old nodes.now }
+    ensures marks { (o : ℕ) → is_marked marks.new o ≡ false }
+{
+    for node in nodes {
+        marks[node.place()] = false;
+    }
+}

@@ -1,0 +1,119 @@
+// Whom a notice reaches, and what lies beneath a node: sets that grow until they are closed.
+ghost use Rattle.std.specs.Prelude.{◌≡◌, ◌↔◌, ◌<◌, ℕ, [], length, IsTrue, None, slice_index_or};
+ghost use Rattle.walks.specs.Walk.{Among};
+ghost use Rattle.observer_graph.specs.Lists.{is_marked};
+ghost use Rattle.observer_graph.specs.Notice.{IsTold, passes_of, unsettled};
+ghost use Rattle.observer_graph.specs.Walks.{IsFirst, IsWithin, Leads, graph_of};
+
+use crate::node::{Node, Role};
+use crate::node_set::NodeSet;
+use crate::pairs::Pairs;
+use desk_names::ObjId;
+
+/// Puts those whom a notice from the sources reaches into an empty set. Each of them is looked at once, and each
+/// pair of a source, or of one that passes the notice on, once.
+pub fn tell_all(pairs: &Pairs, nodes: &[Option<Node>], sources: &NodeSet, wave: &mut NodeSet)
+    requires within { IsWithin pairs.now.subjects (length nodes.now) }
+    requires pairs { length pairs.now.subjects ≡ length nodes.now }
+    requires sources { length sources.now.marks ≡ length nodes.now }
+    requires wave { length wave.old.marks ≡ length nodes.now }
+    requires empty { wave.old.items ≡ [] }
+    ensures told { (o : ℕ) → Among o wave.new.items
+        ↔ IsTold (graph_of nodes.now pairs.now.subjects sources.now.marks) o }
+    ensures room { length wave.new.marks ≡ length wave.old.marks }
+{
+    tell_observers(pairs, sources, wave);
+    pass_on(pairs, nodes, sources, wave);
+}
+
+// The observers of each source are told.
+fn tell_observers(pairs: &Pairs, sources: &NodeSet, wave: &mut NodeSet)
+    requires within { IsWithin pairs.now.subjects (length wave.old.marks) }
+    requires pairs { length pairs.now.subjects ≡ length wave.old.marks }
+    requires sources { length sources.now.marks ≡ length wave.old.marks }
+    requires empty { wave.old.items ≡ [] }
+    ensures first { (o : ℕ) → Among o wave.new.items ↔ IsFirst pairs.now.subjects sources.now.marks o }
+    ensures room { length wave.new.marks ≡ length wave.old.marks }
+{
+    for at in 0..sources.len() {
+        wave.insert_all(pairs.observers(sources.get(at)));
+    }
+}
+
+// The observers of each that is told and passes the notice on are told. Those of a source were told before.
+fn pass_on(pairs: &Pairs, nodes: &[Option<Node>], sources: &NodeSet, wave: &mut NodeSet)
+    requires within { IsWithin pairs.now.subjects (length nodes.now) }
+    requires pairs { length pairs.now.subjects ≡ length nodes.now }
+    requires sources { length sources.now.marks ≡ length nodes.now }
+    requires wave { length wave.old.marks ≡ length nodes.now }
+    requires first { (o : ℕ) → Among o wave.old.items ↔ IsFirst pairs.now.subjects sources.now.marks o }
+    ensures told { (o : ℕ) → Among o wave.new.items
+        ↔ IsTold (graph_of nodes.now pairs.now.subjects sources.now.marks) o }
+    ensures room { length wave.new.marks ≡ length wave.old.marks }
+{
+    let mut at: usize = 0;
+    while at < wave.len() {
+        let told = wave.get(at);
+        if passes(&nodes[told.place()]) && !sources.contains(told) {
+            wave.insert_all(pairs.observers(told));
+        }
+        at += 1;
+    }
+}
+
+// Whether a node that is told passes the notice on.
+fn passes(node: &Option<Node>) -> bool
+    ensures { result ≡ passes_of node.now }
+{
+    match node {
+        None => false,
+        Some(live) => match live.role {
+            Role::Source => false,
+            Role::Forwarder => true,
+            Role::Lazy => !live.flags.frozen && (live.flags.current || live.flags.forward),
+        },
+    }
+}
+
+/// Whether a node is another or observes it on a path of pairs, by an empty set that is filled with what lies
+/// beneath it.
+pub fn is_beneath(pairs: &Pairs, from: ObjId, to: ObjId, wave: &mut NodeSet) -> bool
+    requires within { IsWithin pairs.now.subjects (length wave.old.marks) }
+    requires pairs { length pairs.now.subjects ≡ length wave.old.marks }
+    requires from { from < length wave.old.marks }
+    requires to { to < length wave.old.marks }
+    requires empty { wave.old.items ≡ [] }
+    ensures answer { IsTrue result ↔ Leads pairs.now.subjects from to }
+    ensures room { length wave.new.marks ≡ length wave.old.marks }
+{
+    wave.insert(from);
+    let mut at: usize = 0;
+    while at < wave.len() {
+        wave.insert_all(pairs.subjects(wave.get(at)));
+        at += 1;
+    }
+    wave.contains(to)
+}
+
+/// Those who were told are no longer current.
+pub fn unsettle(nodes: &mut [Option<Node>], wave: &NodeSet)
+    requires { (o : ℕ) → Among o wave.now.items → o < length nodes.old }
+    ensures told { (o : ℕ) → Among o wave.now.items
+        → slice_index_or nodes.new o None ≡ unsettled (slice_index_or nodes.old o None) }
+    ensures others { (o : ℕ) → (Among o wave.now.items → ⊥)
+        → slice_index_or nodes.new o None ≡ slice_index_or nodes.old o None }
+{
+    for at in 0..wave.len() {
+        let told = wave.get(at);
+        unsettle_one(&mut nodes[told.place()]);
+    }
+}
+
+// A node is no longer current.
+fn unsettle_one(node: &mut Option<Node>)
+    ensures { node.new ≡ unsettled node.old }
+{
+    if let Some(live) = node {
+        live.flags.current = false;
+    }
+}

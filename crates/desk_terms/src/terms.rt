@@ -1,12 +1,123 @@
 // The terms of an object: what makes it that object, and what may be changed of it.
+ghost use Rattle.std.specs.Prelude.{◌≡◌};
+ghost use Rattle.desk_terms.specs.Terms.{kind_of};
+
+use crate::{FlowTerms, Kind};
+use day_number::Day;
 use desk_names::ObjId;
 use fixed_amount::Rate;
+use item_lists::Items;
+
+/// A member of a composite, with its weight.
+#[derive(Clone, Copy, Debug, PartialEq, Eq)]
+pub struct Part {
+    pub weight: i64,
+    pub member: ObjId,
+}
+
+/// The parts of a composite, in order.
+pub type PartList = Items<Part>;
+
+/// A helper of a curve (QuantLib's `RateHelper`), by the quote that it reads.
+#[derive(Clone, Copy, Debug, PartialEq, Eq)]
+pub struct Helper {
+    pub quote: ObjId,
+}
+
+/// The helpers of a curve, in order.
+pub type HelperList = Items<Helper>;
+
+/// The terms of a curve over its helpers (QuantLib's `PiecewiseYieldCurve`).
+#[derive(Drop)]
+pub struct CurveTerms {
+    pub helpers: HelperList,
+}
+
+/// The terms of an index (QuantLib's `IborIndex`), by the curve that it forecasts from.
+#[derive(Clone, Copy, Debug, PartialEq, Eq)]
+pub struct IndexTerms {
+    pub curve: ObjId,
+}
+
+/// The rate of an index that is stored for one day.
+#[derive(Clone, Copy, Debug, PartialEq, Eq)]
+pub struct Fixing {
+    pub day: Day,
+    pub rate: Rate,
+}
+
+/// The stored rates of an index (QuantLib's `TimeSeries`): of those of one day the first counts.
+pub type Fixings = Items<Fixing>;
+
+/// What a handle stands for.
+#[derive(Clone, Copy, Debug, PartialEq, Eq)]
+pub enum HandleKind {
+    Quote,
+    Curve,
+}
 
 /// The terms of an object of a session.
-#[derive(Clone, Copy, Debug, PartialEq, Eq)]
+#[derive(Drop)]
 pub enum Terms {
     /// A quote with its value, or with none (QuantLib's `SimpleQuote`).
     Quote(Option<Rate>),
+    /// The sum or, with `minus`, the difference of two quotes (QuantLib's `CompositeQuote`).
+    Derived {
+        minus: bool,
+        first: ObjId,
+        second: ObjId,
+    },
+    /// A handle with its target (QuantLib's `RelinkableHandle`).
+    Handle {
+        target_kind: HandleKind,
+        target: Option<ObjId>,
+    },
+    /// A curve over the quotes of its helpers (QuantLib's `PiecewiseYieldCurve`).
+    Curve(CurveTerms),
+    /// A curve seen from a later day (QuantLib's `ImpliedTermStructure`).
+    Implied {
+        curve: ObjId,
+        reference: Day,
+    },
+    /// An index with its stored rates (QuantLib's `IborIndex`).
+    Index(IndexTerms, Fixings),
+    /// A pricing engine over a discount curve (QuantLib's `DiscountingSwapEngine`).
+    Engine {
+        curve: ObjId,
+    },
     /// A stock, whose price is that of a quote (QuantLib's `Stock`).
-    Stock { quote: ObjId },
+    Stock {
+        quote: ObjId,
+    },
+    /// A weighted sum of instruments (QuantLib's `CompositeInstrument`).
+    Composite(PartList),
+    /// A bond, swap or forward rate agreement: its flows, and its engine if it has one (QuantLib's `Instrument`).
+    Flows(FlowTerms, Option<ObjId>),
+}
+
+impl Terms {
+    /// What an object with these terms is.
+    pub fn kind(&self) -> Kind
+        ensures { result ≡ kind_of self.now }
+    {
+        match self {
+            Terms::Quote(_) => Kind::Quote,
+            Terms::Derived { .. } => Kind::Derived,
+            Terms::Handle {
+                target_kind: HandleKind::Quote,
+                ..
+            } => Kind::QuoteHandle,
+            Terms::Handle {
+                target_kind: HandleKind::Curve,
+                ..
+            } => Kind::CurveHandle,
+            Terms::Curve(_) => Kind::Curve,
+            Terms::Implied { .. } => Kind::Implied,
+            Terms::Index(..) => Kind::Index,
+            Terms::Engine { .. } => Kind::Engine,
+            Terms::Stock { .. } => Kind::Stock,
+            Terms::Composite(_) => Kind::Composite,
+            Terms::Flows(..) => Kind::Flows,
+        }
+    }
 }

@@ -1,26 +1,61 @@
--- Lines written out by hand. The names are numbered in the order of their list; of the objects, 0 is the quote `q`, 1 the
--- stock `s`, 2 the stock `t` and 3 the index `x`.
-use Rattle.std.specs.Prelude.{◌≡◌, ℕ, List, [], ◌∷◌, pos, codes, Ok, Err}
+-- Lines written out by hand: each cause, each mark and each refusal once. The names are numbered in the order of their
+-- list; the objects are, in order of their numbers, `o`, `c`, `x`, `i`, `h`, `q` and `t`.
+use Rattle.std.specs.Prelude.{◌≡◌, ℕ, List, [], ◌∷◌, map, pos, negsuc, codes, Ok, Err}
 use Rattle.desk_terms.specs.declared.value.Value.TheVariants.{Money}
-use Rattle.desk_terms.specs.declared.cause.Cause.TheVariants.{NoFixing, Pillar, Unpriced}
-use Rattle.desk_terms.specs.declared.asked.Mark.TheVariants.{Fresh, Late}
-use Rattle.session_lang.specs.declared.refusal.Refusal.TheVariants.{Unknown, FixingExists, Deferred, Unbuilt}
+use Rattle.desk_terms.specs.declared.cause.Cause.{Cause}
+use Rattle.desk_terms.specs.declared.cause.Cause.TheVariants.{Unset, Empty, NoEngine, NoFixing, Before, Past, Pillar, Discount, Negative, RateRange, DateRange, TooLarge, Unpriced}
+use Rattle.desk_terms.specs.declared.asked.Mark.TheVariants.{Fresh, Frozen, Late, Held, Recalc}
+use Rattle.session_commands.specs.declared.refusal.Refusal.{Refusal}
+use Rattle.session_commands.specs.declared.refusal.Refusal.TheVariants.{Unknown, Taken, Kind, Cycle, InUse, FixingExists, TooMany, AlreadyRegistered, NotRegistered, Deferred, Unbuilt}
 use Rattle.price_report.specs.Line.{asked_line, refusal_line, over_line}
 
-abbrev pub six_names : List (List ℕ)
-six_names = codes "v" ∷ codes "x" ∷ codes "q" ∷ codes "s" ∷ codes "t" ∷ codes "z" ∷ []
+abbrev pub ten_names : List (List ℕ)
+ten_names =
+    codes "q" ∷ codes "h" ∷ codes "i" ∷ codes "x" ∷ codes "c" ∷ codes "o" ∷ codes "z" ∷ codes "s" ∷ codes "t" ∷ codes "v" ∷ []
 
-abbrev pub four_objects : List ℕ
-four_objects = 2 ∷ 3 ∷ 4 ∷ 1 ∷ []
+abbrev pub seven_objects : List ℕ
+seven_objects = 5 ∷ 4 ∷ 3 ∷ 2 ∷ 1 ∷ 0 ∷ 8 ∷ []
+
+-- causes of objects and of what they hold
+abbrev pub plain_causes : List Cause
+plain_causes =
+    Unset 5 ∷ Empty 4 ∷ NoEngine 3 ∷ RateRange 0 ∷ DateRange 0 ∷ TooLarge 0 ∷ Unpriced 0 ∷ Pillar 1 2 ∷ Discount 1 3
+    ∷ Negative 1 1 ∷ []
+
+-- causes with the days 2024-02-21, 2024-01-01 and 2024-04-12
+abbrev pub dated_causes : List Cause
+dated_causes = NoFixing 2 (pos 19_774) ∷ Before 1 (pos 19_723) ∷ Past 1 (pos 19_825) ∷ []
+
+abbrev pub refusals : List Refusal
+refusals =
+    Unknown 6 ∷ Taken 0 ∷ Kind 7 ∷ Cycle ∷ InUse 4 ∷ FixingExists (pos 50_000_000) ∷ TooMany ∷ AlreadyRegistered
+    ∷ NotRegistered ∷ Deferred 5 ∷ Unbuilt ∷ []
+
+-- the line of a refused ask of `s`
+abbrev pub cause_line : Cause → List ℕ
+cause_line cause = asked_line ten_names seven_objects 7 (Err cause) Fresh 0
 
 -- what the definitions give there
 pub record AreWorked : Type 0 where
-  pub value : asked_line six_names four_objects 3 (Ok (Money (pos 1_500_000))) Fresh 1 ≡ codes "s 1.500000 fresh 1\n"
-  pub unpriced : asked_line six_names four_objects 4 (Err (Unpriced 2)) Late 0 ≡ codes "t refused unpriced t 0\n"
-  pub day : asked_line six_names four_objects 3 (Err (NoFixing 3 (pos 19_774))) Fresh 12 ≡ codes "s refused nofixing x 2024-02-21 12\n"
-  pub helper : asked_line six_names four_objects 3 (Err (Pillar 1 2)) Fresh 0 ≡ codes "s refused pillar s 2 0\n"
-  pub deferred : refusal_line six_names four_objects (codes "recalc") (Deferred 0) ≡ codes "refused recalc deferred q\n"
-  pub exists : refusal_line six_names four_objects (codes "fixing") (FixingExists (pos 50_000_000)) ≡ codes "refused fixing exists 0.050000000\n"
-  pub unknown : refusal_line six_names four_objects (codes "set") (Unknown 5) ≡ codes "refused set unknown z\n"
-  pub unbuilt : refusal_line six_names four_objects (codes "df") Unbuilt ≡ codes "refused df unbuilt\n"
-  pub over : over_line six_names 0 ≡ codes "over v\n"
+  pub plain : map cause_line plain_causes ≡
+      codes "s refused unset q 0\n" ∷ codes "s refused empty h 0\n" ∷ codes "s refused noengine i 0\n"
+      ∷ codes "s refused raterange o 0\n" ∷ codes "s refused daterange o 0\n" ∷ codes "s refused toolarge o 0\n"
+      ∷ codes "s refused unpriced o 0\n" ∷ codes "s refused pillar c 2 0\n" ∷ codes "s refused discount c 3 0\n"
+      ∷ codes "s refused negative c 1 0\n" ∷ []
+  pub dated : map cause_line dated_causes ≡
+      codes "s refused nofixing x 2024-02-21 0\n" ∷ codes "s refused before c 2024-01-01 0\n"
+      ∷ codes "s refused past c 2024-04-12 0\n" ∷ []
+  pub fresh : asked_line ten_names seven_objects 7 (Ok (Money (pos 1_500_000))) Fresh 1 ≡ codes "s 1.500000 fresh 1\n"
+  pub frozen : asked_line ten_names seven_objects 7 (Ok (Money (negsuc 0))) Frozen 0 ≡ codes "s -0.000001 frozen 0\n"
+  pub late : asked_line ten_names seven_objects 7 (Ok (Money (pos 0))) Late 0 ≡ codes "s 0.000000 late 0\n"
+  pub held : asked_line ten_names seven_objects 7 (Ok (Money (negsuc 12_345_677))) Held 18_446_744_073_709_551_615
+      ≡ codes "s -12.345678 held 18446744073709551615\n"
+  pub recalc : asked_line ten_names seven_objects 7 (Ok (Money (pos 100_000_000_000_000_000_000_000_000))) Recalc 12
+      ≡ codes "s 100000000000000000000.000000 recalc 12\n"
+  pub refused : map (refusal_line ten_names seven_objects (codes "set")) refusals ≡
+      codes "refused set unknown z\n" ∷ codes "refused set taken q\n" ∷ codes "refused set kind s\n"
+      ∷ codes "refused set cycle\n" ∷ codes "refused set inuse h\n" ∷ codes "refused set exists 0.050000000\n"
+      ∷ codes "refused set toomany\n" ∷ codes "refused set registered\n" ∷ codes "refused set notregistered\n"
+      ∷ codes "refused set deferred q\n" ∷ codes "refused set unbuilt\n" ∷ []
+  pub over : over_line ten_names 9 ≡ codes "over v\n"
+  pub nobody : over_line ten_names 10 ≡ codes "over \n"

@@ -10,9 +10,9 @@ use Rattle.desk_terms.specs.Cause.{object_of, cause_word}
 use Rattle.desk_terms.specs.Reading.{Outcome}
 use Rattle.day_number.specs.Day.{day_text}
 use Rattle.fixed_amount.specs.Decimal.{decimal_text}
-use Rattle.session_lang.specs.declared.refusal.Refusal.{Refusal}
-use Rattle.session_lang.specs.declared.refusal.Refusal.TheVariants.{Unknown, Taken, Kind, Cycle, InUse, FixingExists, TooMany, AlreadyRegistered, NotRegistered, Deferred, Unbuilt}
-use Rattle.session_lang.specs.Refusal.{refusal_word}
+use Rattle.session_commands.specs.declared.refusal.Refusal.{Refusal}
+use Rattle.session_commands.specs.declared.refusal.Refusal.TheVariants.{Unknown, Taken, Kind, Cycle, InUse, FixingExists, TooMany, AlreadyRegistered, NotRegistered, Deferred, Unbuilt}
+use Rattle.session_commands.specs.Refusal.{refusal_word}
 use Rattle.price_report.specs.Namer.{name_text, object_text}
 
 -- what a cause says behind the name of its object: a day, or the number of a helper or node

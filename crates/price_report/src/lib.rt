@@ -9,8 +9,6 @@ mod laws;
 mod namer;
 mod over;
 mod refused;
-#[cfg(test)]
-mod tests;
 
 pub use asked::asked_line;
 pub use namer::Namer;

@@ -5,7 +5,7 @@ ghost use Rattle.price_report.specs.Line.{refusal_detail, refusal_line};
 
 use crate::Namer;
 use fixed_amount::{Rate, print_decimal};
-use session_lang::Refusal;
+use session_commands::Refusal;
 use std::alloc::{AllocError, Global};
 
 // How many places a rate is printed with.

@@ -8,13 +8,14 @@ use Rattle.price_report.proofs.laws.lines_are_worked_through.Goals as goal
 pub returns : goal.returns
 unfolding asked_line refusal_line over_line decimal_text digits date_of date_after date_in_year
 returns c = record {
-  value = refl;
-  unpriced = refl;
-  day = refl;
-  helper = refl;
-  deferred = refl;
-  exists = refl;
-  unknown = refl;
-  unbuilt = refl;
+  plain = refl;
+  dated = refl;
+  fresh = refl;
+  frozen = refl;
+  late = refl;
+  held = refl;
+  recalc = refl;
+  refused = refl;
   over = refl;
+  nobody = refl;
 }

@@ -1,0 +1,112 @@
+// The two benches. What they price is said in `pricing.rt` alone.
+ghost use Rattle.std.specs.Prelude.{◌≡◌, []};
+ghost use Rattle.desk_terms.specs.Bench.{counted};
+
+use crate::pricing::price_of;
+use desk_names::ObjId;
+use desk_terms::{Bench, BenchFault, Job, Value};
+use item_lists::Items;
+use std::alloc::{AllocError, Global};
+
+/// Prices by the rules of this project, and counts its calls.
+#[derive(Debug, Drop)]
+pub struct DeskBench {
+    calls: u64,
+}
+
+impl DeskBench {
+    /// A bench that was never called.
+    pub fn new() -> DeskBench
+        ensures { result.calls ≡ 0 }
+    {
+        DeskBench { calls: 0 }
+    }
+}
+
+impl Bench for DeskBench {
+    ghost use Rattle.std.specs.Prelude.{None};
+    ghost use Rattle.desk_bench.specs.Pricing.{desk_calc};
+    ghost use Rattle.desk_bench.specs.Fits.{desk_fits};
+
+    ghost calc = { λ _. desk_calc };
+
+    ghost count = { λ bench. bench.calls };
+
+    ghost log = { λ _. None };
+
+    ghost fits = { λ _ reading formed. desk_fits reading formed };
+
+    fn price(&mut self, _alloc: Global, job: &Job<'_>) -> Result<Value, BenchFault> {
+        self.calls = next_count(self.calls);
+        price_of(job).map_err(BenchFault::Refused)
+    }
+}
+
+/// One call of a bench: for which object, and whether it got a value.
+#[derive(Clone, Copy, Debug, PartialEq, Eq)]
+pub struct LogEntry {
+    pub object: ObjId,
+    pub priced: bool,
+}
+
+/// The calls of a bench, in order.
+pub type LogList = Items<LogEntry>;
+
+/// Prices as `DeskBench` does, and keeps a log of its calls.
+#[derive(Drop)]
+pub struct ListBench {
+    calls: u64,
+    log: LogList,
+}
+
+impl ListBench {
+    /// A bench that was never called. Its log grows in this memory.
+    pub fn new(alloc: Global) -> ListBench
+        ensures calls { result.calls ≡ 0 }
+        ensures log { result.log ≡ [] }
+    {
+        ListBench {
+            calls: 0,
+            log: LogList::new(alloc),
+        }
+    }
+
+    /// The calls so far. A call for which memory ran out is not among them.
+    pub fn log(&self) -> &LogList
+        ensures { result.now ≡ self.now.log }
+    {
+        &self.log
+    }
+}
+
+impl Bench for ListBench {
+    ghost use Rattle.std.specs.Prelude.{Some};
+    ghost use Rattle.desk_bench.specs.Pricing.{desk_calc};
+    ghost use Rattle.desk_bench.specs.Log.{pairs_of};
+    ghost use Rattle.desk_bench.specs.Fits.{desk_fits};
+
+    ghost calc = { λ _. desk_calc };
+
+    ghost count = { λ bench. bench.calls };
+
+    ghost log = { λ bench. Some (pairs_of bench.log) };
+
+    ghost fits = { λ _ reading formed. desk_fits reading formed };
+
+    fn price(&mut self, _alloc: Global, job: &Job<'_>) -> Result<Value, BenchFault> {
+        self.calls = next_count(self.calls);
+        let outcome = price_of(job);
+        self.log.push(LogEntry {
+            object: job.object,
+            priced: outcome.is_ok(),
+        })?;
+        outcome.map_err(BenchFault::Refused)
+    }
+}
+
+// A count after one call more: it stands still at the last value of a u64.
+fn next_count(calls: u64) -> u64
+    ensures { result ≡ counted calls 1 }
+{
+    calls.saturating_add(1)
+}

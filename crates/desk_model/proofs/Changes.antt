@@ -1,189 +1,259 @@
--- What keeps a state sound: an ask, a new object, the move of a quote.
-use Rattle.std.proofs.Common.{◌≡◌, ◌≢◌, inl, inr, ℕ, ◌<◌, ◌≤◌, Bool, true, false, List, [], ◌∷◌, ◌++◌, length, Option, Some, None, Result, Ok, Err, refl, sym, ◌∙◌, ap, subst, arith}
-use Rattle.std.proofs.lemmas.List.{get_or-set_same, get_or-set_other, get_or_append_left, get_or_past, get_or_push, length-append, length-set}
-use Rattle.std.proofs.lemmas.Bool.{cases_eq, cases_lt}
+-- A change of an object's own terms, or of the day, keeps the shape of a state, and all that is current.
+use Rattle.std.proofs.Common.{◌≡◌, ◌≢◌, ◌⊎◌, inl, inr, ℕ, suc, ◌<◌, Bool, true, false, length, Some, ℤ, refl, sym, ◌∙◌, ap, subst, arith}
+use Rattle.std.specs.Prelude.{◌==◌, slice_set, if◌then◌else◌}
+use Rattle.std.specs.Ordering.{int_eq}
+use Rattle.std.proofs.lemmas.List.{get_or-set_same, get_or-set_other, get_or_past, length-set}
+use Rattle.std.proofs.lemmas.Bool.{cases_eq, cases_lt, false≢true, false_from_ne_true}
+use Rattle.walks.specs.Walk.{below_by, Among}
+use Rattle.walks.proofs.Lifted.{acyclic_fewer, acyclic_joined}
 use Rattle.desk_terms.specs.declared.terms.Terms.{Terms}
-use Rattle.desk_terms.specs.declared.terms.Terms.TheVariants.{Quote, Stock}
-use Rattle.desk_terms.specs.declared.value.Value.{Value}
-use Rattle.desk_terms.specs.declared.value.Input as input
-use Rattle.desk_terms.specs.declared.cause.Cause.{Cause}
-use Rattle.desk_terms.specs.Reading.{Outcome, Calc}
+use Rattle.desk_terms.specs.declared.terms.Terms.TheVariants.{Quote, Derived, Handle, Curve, Implied, Index, Engine, Stock, Composite, Flows}
+use Rattle.desk_terms.specs.declared.terms.HandleKind as handle
+use Rattle.desk_terms.specs.declared.kind.Kind as kind
+use Rattle.desk_terms.specs.Kind.{role}
+use Rattle.desk_terms.specs.Terms.{kind_of}
 use Rattle.desk_model.specs.declared.kept.Kept.{Kept}
-use Rattle.desk_model.specs.Market.{Market, terms_at, Entry, quote_entry, uses, uses_of}
-use Rattle.desk_model.specs.Market.Entry.{Gives, Needs, Refuses}
-use Rattle.desk_model.specs.Fresh.{and_inputs, inputs_by, priced_over, priced_by}
-use Rattle.desk_model.specs.State.{State, kept_at, unpriced, seen, valued}
-use Rattle.desk_model.specs.Sound.{last_answer, AreCurrent, IsPriced, IsSound}
-use Rattle.desk_model.specs.Links.{is_quote, is_stock, HasLinks, FitsIn}
-use Rattle.desk_model.specs.Effect.{added}
-use Rattle.desk_model.proofs.Flat.{IsFlat, flat_uses, flat_priced, seen_priced}
-use Rattle.desk_model.proofs.Asks.{unasked, inputs_at}
+use Rattle.desk_model.specs.declared.slot.Slot.{Slot}
+use Rattle.desk_model.specs.declared.slot.Slot.TheVariants.{Free, Today, Watcher, Live}
+use Rattle.desk_model.specs.Market.{Market, slot_at, terms_in, kind_in, kind_at, is_observable, is_watcher, role_of, is_lazy, edges_of, edges}
+use Rattle.desk_model.specs.State.{State, kept_at, unpriced, is_frozen, is_source}
+use Rattle.desk_model.specs.Links.{is_lazy_at, IsLinked, IsWhole, reaches, MayStand}
+use Rattle.desk_model.specs.Links.MayStand.{keeps, joins}
+use Rattle.desk_model.specs.Effect.{notified, with_terms, revised, with_today, today_set}
+use Rattle.desk_model.specs.Laws.{Keeps}
+use Rattle.desk_model.proofs.Bounds.{ranks_of}
+use Rattle.desk_model.proofs.Carried.{keeps_itself}
+use Rattle.desk_model.proofs.Stores.{kept_with}
+use Rattle.desk_model.proofs.Watchers.{whole_registers}
+use Rattle.desk_model.proofs.Tells.{DiffersAt, keeps_notified, whole_notified}
 
--- entries that need no object need none that is current
-flat_current : (s t : State) (entries : List Entry) → IsFlat entries → AreCurrent s entries → AreCurrent t entries
-flat_current s t [] flat current = tt
-flat_current s t (Gives i ∷ entries) flat current = flat_current s t entries flat current
-flat_current s t (Needs x ∷ entries) flat current = absurd flat
-flat_current s t (Refuses cause ∷ entries) flat current = absurd current
+reaches_not : (m : Market) (target x : ℕ) → reaches m target x ≡ false
+    → below_by (edges m) (λ y. y == x) (λ y. true) (suc (length m.objects)) target ≡ false
+unfolding reaches
+reaches_not m target x e = e
 
-and_inputs_ok : (i : input.Input) (rest : Result (List input.Input) Cause) (inputs : List input.Input) → and_inputs i rest ≡ Ok inputs → (tail : List input.Input) × (rest ≡ Ok tail)
-and_inputs_ok i (Ok tail) inputs e = (tail, refl)
-and_inputs_ok i (Err cause) inputs e = absurd (cc)
-
-inputs_current : (s : State) (entries : List Entry) (inputs : List input.Input) → IsFlat entries → inputs_by unasked entries ≡ Ok inputs → AreCurrent s entries
-inputs_current s [] inputs flat e = tt
-inputs_current s (Gives i ∷ entries) inputs flat e = let tail = and_inputs_ok i (inputs_by unasked entries) inputs e in inputs_current s entries tail.0 flat tail.1
-inputs_current s (Needs x ∷ entries) inputs flat e = absurd flat
-inputs_current s (Refuses cause ∷ entries) inputs flat e = absurd (cc)
-
--- a state that prices an object and stores of it the same as another does
-carried : (calc : Calc) (s t : State) (o : ℕ) → kept_at t o ≡ kept_at s o → ((f : ℕ → Outcome) → priced_by calc t.market f o ≡ priced_by calc s.market f o) → AreCurrent t (uses t.market o) → IsPriced calc s o → IsPriced calc t o
-carried calc s t o same price needs p = record {
-  value = p.value;
-  last = ap (λ (k : Kept). k.last) same ∙ p.last;
-  price = price (last_answer t) ∙ flat_priced calc s.market (last_answer t) (last_answer s) o ∙ p.price;
-  needs = needs;
-}
-
-pub sound_valued : (calc : Calc) (state : State) (o : ℕ) (inputs : List input.Input) (value : Value)
-    → o < length state.kept → inputs_at state o ≡ Ok inputs → seen calc state o ≡ Ok value → IsSound calc state → IsSound calc (valued o value state)
-sound_valued calc state o inputs value within are is sound x current = elim (cases_eq x o) [
-  | inl same ↦ subst (IsPriced calc (valued o value state)) (sym same) here
-  | inr other ↦ there other
+-- what is observable is among the objects
+pub observed_within : (m : Market) (x : ℕ) → is_observable (slot_at m x) ≡ true → x < length m.objects
+observed_within m x is = elim (cases_lt x (length m.objects)) [
+  | inl within ↦ within
+  | inr past ↦ absurd (false≢true (sym (ap is_observable (get_or_past m.objects x Free past)) ∙ is))
 ]
-  where
-    stored_here : kept_at (valued o value state) o ≡ record { current = true; last = Some value }
-    stored_here = get_or-set_same state.kept o (record { current = true; last = Some value }) unpriced within
 
-    here : IsPriced calc (valued o value state) o
-    here = record {
-      value = value;
-      last = ap (λ (k : Kept). k.last) stored_here;
-      price = sym (seen_priced calc state (last_answer (valued o value state)) o) ∙ is;
-      needs = inputs_current (valued o value state) (uses state.market o) inputs (flat_uses state.market o) are;
+pub lazy_within : (m : Market) (x : ℕ) → is_lazy_at m x ≡ true → x < length m.objects
+lazy_within m x is = elim (cases_lt x (length m.objects)) [
+  | inl within ↦ within
+  | inr past ↦ absurd (false≢true (sym (ap (λ (t : Slot). is_lazy (role_of (terms_in t))) (get_or_past m.objects x Free past)) ∙ is))
+]
+
+-- an object with the kind of terms has terms of that kind
+not_today : (terms : Terms) → kind_of terms ≡ kind.TheVariants.Today → ⊥
+not_today (Quote value) e = cc
+not_today (Derived minus first second) e = cc
+not_today (Handle handle.TheVariants.Quote target) e = cc
+not_today (Handle handle.TheVariants.Curve target) e = cc
+not_today (Curve terms) e = cc
+not_today (Implied curve reference) e = cc
+not_today (Index terms fixings) e = cc
+not_today (Engine curve) e = cc
+not_today (Stock quote) e = cc
+not_today (Composite parts) e = cc
+not_today (Flows flows engine) e = cc
+
+not_watcher : (terms : Terms) → kind_of terms ≡ kind.TheVariants.Watcher → ⊥
+not_watcher (Quote value) e = cc
+not_watcher (Derived minus first second) e = cc
+not_watcher (Handle handle.TheVariants.Quote target) e = cc
+not_watcher (Handle handle.TheVariants.Curve target) e = cc
+not_watcher (Curve terms) e = cc
+not_watcher (Implied curve reference) e = cc
+not_watcher (Index terms fixings) e = cc
+not_watcher (Engine curve) e = cc
+not_watcher (Stock quote) e = cc
+not_watcher (Composite parts) e = cc
+not_watcher (Flows flows engine) e = cc
+
+some_kind : (a b : kind.Kind) → Some a ≡ Some b → b ≡ a
+some_kind a b e = cc
+
+pub live_in : (slot : Slot) (terms : Terms) → kind_in slot ≡ Some (kind_of terms)
+    → (old : Terms) × (slot ≡ Live old) × (kind_of terms ≡ kind_of old)
+live_in Free terms is = absurd (cc)
+live_in Today terms is = absurd (not_today terms (some_kind kind.TheVariants.Today (kind_of terms) is))
+live_in (Watcher action) terms is = absurd (not_watcher terms (some_kind kind.TheVariants.Watcher (kind_of terms) is))
+live_in (Live old) terms is = (old, refl, some_kind (kind_of old) (kind_of terms) is)
+
+today_live : (terms : Terms) → Today ≡ Live terms → ⊥
+today_live terms e = cc
+
+-- Other terms of x, of the same kind.
+module _ (s : State) (x : ℕ) (terms : Terms) where
+  pub slot_there : (o : ℕ) → o ≢ x → slot_at (with_terms x terms s).market o ≡ slot_at s.market o
+  slot_there o other = get_or-set_other s.market.objects x o (Live terms) Free other
+
+  pub slot_here : x < length s.market.objects → slot_at (with_terms x terms s).market x ≡ Live terms
+  slot_here within = get_or-set_same s.market.objects x (Live terms) Free within
+
+  stale_here : (kept_at (with_terms x terms s) x).current ≡ false
+  stale_here = elim (cases_lt x (length s.kept)) [
+    | inl within ↦ ap (λ (k : Kept). k.current) (get_or-set_same s.kept x (record (kept_at s x) { current = false }) unpriced within)
+    | inr past ↦ ap (λ (k : Kept). k.current) (get_or_past (slice_set s.kept x (record (kept_at s x) { current = false })) x unpriced (let e = length-set s.kept x (record (kept_at s x) { current = false }) in omega arith))
+  ]
+
+  differs : DiffersAt x s (with_terms x terms s)
+  unfolding is_source is_frozen
+  differs = record {
+    length = let e = length-set s.market.objects x (Live terms) in omega arith;
+    same = λ o other. record { terms = ap terms_in (slot_there o other); day = λ is. refl };
+    kept = λ o other. get_or-set_other s.kept x o (record (kept_at s x) { current = false }) unpriced other;
+    source = kept_with s x (record (kept_at s x) { current = false }) (λ a b. a.source ≡ b.source) (λ j. refl) refl;
+    deferring = refl;
+    frozen = λ o other. ap (λ (k : Kept). k.frozen) (get_or-set_other s.kept x o (record (kept_at s x) { current = false }) unpriced other);
+  }
+
+  kept_long : length (with_terms x terms s).kept ≡ length s.kept
+  kept_long = length-set s.kept x (record (kept_at s x) { current = false })
+
+  module _ (whole : IsWhole s) (same_kind : kind_at s.market x ≡ Some (kind_of terms)) where
+    was : (old : Terms) × (slot_at s.market x ≡ Live old) × (kind_of terms ≡ kind_of old)
+    was = live_in (slot_at s.market x) terms same_kind
+
+    observed_here : is_observable (slot_at s.market x) ≡ true
+    observed_here = ap is_observable (live_in (slot_at s.market x) terms same_kind).1
+
+    pub within_here : x < length s.market.objects
+    within_here = observed_within s.market x (ap is_observable (live_in (slot_at s.market x) terms same_kind).1)
+
+    -- what is observable is so still, a watcher is one still, and what is lazy
+    observed_then : (y : ℕ) → is_observable (slot_at s.market y) ≡ true
+        → is_observable (slot_at (with_terms x terms s).market y) ≡ true
+    observed_then y is = elim (cases_eq y x) [
+      | inl same ↦ ap (λ (z : ℕ). is_observable (slot_at (with_terms x terms s).market z)) same ∙ ap is_observable (slot_here within_here)
+      | inr other ↦ ap is_observable (slot_there y other) ∙ is
+    ]
+
+    watcher_then : (w : ℕ) → is_watcher (slot_at s.market w) ≡ true
+        → is_watcher (slot_at (with_terms x terms s).market w) ≡ true
+    watcher_then w is = elim (cases_eq w x) [
+      | inl same ↦ absurd (false≢true (sym (ap is_watcher (live_in (slot_at s.market x) terms same_kind).1) ∙ (ap (λ (z : ℕ). is_watcher (slot_at s.market z)) (sym same) ∙ is)))
+      | inr other ↦ ap is_watcher (slot_there w other) ∙ is
+    ]
+
+    lazy_then : (o : ℕ) → is_lazy_at s.market o ≡ true → is_lazy_at (with_terms x terms s).market o ≡ true
+    lazy_then o is = elim (cases_eq o x) [
+      | inl same ↦
+          let l = live_in (slot_at s.market x) terms same_kind in
+          ap (λ (z : ℕ). is_lazy_at (with_terms x terms s).market z) same
+          ∙ ap (λ (t : Slot). is_lazy (role_of (terms_in t))) (slot_here within_here)
+          ∙ ap (λ (k : kind.Kind). is_lazy (role k)) l.2
+          ∙ ap (λ (t : Slot). is_lazy (role_of (terms_in t))) (sym l.1)
+          ∙ ap (λ (z : ℕ). is_lazy_at s.market z) (sym same)
+          ∙ is
+      | inr other ↦ ap (λ (t : Slot). is_lazy (role_of (terms_in t))) (slot_there o other) ∙ is
+    ]
+
+    -- the edges that there are then
+    edges_then : (o y : ℕ) → Among y (edges (with_terms x terms s).market o)
+        → ((o ≡ x) × Among y (edges_of (Some terms))) ⊎ ((o ≢ x) × Among y (edges s.market o))
+    edges_then o y among = elim (cases_eq o x) [
+      | inl same ↦ inl (same, subst (λ (t : Slot). Among y (edges_of (terms_in t))) (slot_here within_here) (subst (λ (z : ℕ). Among y (edges (with_terms x terms s).market z)) same among))
+      | inr other ↦ inr (other, subst (λ (t : Slot). Among y (edges_of (terms_in t))) (slot_there o other) among)
+    ]
+
+    pub links_revised : MayStand s.market x terms → IsLinked (with_terms x terms s).market
+    links_revised (keeps old) = record {
+      within = λ o y among. let e = length-set s.market.objects x (Live terms) in let low = whole.links.within o y (fewer o y among) in omega arith;
+      observed = λ o y among. observed_then y (whole.links.observed o y (fewer o y among));
+      acyclic = acyclic_fewer (edges s.market) (edges (with_terms x terms s).market) fewer whole.links.acyclic;
+    }
+      where
+        fewer : (o y : ℕ) → Among y (edges (with_terms x terms s).market o) → Among y (edges s.market o)
+        fewer o y among = elim (edges_then o y among) [
+          | inr was ↦ was.1
+          | inl is ↦ subst (λ (z : ℕ). Among y (edges s.market z)) (sym is.0) (old y is.1)
+        ]
+    links_revised (joins target live other apart new) = record {
+      within = λ o y among. let e = length-set s.market.objects x (Live terms) in elim (joined o y among) [
+        | inl was ↦ let low = whole.links.within o y was in omega arith
+        | inr is ↦ let low = observed_within s.market target live in let same = is.1 in omega arith
+      ];
+      observed = λ o y among. elim (joined o y among) [
+        | inl was ↦ observed_then y (whole.links.observed o y was)
+        | inr is ↦ observed_then y (subst (λ (z : ℕ). is_observable (slot_at s.market z) ≡ true) (sym is.1) live)
+      ];
+      acyclic = let r = ranks_of s.market whole.links in acyclic_joined (edges s.market) (edges (with_terms x terms s).market) r.0 (suc (length s.market.objects)) x target r.1 r.2 joined other (reaches_not s.market target x apart);
+    }
+      where
+        joined : (o y : ℕ) → Among y (edges (with_terms x terms s).market o)
+            → Among y (edges s.market o) ⊎ ((o ≡ x) × (y ≡ target))
+        joined o y among = elim (edges_then o y among) [
+          | inr was ↦ inl was.1
+          | inl is ↦ elim (new y is.1) [
+            | inl was ↦ inl (subst (λ (z : ℕ). Among y (edges s.market z)) (sym is.0) was)
+            | inr same ↦ inr (is.0, same)
+          ]
+        ]
+
+    not_zero : 0 ≢ x
+    not_zero same = today_live (live_in (slot_at s.market x) terms same_kind).0 (sym whole.today ∙ ap (slot_at s.market) same ∙ (live_in (slot_at s.market x) terms same_kind).1)
+
+    pub whole_with_terms : IsLinked (with_terms x terms s).market → IsWhole (with_terms x terms s)
+    whole_with_terms links = record {
+      length = kept_long ∙ (whole.length ∙ sym (length-set s.market.objects x (Live terms)));
+      today = slot_there 0 not_zero ∙ whole.today;
+      links = links;
+      lazy = λ o current. lazy_then o (whole.lazy o (kept_with s x (record (kept_at s x) { current = false }) (λ a b. a.current ≡ true → b.current ≡ true) (λ j e. e) (λ e. absurd (cc)) o current));
+      frozen = λ o is. lazy_then o (whole.frozen o (kept_with s x (record (kept_at s x) { current = false }) (λ a b. a.frozen ≡ true → b.frozen ≡ true) (λ j e. e) (λ e. e) o is));
+      forward = λ o is. lazy_then o (whole.forward o (kept_with s x (record (kept_at s x) { current = false }) (λ a b. a.forward ≡ true → b.forward ≡ true) (λ j e. e) (λ e. e) o is));
+      registered = λ w o among. let r = whole.registered w o among in record { watcher = watcher_then w r.watcher; observed = observed_then o r.observed };
+      noticed = λ w among. watcher_then w (whole.noticed w among);
     }
 
-    there : x ≢ o → IsPriced calc (valued o value state) x
-    there other =
-        let same : kept_at (valued o value state) x ≡ kept_at state x = get_or-set_other state.kept o x (record { current = true; last = Some value }) unpriced other in
-        let p = sound x (sym (ap (λ (k : Kept). k.current) same) ∙ current) in
-        carried calc state (valued o value state) x same (λ f. refl) (flat_current state (valued o value state) (uses state.market x) (flat_uses state.market x) p.needs) p
+    -- A CHANGE OF TERMS keeps the shape, and all that is current
+    pub revised_keeps : MayStand s.market x terms → Keeps s (revised x terms s)
+    unfolding revised notified
+    revised_keeps may = record {
+      whole = whole_notified x (with_terms x terms s) (whole_with_terms (links_revised may)) s.deferring;
+      current = keeps_notified x s (with_terms x terms s) whole (links_revised may) (whole_registers (with_terms x terms s) (whole_with_terms (links_revised may))) (let e = kept_long in let w = whole.length in let l = within_here in omega arith) differs stale_here s.deferring refl;
+    }
 
--- a stock's terms name its quote
-pub stock_quote : (terms : Option Terms) → is_stock terms ≡ true → (q : ℕ) × (terms ≡ Some (Stock q))
-stock_quote None is = absurd (cc)
-stock_quote (Some (Quote value)) is = absurd (cc)
-stock_quote (Some (Stock q)) is = (q, refl)
+-- Another day.
+module _ (s : State) (day : ℤ) (whole : IsWhole s) where
+  differs_today : DiffersAt 0 s (with_today day s)
+  unfolding is_source is_frozen
+  differs_today = record {
+    length = omega arith;
+    same = λ o other. record { terms = refl; day = λ is. absurd (other is) };
+    kept = λ o other. refl;
+    source = λ o. refl;
+    deferring = refl;
+    frozen = λ o other. refl;
+  }
 
--- where two markets agree on a stock and on its quote, they price it alike
-same_price : (calc : Calc) (m n : Market) (o q : ℕ) → terms_at m o ≡ Some (Stock q) → terms_at n o ≡ Some (Stock q) → terms_at n q ≡ terms_at m q → (f : ℕ → Outcome) → priced_by calc n f o ≡ priced_by calc m f o
-same_price calc m n o q here there quote f = over n there ∙ ap (λ t. priced_over calc o (Some (Stock q)) (inputs_by f (quote_entry q t ∷ []))) quote ∙ sym (over m here)
-  where
-    over : (market : Market) → terms_at market o ≡ Some (Stock q) → priced_by calc market f o ≡ priced_over calc o (Some (Stock q)) (inputs_by f (quote_entry q (terms_at market q) ∷ []))
-    over market is = ap (λ t. priced_over calc o t (inputs_by f (uses_of market t))) is
+  whole_today : IsWhole (with_today day s)
+  whole_today = record {
+    length = whole.length;
+    today = whole.today;
+    links = record { within = whole.links.within; observed = whole.links.observed; acyclic = whole.links.acyclic };
+    lazy = whole.lazy;
+    frozen = whole.frozen;
+    forward = whole.forward;
+    registered = λ w o among. let r = whole.registered w o among in record { watcher = r.watcher; observed = r.observed };
+    noticed = whole.noticed;
+  }
 
-same_needs : (s t : State) (o q : ℕ) → terms_at s.market o ≡ Some (Stock q) → terms_at t.market o ≡ Some (Stock q) → terms_at t.market q ≡ terms_at s.market q → AreCurrent s (uses s.market o) → AreCurrent t (uses t.market o)
-same_needs s t o q here there quote needs =
-    let from : AreCurrent s (quote_entry q (terms_at s.market q) ∷ []) = subst (λ terms. AreCurrent s (uses_of s.market terms)) here needs in
-    let moved : AreCurrent t (quote_entry q (terms_at s.market q) ∷ []) = across (quote_entry q (terms_at s.market q)) (subst (λ terms. IsFlat (uses_of s.market terms)) here (flat_uses s.market o)) from in
-    let at : AreCurrent t (quote_entry q (terms_at t.market q) ∷ []) = subst (λ terms. AreCurrent t (quote_entry q terms ∷ [])) (sym quote) moved in
-    subst (λ terms. AreCurrent t (uses_of t.market terms)) (sym there) at
-  where
-    across : (entry : Entry) → IsFlat (entry ∷ []) → AreCurrent s (entry ∷ []) → AreCurrent t (entry ∷ [])
-    across entry flat current = flat_current s t (entry ∷ []) flat current
+  stale_today : (kept_at s 0).current ≡ false
+  stale_today = false_from_ne_true (kept_at s 0).current (λ is. false≢true (sym (ap (λ (t : Slot). is_lazy (role_of (terms_in t))) whole.today) ∙ whole.lazy 0 is))
 
--- a stock that two states know alike is priced in the one as in the other
-pub carried_stock : (calc : Calc) (s t : State) (o q : ℕ) → terms_at s.market o ≡ Some (Stock q) → terms_at t.market o ≡ Some (Stock q) → terms_at t.market q ≡ terms_at s.market q → kept_at t o ≡ kept_at s o → IsPriced calc s o → IsPriced calc t o
-carried_stock calc s t o q here there quote same p = carried calc s t o same (same_price calc s.market t.market o q here there quote) (same_needs s t o q here there quote p.needs) p
+  within_today : 0 < length s.kept
+  within_today = let e = whole.length in let l = observed_within s.market 0 (ap is_observable whole.today) in omega arith
 
--- an object of a kind is among the objects
-within_by : (test : Option Terms → Bool) → test None ≡ false → (m : Market) (o : ℕ) → test (terms_at m o) ≡ true → o < length m.objects
-within_by test none m o is = elim (cases_lt o (length m.objects)) [
-  | inl within ↦ within
-  | inr past ↦ absurd (false_true (sym (ap test (get_or_past m.objects o None past) ∙ none) ∙ is))
-]
-  where
-    false_true : false ≡ true → ⊥
-    false_true e = cc
-
-pub quote_within : (m : Market) (q : ℕ) → is_quote (terms_at m q) ≡ true → q < length m.objects
-quote_within = within_by is_quote refl
-
-pub stock_within : (m : Market) (o : ℕ) → is_stock (terms_at m o) ≡ true → o < length m.objects
-stock_within = within_by is_stock refl
-
--- a new object leaves what was there
-added_terms : (terms : Option Terms) (s : State) (o : ℕ) → o < length s.market.objects → terms_at (added terms s).market o ≡ terms_at s.market o
-added_terms terms s o within = get_or_append_left s.market.objects (terms ∷ []) None o within
-
-added_kept : (terms : Option Terms) (s : State) (o : ℕ) → kept_at (added terms s) o ≡ kept_at s o
-added_kept terms s o = elim (cases_lt o (length s.kept)) [
-  | inl within ↦ get_or_append_left s.kept (unpriced ∷ []) unpriced o within
-  | inr past ↦ after past ∙ sym (get_or_past s.kept o unpriced past)
-]
-  where
-    after : length s.kept ≤ o → kept_at (added terms s) o ≡ unpriced
-    after past = elim (cases_eq o (length s.kept)) [
-      | inl same ↦ get_or_push s.kept unpriced unpriced o (sym same)
-      | inr other ↦ get_or_past (s.kept ++ unpriced ∷ []) o unpriced (omega (arith, length-append s.kept (unpriced ∷ [])))
-    ]
-
-pub sound_added : (calc : Calc) (terms : Option Terms) (s : State) → HasLinks s → IsSound calc s → IsSound calc (added terms s)
-sound_added calc terms s links sound o current =
-    let was : (kept_at s o).current ≡ true = sym (ap (λ (k : Kept). k.current) (added_kept terms s o)) ∙ current in
-    let stock = stock_quote (terms_at s.market o) (links.current o was) in
-    carried_stock calc s (added terms s) o stock.0 stock.1
-    (added_terms terms s o (stock_within s.market o (links.current o was)) ∙ stock.1)
-    (added_terms terms s stock.0 (quote_within s.market stock.0 (links.quotes o stock.0 stock.1)))
-    (added_kept terms s o) (sound o was)
-
-fits_quote : (m : Market) (terms : Option Terms) (q : ℕ) → FitsIn m terms → terms ≡ Some (Stock q) → is_quote (terms_at m q) ≡ true
-fits_quote m None q fits e = absurd (cc)
-fits_quote m (Some (Quote value)) q fits e = absurd (cc)
-fits_quote m (Some (Stock p)) q fits e = let same : p ≡ q = cc in subst (λ (x : ℕ). is_quote (terms_at m x) ≡ true) same fits
-
-pub links_added : (terms : Option Terms) (s : State) → FitsIn s.market terms → HasLinks s → HasLinks (added terms s)
-links_added terms s fits links = record {
-  length = omega (arith, length-append s.kept (unpriced ∷ []), length-append s.market.objects (terms ∷ []), links.length);
-  quotes = λ o q is. ap is_quote (added_terms terms s q (quote_within s.market q (quote o q is))) ∙ quote o q is;
-  current = λ o current. now_stock o (sym (ap (λ (k : Kept). k.current) (added_kept terms s o)) ∙ current);
-}
-  where
-    quote : (o q : ℕ) → terms_at (added terms s).market o ≡ Some (Stock q) → is_quote (terms_at s.market q) ≡ true
-    quote o q is = elim (cases_lt o (length s.market.objects)) [
-      | inl within ↦ links.quotes o q (sym (added_terms terms s o within) ∙ is)
-      | inr past ↦ elim (cases_eq o (length s.market.objects)) [
-        | inl same ↦ fits_quote s.market terms q fits (sym (get_or_push s.market.objects terms None o (sym same)) ∙ is)
-        | inr other ↦ absurd (none_some (sym (get_or_past (s.market.objects ++ terms ∷ []) o None (omega (arith, length-append s.market.objects (terms ∷ [])))) ∙ is))
-      ]
-    ]
-      where
-        none_some : None ≡ Some (Stock q) → ⊥
-        none_some e = cc
-
-    now_stock : (o : ℕ) → (kept_at s o).current ≡ true → is_stock (terms_at (added terms s).market o) ≡ true
-    now_stock o current = ap is_stock (added_terms terms s o (stock_within s.market o (links.current o current))) ∙ links.current o current
-
-pub links_valued : (s : State) (o : ℕ) (value : Value) → is_stock (terms_at s.market o) ≡ true → HasLinks s → HasLinks (valued o value s)
-links_valued s o value stock links = record {
-  length = length-set s.kept o (record { current = true; last = Some value }) ∙ links.length;
-  quotes = links.quotes;
-  current = λ x current. elim (cases_eq x o) [
-    | inl same ↦ subst (λ (y : ℕ). is_stock (terms_at s.market y) ≡ true) (sym same) stock
-    | inr other ↦ links.current x (sym (ap (λ (k : Kept). k.current) (get_or-set_other s.kept o x (record { current = true; last = Some value }) unpriced other)) ∙ current)
-  ];
-}
-
--- a state of no objects
-pub links_none : HasLinks (record { market = record { objects = [] }; kept = [] })
-links_none = record {
-  length = refl;
-  quotes = λ o q stock. absurd (none_some q stock);
-  current = λ o current. absurd (false_true current);
-}
-  where
-    none_some : (q : ℕ) → None ≡ Some (Stock q) → ⊥
-    none_some q e = cc
-
-    false_true : false ≡ true → ⊥
-    false_true e = cc
+  pub today_keeps : Keeps s (today_set day s)
+  unfolding today_set notified
+  today_keeps = by_same (int_eq s.market.today day)
+    where
+      by_same : (b : Bool) → Keeps s (if b then s else notified 0 (with_today day s))
+      by_same true = keeps_itself s whole
+      by_same false = record {
+        whole = whole_notified 0 (with_today day s) whole_today s.deferring;
+        current = keeps_notified 0 s (with_today day s) whole whole_today.links (whole_registers (with_today day s) whole_today) within_today differs_today stale_today s.deferring refl;
+      }

@@ -1,10 +1,15 @@
 pub mod Effect
 pub mod Examples
 pub mod Fresh
+pub mod Held
+pub mod HeldExamples
 pub mod Laws
 pub mod Links
 pub mod Market
+pub mod Next
+pub mod Recalc
 pub mod Sound
 pub mod State
 pub mod Told
+pub mod Uses
 pub mod Visit

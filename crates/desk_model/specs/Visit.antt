@@ -1,78 +1,96 @@
 -- Which computations an ask makes, and the state after it: what an ask computes is what it uses and has no current
 -- value (QuantLib's `LazyObject::calculate`).
-use Rattle.std.specs.Prelude.{ℕ, zero, suc, Bool, true, ◌||◌, ◌==◌, if◌then◌else◌, List, [], ◌∷◌, ◌++◌, length, Option, Some, None, Ok, Err, is_ok, slice_set}
-use Rattle.std.specs.List.{list_any}
+use Rattle.std.specs.Prelude.{ℕ, zero, suc, Bool, true, ◌||◌, ◌==◌, if◌then◌else◌, List, [], ◌∷◌, ◌++◌, length, Option, Some, None, Ok, Err, is_ok, is_some}
+use Rattle.desk_terms.specs.declared.value.Value.{Value}
 use Rattle.desk_terms.specs.declared.cause.Cause.{Cause}
 use Rattle.desk_terms.specs.Reading.{Outcome, Calc}
+use Rattle.desk_model.specs.declared.entry.Entry.{Entry}
+use Rattle.desk_model.specs.declared.entry.Entry.TheVariants.{Gives, Needs, Refuses}
 use Rattle.desk_model.specs.declared.kept.Kept.{Kept}
-use Rattle.desk_model.specs.Market.{Entry, uses}
-use Rattle.desk_model.specs.Market.Entry.{Gives, Needs, Refuses}
-use Rattle.desk_model.specs.State.{State, kept_at, seen, now}
+use Rattle.desk_model.specs.Uses.{uses}
+use Rattle.desk_model.specs.State.{State, kept_at, held, seen, now, each_kept}
 
--- a visit of an object: the objects computed, each with whether it got a value, how the visit ended, and the objects
--- that have a value of this ask
+-- the calls of the bench so far, in order, each object with what the bench answered
+abbrev pub Calls : Type 0
+Calls = List (ℕ × Outcome)
+
+-- the same as a bench tells them: each object with whether it got a value
+abbrev pub log_of : List (ℕ × Outcome) → List (ℕ × Bool)
+log_of [] = []
+log_of (call ∷ calls) = (call.0, is_ok call.1) ∷ log_of calls
+
+abbrev pub value_in : Outcome → Option Value
+value_in (Ok value) = Some value
+value_in (Err cause) = None
+
+abbrev pub or_value : Option Value → Option Value → Option Value
+or_value (Some value) later = Some value
+or_value None later = later
+
+-- the value that x got among these calls
+abbrev pub value_among : List (ℕ × Outcome) → ℕ → Option Value
+value_among [] x = None
+value_among (call ∷ calls) x = or_value (if call.0 == x then value_in call.1 else None) (value_among calls x)
+
+abbrev pub has_value : List (ℕ × Outcome) → ℕ → Bool
+has_value calls x = is_some (value_among calls x)
+
+-- a visit of an object: the calls so far, and how the visit ended
 pub record Visit : Type 0 where
-  pub calls : List (ℕ × Bool)
+  pub calls : List (ℕ × Outcome)
   pub outcome : Outcome
-  pub done : List ℕ
 
 -- the same of the entries that a price takes; a refusal ends it
 pub record Walk : Type 0 where
-  pub calls : List (ℕ × Bool)
+  pub calls : List (ℕ × Outcome)
   pub refusal : Option Cause
-  pub done : List ℕ
-
-abbrev pub after_calls : List (ℕ × Bool) → Walk → Walk
-after_calls calls walk = record walk { calls = calls ++ walk.calls }
 
 -- the walk after a visit of a needed object: where that refused, it ends there
-abbrev pub after_visit : Visit → (List ℕ → Walk) → Walk
-after_visit visit rest = by_outcome visit.outcome
-  where
-    by_outcome : Outcome → Walk
-    by_outcome (Ok value) = after_calls visit.calls (rest visit.done)
-    by_outcome (Err cause) = record { calls = visit.calls; refusal = Some cause; done = visit.done }
+abbrev pub after_visit : List (ℕ × Outcome) → Outcome → (List (ℕ × Outcome) → Walk) → Walk
+after_visit calls (Ok value) rest = rest calls
+after_visit calls (Err cause) rest = record { calls = calls; refusal = Some cause }
 
 -- the entries in order: a value at hand computes nothing, a needed object is visited
-abbrev pub settle_all : (List ℕ → ℕ → Visit) → List ℕ → List Entry → Walk
-settle_all visit done [] = record { calls = []; refusal = None; done = done }
-settle_all visit done (Gives i ∷ entries) = settle_all visit done entries
-settle_all visit done (Needs x ∷ entries) = after_visit (visit done x) (λ later. settle_all visit later entries)
-settle_all visit done (Refuses cause ∷ entries) = record { calls = []; refusal = Some cause; done = done }
+abbrev pub settle_all : (List (ℕ × Outcome) → ℕ → Visit) → List (ℕ × Outcome) → List Entry → Walk
+settle_all visit calls [] = record { calls = calls; refusal = None }
+settle_all visit calls (Gives i ∷ entries) = settle_all visit calls entries
+settle_all visit calls (Needs x ∷ entries) =
+    after_visit (visit calls x).calls (visit calls x).outcome (λ later. settle_all visit later entries)
+settle_all visit calls (Refuses cause ∷ entries) = record { calls = calls; refusal = Some cause }
 
 -- o is computed last, where nothing that it uses refused
-abbrev pub settle : Calc → State → ℕ → Walk → Visit
-settle calc state o walk = by_refusal walk.refusal
-  where
-    by_refusal : Option Cause → Visit
-    by_refusal (Some cause) = record { calls = walk.calls; outcome = Err cause; done = walk.done }
-    by_refusal None = record { calls = walk.calls ++ (o, is_ok (now calc state o)) ∷ []; outcome = now calc state o; done = if is_ok (now calc state o) then o ∷ walk.done else walk.done }
+abbrev pub settle : Outcome → ℕ → List (ℕ × Outcome) → Option Cause → Visit
+settle price o calls (Some cause) = record { calls = calls; outcome = Err cause }
+settle price o calls None = record { calls = calls ++ (o, price) ∷ []; outcome = price }
 
--- nothing is computed of an object that is current, or that this ask has computed already
-abbrev pub is_idle : State → List ℕ → ℕ → Bool
-is_idle state done o = (kept_at state o).current || list_any (λ x. x == o) done
+abbrev pub settle_walk : Outcome → ℕ → Walk → Visit
+settle_walk price o walk = settle price o walk.calls walk.refusal
 
-abbrev pub idle : Calc → State → List ℕ → ℕ → Visit
-idle calc state done o = record { calls = []; outcome = seen calc state o; done = done }
+-- nothing is computed of an object that is held or current, or that got a value in this ask
+abbrev pub is_idle : State → List (ℕ × Outcome) → ℕ → Bool
+is_idle state calls o = is_some (held state o) || ((kept_at state o).current || has_value calls o)
 
-unfoldable pub visit_by : Calc → State → ℕ → List ℕ → ℕ → Visit
-visit_by calc state zero done o = idle calc state done o
-visit_by calc state (suc n) done o = if is_idle state done o then idle calc state done o else settle calc state o (settle_all (visit_by calc state n) done (uses state.market o))
+-- a visit of o after these calls, over paths of at most n edges
+unfoldable pub visit_by : Calc → State → ℕ → List (ℕ × Outcome) → ℕ → Visit
+visit_by calc state zero calls o = record { calls = calls; outcome = seen calc state o }
+visit_by calc state (suc n) calls o =
+    if is_idle state calls o
+    then record { calls = calls; outcome = seen calc state o }
+    else settle_walk (now calc state o) o (settle_all (visit_by calc state n) calls (uses state.market o))
 
--- the objects that an ask of o computes, in order, each with whether it gets a value
-unfoldable pub runs : Calc → State → ℕ → List (ℕ × Bool)
+-- THE RUNS of an ask of o: the calls of the bench that it makes, in order
+unfoldable pub runs : Calc → State → ℕ → List (ℕ × Outcome)
 runs calc state o = (visit_by calc state (suc (length state.market.objects)) [] o).calls
 
--- what is stored of an object that got this value
-abbrev pub with_value : Kept → Outcome → Kept
-with_value kept (Ok value) = record kept { current = true; last = Some value }
-with_value kept (Err cause) = kept
+-- an object that got a value is current with it
+abbrev pub with_value : Kept → Option Value → Kept
+with_value kept (Some value) = record kept { current = true; last = Some value }
+with_value kept None = kept
 
--- the objects that got a value are current with what is seen of them; a refused one stays as it was
-abbrev pub stored : Calc → State → List (ℕ × Bool) → List Kept
-stored calc state [] = state.kept
-stored calc state (run ∷ rest) = slice_set (stored calc state rest) run.0 (with_value (kept_at state run.0) (seen calc state run.0))
+-- the state that these calls leave: each object that got a value has it, a refused one stays as it was
+unfoldable pub stored : State → List (ℕ × Outcome) → State
+stored state calls = record state { kept = each_kept (λ o kept. with_value kept (value_among calls o)) 0 state.kept }
 
 -- the state after an ask of o
 unfoldable pub asked : Calc → ℕ → State → State
-asked calc o state = record state { kept = stored calc state (runs calc state o) }
+asked calc o state = stored state (runs calc state o)

@@ -1,24 +1,25 @@
 //! What a session is and what its values are, said without the code that keeps them: the market, what a price uses, the
-//! price afresh, the state with its stored values, what an ask shows and computes, and when a state is sound.
+//! price afresh, the state with its stored values, what an ask shows and computes, what each change does, and when a
+//! state is sound.
 //!
-//! `Kept`. Words of `specs/`: `Market`, `uses`, `edges`, `fresh`, `State`, `seen`, `now`, `runs`, `asked`, `told`,
-//! `changed`, `IsSound`. Its functions without a body are laws: their contracts are what is proved.
+//! `Slot`, `Kept`; `Entry`, `Next`. Words of `specs/`: `Market`, `edges`, `uses`, `fresh`; `State`, `seen`, `now`,
+//! `is_late`, `is_clear`, `shows`, `mark_of`; `told`, `tell`; `runs`, `asked`, `reruns`, `recalced`; the changes of
+//! `Effect`; `IsWhole`, `IsKinded`, `IsSound`, `KeepsCurrent`. Functions without a body are laws: their contracts are
+//! what is proved, for every bench and every market.
 #![tactic(auto)]
 
+mod entry;
+mod examples;
 mod kept;
+mod laws;
+mod slot;
 
-ghost use Rattle.desk_model.specs.Examples.{AreWorked};
-
+pub use entry::{Entry, Next};
 pub use kept::Kept;
-
-/// The definitions give what a hand works out for a quote and a stock.
-fn a_quote_and_a_stock_are_worked_through()
-    ensures { AreWorked }
-{}
-
-ghost use Rattle.desk_model.specs.Laws.{SeenIsFresh};
-
-/// Where nothing is held, an ask shows the price afresh from the market of that moment.
-pub fn what_is_seen_is_fresh()
-    ensures { SeenIsFresh }
-{}
+pub use laws::{
+    a_clear_object_shows_its_price_afresh, a_current_object_shows_its_last_value,
+    a_late_object_has_a_least_source, benches_leave_a_state_sound, changes_keep_what_is_current,
+    no_bound_matters, readings_are_well_formed, the_price_afresh_is_priced, uses_are_local,
+    walks_find_paths, what_is_kept_is_sound,
+};
+pub use slot::Slot;

@@ -1,0 +1,95 @@
+// What is proved of the definitions, for every bench and every market.
+ghost use Rattle.desk_model.specs.Laws.{
+  AsksKeep,
+  AsksStore,
+  ChangesKeep,
+  ChangesKeepKinds,
+  ClearIsFresh,
+  CurrentIsShown,
+  FreshHasNoBound,
+  FreshIsPriced,
+  InputsHaveNoBound,
+  KeptIsSound,
+  LateHasLeastSource,
+  NeedsAreLazy,
+  ReadingsAreWellFormed,
+  RecalcsKeep,
+  RevisionsKeep,
+  RunsHaveNoBound,
+  SeenHasNoBound,
+  SeenIsPriced,
+  ShownIsSeen,
+  StartsAreSound,
+  UsesAreLocal,
+  WalksAreLeast,
+};
+
+/// No bound of a recursion above the number of objects matters: neither to prices afresh and to what is seen, nor to
+/// what an input gives, nor to what an ask computes.
+pub fn no_bound_matters()
+    ensures fresh { FreshHasNoBound }
+    ensures seen { SeenHasNoBound }
+    ensures inputs { InputsHaveNoBound }
+    ensures runs { RunsHaveNoBound }
+{}
+
+/// What is late, clear, near, reached and told is so by a path of edges, whatever its length.
+pub fn walks_find_paths()
+    ensures { WalksAreLeast }
+{}
+
+/// The price afresh is the price over the prices afresh.
+pub fn the_price_afresh_is_priced()
+    ensures { FreshIsPriced }
+{}
+
+/// What an object uses, and what its price reads, depends on itself and on what is near it.
+pub fn uses_are_local()
+    ensures { UsesAreLocal }
+{}
+
+/// Where each object names others of the right kinds, a bench is asked for well-formed readings alone, and what a price
+/// needs is priced by the bench.
+pub fn readings_are_well_formed()
+    ensures readings { ReadingsAreWellFormed }
+    ensures needs { NeedsAreLazy }
+{}
+
+/// Each change keeps the shape of a state, the kinds, and, over data alone, all that is current.
+pub fn changes_keep_what_is_current()
+    ensures terms { RevisionsKeep }
+    ensures commands { ChangesKeep }
+    ensures kinds { ChangesKeepKinds }
+{}
+
+/// What keeps all that is current keeps a state sound, for every bench.
+pub fn what_is_kept_is_sound()
+    ensures { KeptIsSound }
+{}
+
+/// An ask, and a recalculation of an object that is not late, leave a state whole, and sound for the bench that was
+/// asked; a new session is sound for every bench.
+pub fn benches_leave_a_state_sound()
+    ensures start { StartsAreSound }
+    ensures asks { AsksKeep }
+    ensures recalcs { RecalcsKeep }
+{}
+
+/// A current object that is not held shows its last value.
+pub fn a_current_object_shows_its_last_value()
+    ensures current { CurrentIsShown }
+    ensures after { AsksStore }
+{}
+
+/// Where neither an object nor anything beneath it is frozen or a deferred source, an ask shows the price afresh from
+/// the market of that moment.
+pub fn a_clear_object_shows_its_price_afresh()
+    ensures clear { ClearIsFresh }
+    ensures shown { ShownIsSeen }
+    ensures priced { SeenIsPriced }
+{}
+
+/// An object is late exactly where a deferred source makes it late, and the least such source is named.
+pub fn a_late_object_has_a_least_source()
+    ensures { LateHasLeastSource }
+{}

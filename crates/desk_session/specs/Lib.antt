@@ -1,4 +1,0 @@
-pub mod Asks
-pub mod Fits
-pub mod Log
-pub mod Pricing

@@ -1,0 +1,82 @@
+-- What stands after an object that none observes is taken out.
+use Rattle.std.proofs.Common.{◌≡◌, ◌≢◌, inl, inr, ◌<◌, ℕ, true, false, List, length, None, refl, sym, ◌∙◌, ap, subst, arith}
+use Rattle.std.specs.Prelude.{ℤ, slice_index_or, slice_set}
+use Rattle.std.proofs.lemmas.List.{length-set, get_or-set_same, get_or-set_other, get_or_past}
+use Rattle.std.proofs.lemmas.Bool.{cases_eq, cases_lt, false≢true}
+use Rattle.desk_terms.specs.Reading.{Calc}
+use Rattle.desk_model.specs.declared.kept.Kept.{Kept}
+use Rattle.desk_model.specs.declared.slot.Slot.{Slot}
+use Rattle.desk_model.specs.declared.slot.Slot.TheVariants.{Free}
+use Rattle.desk_model.specs.Market.{terms_in, is_given, is_watcher, least_user}
+use Rattle.desk_model.specs.State.{State, unpriced, is_frozen, is_source}
+use Rattle.desk_model.specs.Sound.{IsSound, KeepsCurrent}
+use Rattle.desk_model.specs.Laws.{Keeps}
+use Rattle.desk_model.specs.Effect.{dropped}
+use Rattle.desk_model.proofs.Births.{dropped_keeps}
+use Rattle.desk_model.proofs.KindsKept.{dropped_kinded}
+use Rattle.desk_model.proofs.Carried.{sound_kept}
+use Rattle.desk_model.proofs.Users.{none_uses}
+use Rattle.lazy_objects.specs.Slots.{market_of, state_of, is_made}
+use Rattle.lazy_objects.specs.Scratch.{ScratchView, IsEmpty}
+use Rattle.lazy_objects.specs.Stands.{Stands}
+
+-- an object is there
+pub given_within : (slots : List Slot) (x : ℕ) → is_given (slice_index_or slots x Free) ≡ true → x < length slots
+given_within slots x is = elim (cases_lt x (length slots)) [
+  | inl within ↦ within
+  | inr past ↦ absurd (false≢true (ap is_given (sym (get_or_past slots x Free past)) ∙ is))
+]
+
+-- what of a list with one item set is as before where the item is
+set_as : {A : Type 0} {B : Type 0} (f : A → B) (b : B) (l : List A) (x : ℕ) (a d : A) → f a ≡ b → f d ≡ b → ((y : ℕ) → f (slice_index_or l y d) ≡ b) → (y : ℕ) → f (slice_index_or (slice_set l x a) y d) ≡ b
+set_as f b l x a d here none was y = elim (cases_eq y x) [
+  | inl same ↦ ap (λ n. f (slice_index_or (slice_set l x a) n d)) same ∙ elim (cases_lt x (length l)) [
+    | inl within ↦ ap f (get_or-set_same l x a d within) ∙ here
+    | inr past ↦ ap f (get_or_past (slice_set l x a) x d (let e = length-set l x a in omega arith)) ∙ none
+  ]
+  | inr other ↦ ap f (get_or-set_other l x y a d other) ∙ was y
+]
+
+module _ (s : State) (scratch : ScratchView) (stands : Stands s scratch) (x : ℕ) (apart : x ≢ 0) (unused : least_user s.market x ≡ None) where
+  drop_keeps : Keeps s (dropped x s)
+  drop_keeps = dropped_keeps s x stands.whole apart (none_uses s.market x unused)
+
+  drop_stands : Stands (dropped x s) scratch
+  unfolding dropped is_frozen is_source
+  drop_stands = record {
+    whole = drop_keeps.whole;
+    unheld = record {
+      frozen = set_as (λ (k : Kept). k.frozen) false s.kept x unpriced unpriced refl refl stands.unheld.frozen;
+      sources = set_as (λ (k : Kept). k.source) false s.kept x unpriced unpriced refl refl stands.unheld.sources;
+    };
+    kinds = dropped_kinded s x stands.whole apart (none_uses s.market x unused) stands.kinds;
+    made = set_as (λ (t : Slot). is_made (terms_in t)) true s.market.objects x Free Free refl refl stands.made;
+    unwatched = set_as is_watcher false s.market.objects x Free Free refl refl stands.unwatched;
+    limit = let l = length-set s.market.objects x Free in let k = stands.limit in omega arith;
+    empty = subst (λ (n : ℕ). IsEmpty n scratch) (sym (length-set s.market.objects x Free)) stands.empty;
+  }
+
+-- what taking an object out leaves
+pub record Drops (s new : State) (x : ℕ) (scratch : ScratchView) : Type 0 where
+  pub stands : Stands new scratch
+  pub state : new ≡ dropped x s
+  pub keeps : KeepsCurrent s new
+  pub sound : (calc : Calc) → IsSound calc s → IsSound calc new
+
+dropped_state : (today : ℤ) (slots slots2 : List Slot) (kept kept2 : List Kept) (x : ℕ) → slots2 ≡ slice_set slots x Free → kept2 ≡ slice_set kept x unpriced
+    → state_of today slots2 kept2 ≡ dropped x (state_of today slots kept)
+unfolding dropped
+dropped_state today slots slots2 kept kept2 x is are = ap (λ (l : List Slot). state_of today l kept2) is ∙ ap (state_of today (slice_set slots x Free)) are
+
+pub drops : (today : ℤ) (slots slots2 : List Slot) (kept kept2 : List Kept) (scratch : ScratchView) (x : ℕ) → Stands (state_of today slots kept) scratch → x ≢ 0 → least_user (market_of today slots) x ≡ None
+    → slots2 ≡ slice_set slots x Free → kept2 ≡ slice_set kept x unpriced → Drops (state_of today slots kept) (state_of today slots2 kept2) x scratch
+drops today slots slots2 kept kept2 scratch x stands apart unused is are =
+    let s = state_of today slots kept in
+    let e = dropped_state today slots slots2 kept kept2 x is are in
+    let current = (drop_keeps s scratch stands x apart unused).current in
+    record {
+      stands = subst (λ (t : State). Stands t scratch) (sym e) (drop_stands s scratch stands x apart unused);
+      state = e;
+      keeps = subst (KeepsCurrent s) (sym e) current;
+      sound = λ calc sound. subst (IsSound calc) (sym e) (sound_kept calc s (dropped x s) current sound);
+    }

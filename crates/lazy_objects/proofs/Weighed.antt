@@ -1,0 +1,103 @@
+-- What stands after a change of a weight.
+use Rattle.std.proofs.Common.{◌≡◌, ◌≢◌, ◌⊎◌, inl, inr, ℕ, Bool, true, false, List, Some, refl, sym, ◌∙◌, ap, subst}
+use Rattle.std.specs.Prelude.{ℤ, pos, if◌then◌else◌}
+use Rattle.std.specs.Ordering.{int_eq}
+use Rattle.std.proofs.lemmas.Bool.{false≢true}
+use Rattle.desk_terms.specs.declared.terms.Terms.{Terms}
+use Rattle.desk_terms.specs.declared.terms.Terms.TheVariants as terms_of
+use Rattle.desk_terms.specs.declared.terms.Part.{Part}
+use Rattle.desk_terms.specs.declared.terms.HandleKind.TheVariants as handle
+use Rattle.desk_terms.specs.declared.kind.Kind.TheVariants as kind
+use Rattle.desk_terms.specs.declared.kind.Wanted.TheVariants.{Member}
+use Rattle.desk_model.specs.declared.kept.Kept.{Kept}
+use Rattle.desk_model.specs.declared.slot.Slot.{Slot}
+use Rattle.desk_model.specs.declared.slot.Slot.TheVariants.{Live, Free, Today, Watcher}
+use Rattle.desk_model.specs.Market.{Market, kind_at, kind_in, terms_in, slot_at, is_observable}
+use Rattle.desk_model.specs.Held.{Changeable, changeable, weight_of, with_member}
+use Rattle.desk_model.specs.Held.Changeable.{HasParts}
+use Rattle.desk_model.specs.State.{State}
+use Rattle.desk_model.specs.Told.{tell}
+use Rattle.desk_model.specs.Links.{IsLinked, IsKinded, serves_as, reaches}
+use Rattle.desk_model.specs.Laws.{Keeps, MayLink}
+use Rattle.desk_model.specs.Effect.{with_terms, notified, revised, weight_set, member_set}
+use Rattle.desk_model.specs.Sound.{IsSound, KeepsCurrent}
+use Rattle.desk_model.proofs.Carried.{sound_kept}
+use Rattle.desk_model.proofs.Commands.{member_keeps}
+use Rattle.desk_model.proofs.KindsKept.{member_kinded}
+use Rattle.lazy_objects.specs.Slots.{market_of, state_of}
+use Rattle.lazy_objects.specs.Scratch.{ScratchView}
+use Rattle.lazy_objects.specs.Parts.{parts_in}
+use Rattle.lazy_objects.specs.Stands.{Stands}
+use Rattle.lazy_objects.proofs.Revised.{Changed, revised_stands}
+
+-- where a composite stands, its parts do
+by_slot : (t : Slot) → kind_in t ≡ Some kind.Composite → changeable (terms_in t) ≡ HasParts (parts_in t)
+by_slot Free is = absurd (cc)
+by_slot Today is = absurd (cc)
+by_slot (Watcher action) is = absurd (cc)
+by_slot (Live (terms_of.Quote held)) is = absurd (cc)
+by_slot (Live (terms_of.Derived minus first second)) is = absurd (cc)
+by_slot (Live (terms_of.Handle handle.Quote target)) is = absurd (cc)
+by_slot (Live (terms_of.Handle handle.Curve target)) is = absurd (cc)
+by_slot (Live (terms_of.Curve terms)) is = absurd (cc)
+by_slot (Live (terms_of.Implied curve reference)) is = absurd (cc)
+by_slot (Live (terms_of.Index terms fixings)) is = absurd (cc)
+by_slot (Live (terms_of.Engine curve)) is = absurd (cc)
+by_slot (Live (terms_of.Stock quote)) is = absurd (cc)
+by_slot (Live (terms_of.Composite parts)) is = refl
+by_slot (Live (terms_of.Flows flows engine)) is = absurd (cc)
+
+-- what may be a member is observed
+member_observed : (t : Slot) → serves_as (kind_in t) Member ≡ true → is_observable t ≡ true
+member_observed Free is = absurd (cc)
+member_observed Today is = absurd (cc)
+member_observed (Watcher action) is = absurd (cc)
+member_observed (Live terms) is = refl
+
+-- a composite, what may be its member, and no way back
+abbrev pub MayWeigh : Market → ℕ → ℕ → ℤ → Type 0
+MayWeigh market k member weight = (kind_at market k ≡ Some kind.Composite) × (serves_as (kind_at market member) Member ≡ true) × ((weight ≡ pos 0) ⊎ ((member ≢ k) × (reaches market member k ≡ false)))
+
+may_link : (m : Market) (k member : ℕ) (weight : ℤ) → serves_as (kind_at m member) Member ≡ true → (weight ≡ pos 0) ⊎ ((member ≢ k) × (reaches m member k ≡ false))
+    → int_eq weight (pos 0) ≡ false → MayLink m k (Some member)
+may_link m k member weight serves (inl none) some = absurd (false≢true (sym some ∙ ap (λ (w : ℤ). int_eq w (pos 0)) none))
+may_link m k member weight serves (inr apart) some = (member_observed (slot_at m member) serves, apart.0, apart.1)
+
+module _ (s : State) (k member : ℕ) (weight : ℤ) (is : kind_at s.market k ≡ Some kind.Composite) where
+  pub weight_as : (b : Bool) → int_eq (weight_of (parts_in (slot_at s.market k)) member) weight ≡ b
+      → member_set k member weight s ≡ (if b then s else revised k (terms_of.Composite (with_member (parts_in (slot_at s.market k)) member weight)) s)
+  unfolding member_set
+  weight_as b e = ap (λ (c : Changeable). weight_set c k member weight s) (by_slot (slot_at s.market k) is)
+      ∙ ap (λ (c : Bool). if c then s else revised k (terms_of.Composite (with_member (parts_in (slot_at s.market k)) member weight)) s) e
+
+-- a change tells nothing of the market but the terms
+linked_before : (k : ℕ) (terms : Terms) (today : ℤ) (slots : List Slot) (kept : List Kept) → IsLinked (revised k terms (state_of today slots kept)).market → IsLinked (with_terms k terms (state_of today slots kept)).market
+unfolding revised notified tell
+linked_before k terms today slots kept links = links
+
+module _ (today : ℤ) (slots : List Slot) (kept : List Kept) (scratch : ScratchView) (stands : Stands (state_of today slots kept) scratch) (k member : ℕ) (weight : ℤ)
+    (may : MayWeigh (market_of today slots) k member weight) (differs : int_eq (weight_of (parts_in (slot_at (market_of today slots) k)) member) weight ≡ false)
+    (parts : List Part) (reweighed : parts ≡ with_member (parts_in (slot_at (market_of today slots) k)) member weight) where
+  abbrev changed : State
+  changed = revised k (terms_of.Composite parts) (state_of today slots kept)
+
+  same : member_set k member weight (state_of today slots kept) ≡ changed
+  same = weight_as (state_of today slots kept) k member weight may.0 false differs ∙ ap (λ (p : List Part). revised k (terms_of.Composite p) (state_of today slots kept)) (sym reweighed)
+
+  keeps : Keeps (state_of today slots kept) changed
+  keeps = subst (Keeps (state_of today slots kept)) same (member_keeps (state_of today slots kept) stands.whole k member weight (may_link (market_of today slots) k member weight may.1 may.2))
+
+  kinded : IsKinded changed.market
+  kinded = subst (λ (t : State). IsKinded t.market) same (member_kinded (state_of today slots kept) stands.whole stands.kinds k member weight (λ some. may.1))
+
+  pub member_links : IsLinked (with_terms k (terms_of.Composite parts) (state_of today slots kept)).market
+  member_links = linked_before k (terms_of.Composite parts) today slots kept keeps.whole.links
+
+  pub member_changed : (new : State) → new ≡ revised k (terms_of.Composite parts) (state_of today slots kept)
+      → Changed (state_of today slots kept) new (member_set k member weight (state_of today slots kept)) scratch
+  member_changed new e = record {
+    stands = subst (λ (t : State). Stands t scratch) (sym e) (revised_stands today slots kept scratch stands k (terms_of.Composite parts) may.0 refl keeps.whole kinded);
+    state = e ∙ sym same;
+    keeps = subst (KeepsCurrent (state_of today slots kept)) (sym e) keeps.current;
+    sound = λ calc sound. subst (IsSound calc) (sym e) (sound_kept calc (state_of today slots kept) changed keeps.current sound);
+  }

@@ -1,0 +1,15 @@
+use Rattle.std.proofs.Common.{◌≡◌, ◌+◌, ◌*◌, ◌-◌, length}
+use Rattle.lazy_objects.specs.Slots.{market_of, state_of}
+use Rattle.lazy_objects.specs.Reads.{Remembers}
+use Rattle.lazy_objects.specs.Begun.{Begun}
+use Rattle.lazy_objects.proofs.Loop.{Asking, open_of}
+use Rattle.lazy_objects.proofs.asking.compute_all.Given as goal
+
+abbrev pub invariant-loop-top : goal.invariant-loop-top
+invariant-loop-top g l = (g.B.Bench.calc l.bench ≡ g.B.Bench.calc l.initial.bench)
+    × Asking (g.B.Bench.calc l.initial.bench) (state_of l.today l.slots l.initial.store.kept) l.fn.object (g.B.Bench.count l.initial.bench) (g.B.Bench.log l.initial.bench) l.stack.items l.store.kept l.runs (g.B.Bench.count l.bench) (g.B.Bench.log l.bench)
+    × Remembers (market_of l.today l.slots) l.scratch.entries
+    × Begun l.slots l.store.kept l.scratch.positions
+
+abbrev pub decreases-loop-top : goal.decreases-loop-top
+decreases-loop-top g l = open_of l.store.kept * (length l.slots + 3) + (length l.slots + 2 - length l.stack.items)

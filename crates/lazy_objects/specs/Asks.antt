@@ -1,0 +1,69 @@
+-- What one ask does.
+use Rattle.std.specs.Prelude.{◌≡◌, ◌≢◌, ◌⊎◌, ◌++◌, ◌+◌, ◌≤◌, ◌^◌, ℕ, Bool, true, false, List, [], ◌∷◌, length, Option, Some, None, Ok, Err, slice_index_or, slice_set, is_none}
+use Rattle.desk_terms.specs.declared.terms.Terms.{Terms}
+use Rattle.desk_terms.specs.declared.value.Value.{Value}
+use Rattle.desk_terms.specs.declared.value.Input as input
+use Rattle.desk_terms.specs.declared.cause.Cause.{Cause}
+use Rattle.desk_terms.specs.declared.asked.Asked.{Asked}
+use Rattle.desk_terms.specs.Reading.{Outcome, Reading, Calc}
+use Rattle.desk_terms.specs.Asked.{Shows}
+use Rattle.desk_terms.specs.Bench.{counted, logged}
+use Rattle.desk_model.specs.declared.kept.Kept.{Kept}
+use Rattle.desk_model.specs.Market.{Market, terms_at}
+use Rattle.desk_model.specs.Uses.{reading_at}
+use Rattle.desk_model.specs.State.{State, kept_at, unpriced, is_frozen, is_source, shows, mark_of}
+use Rattle.desk_model.specs.Visit.{log_of, with_value, runs, stored, asked}
+use Rattle.desk_model.specs.Links.{IsWhole, IsKinded, is_lazy_at}
+use Rattle.desk_model.specs.Sound.{IsSound}
+use Rattle.lazy_objects.specs.Slots.{is_made}
+
+-- an ask that was answered: it shows what the definition shows, with its mark and number, makes exactly its calls of the
+-- bench, and leaves its state
+pub record Asks (calc : Calc) (o : ℕ) (old new : State) (answer : Asked) (count_old count_new : ℕ) (log_old log_new : Option (List (ℕ × Bool))) : Type 0 where
+  pub state : new ≡ asked calc o old
+  pub shown : Shows answer.cause (kept_at new o).last (shows calc old o)
+  pub mark : answer.mark ≡ mark_of old o
+  pub number : answer.runs ≡ length (runs calc old o)
+  pub count : count_new ≡ counted count_old (length (runs calc old o))
+  pub log : log_new ≡ logged log_old (log_of (runs calc old o))
+
+-- An ask for which memory ran out: a front of its calls was made, and what they computed stays. Where the bench itself ran
+-- out of memory, it counts one call more.
+pub record Stops (calc : Calc) (o : ℕ) (old new : State) (count_old count_new : ℕ) (log_old log_new : Option (List (ℕ × Bool))) : Type 0 where
+  pub front : List (ℕ × Outcome)
+  pub rest : List (ℕ × Outcome)
+  pub whole : runs calc old o ≡ front ++ rest
+  pub state : new ≡ stored old front
+  pub count : (count_new ≡ counted count_old (length front)) ⊎ ((rest ≢ []) × (count_new ≡ counted count_old (length front + 1)))
+  pub log : log_new ≡ logged log_old (log_of front)
+
+-- no object is frozen, and none holds a notice back: no command does either yet
+pub record IsUnheld (s : State) : Type 0 where
+  pub frozen : (x : ℕ) → is_frozen s x ≡ false
+  pub sources : (x : ℕ) → is_source s x ≡ false
+
+-- an object that may be asked for, in a state that is whole and sound
+pub record MayAsk (calc : Calc) (s : State) (o : ℕ) : Type 0 where
+  pub whole : IsWhole s
+  pub unheld : IsUnheld s
+  pub sound : IsSound calc s
+  pub kinds : IsKinded s.market
+  pub made : (x : ℕ) → is_made (terms_at s.market x) ≡ true
+  pub lazy : is_lazy_at s.market o ≡ true
+  pub limit : length s.market.objects ≤ 2 ^ 16
+
+-- what stands on each exit of an ask, also where memory ran out half way
+pub record Stays (calc : Calc) (new : State) : Type 0 where
+  pub whole : IsWhole new
+  pub unheld : IsUnheld new
+  pub sound : IsSound calc new
+
+-- one computation: the value is stored, or the cause is answered
+abbrev pub IsComputed : Calc → Reading → ℕ → List Kept → List Kept → Option Cause → Type 0
+IsComputed calc reading o old new None = (value : Value) × (calc reading ≡ Ok value) × (new ≡ slice_set old o (with_value (slice_index_or old o unpriced) (Some value)))
+IsComputed calc reading o old new (Some cause) = (calc reading ≡ Err cause) × (new ≡ old)
+
+pub record Computes (calc : Calc) (market : Market) (o : ℕ) (inputs : List input.Input) (old new : List Kept) (cause : Option Cause) (count_old count_new : ℕ) (log_old log_new : Option (List (ℕ × Bool))) : Type 0 where
+  pub price : (terms : Terms) → terms_at market o ≡ Some terms → IsComputed calc (reading_at market o terms inputs) o old new cause
+  pub count : count_new ≡ counted count_old 1
+  pub log : log_new ≡ logged log_old ((o, is_none cause) ∷ [])

@@ -1,0 +1,157 @@
+// An ask: what it uses and has no current value is computed, by an explicit stack.
+ghost use Rattle.std.specs.Prelude.{◌≡◌, ◌<◌, true, false, length, None, Some, Ok, Err, IfOk, OnErr};
+ghost use Rattle.std.specs.Option.{option_copied};
+ghost use Rattle.desk_terms.specs.declared.asked.Mark.TheVariants.{Fresh};
+ghost use Rattle.desk_terms.specs.declared.terms.Terms.{Terms};
+ghost use Rattle.desk_terms.specs.Bench.{counted};
+ghost use Rattle.desk_terms.specs.Reading.{IsWellFormed};
+ghost use Rattle.desk_model.specs.Market.{terms_at};
+ghost use Rattle.desk_model.specs.Links.{is_lazy_at};
+ghost use Rattle.desk_model.specs.Uses.{reading_at};
+ghost use Rattle.lazy_objects.specs.Slots.{market_of, state_of, is_now, is_made};
+ghost use Rattle.lazy_objects.specs.Scratch.{AreClear, IsEmpty};
+ghost use Rattle.lazy_objects.specs.Reads.{Remembers};
+ghost use Rattle.lazy_objects.specs.Begun.{Begun};
+ghost use Rattle.lazy_objects.specs.Asks.{Asks, Stops, MayAsk, Stays, Computes};
+
+use crate::reader::terms_of;
+use crate::scratch::Scratch;
+use crate::steps::next;
+use crate::store::Store;
+use day_number::Day;
+use desk_model::{Next, Slot};
+use desk_names::ObjId;
+use desk_terms::{Asked, Bench, Cause, InputList, Job, Mark, Terms, Value};
+use std::alloc::{AllocError, Global};
+
+/// Asks a lazy object. It computes only what it uses and has no current value, and reads each quote at most once.
+pub fn ask<B: Bench>(
+    alloc: Global,
+    today: Day,
+    slots: &[Slot],
+    store: &mut Store,
+    scratch: &mut Scratch,
+    object: ObjId,
+    bench: &mut B,
+) -> Result<Asked, AllocError>
+    requires may { MayAsk (B.calc bench.old) (state_of today slots.now store.old.kept) object }
+    requires empty { IsEmpty (length slots.now) scratch.old }
+    ensures same { B.calc bench.new ≡ B.calc bench.old }
+    ensures asks { IfOk result (λ answer. Asks (B.calc bench.old) object (state_of today slots.now store.old.kept) (state_of today slots.now store.new.kept) answer
+        (B.count bench.old) (B.count bench.new) (B.log bench.old) (B.log bench.new)) }
+    ensures stops { OnErr result (Stops (B.calc bench.old) object (state_of today slots.now store.old.kept) (state_of today slots.now store.new.kept)
+        (B.count bench.old) (B.count bench.new) (B.log bench.old) (B.log bench.new)) }
+    ensures stays { Stays (B.calc bench.old) (state_of today slots.now store.new.kept) }
+    ensures empty { IsEmpty (length slots.now) scratch.new }
+{
+    if store.kept(object).current {
+        return Ok(answered(None, 0));
+    }
+    let answer = compute_all(alloc, today, slots, store, scratch, object, bench);
+    scratch.clear();
+    answer
+}
+
+// An ask of an object that is not current.
+fn compute_all<B: Bench>(
+    alloc: Global,
+    today: Day,
+    slots: &[Slot],
+    store: &mut Store,
+    scratch: &mut Scratch,
+    object: ObjId,
+    bench: &mut B,
+) -> Result<Asked, AllocError>
+    requires may { MayAsk (B.calc bench.old) (state_of today slots.now store.old.kept) object }
+    requires stale { is_now store.old.kept object ≡ false }
+    requires remembers { Remembers (market_of today slots.now) scratch.old.entries }
+    requires begun { Begun slots.now store.old.kept scratch.old.positions }
+    ensures same { B.calc bench.new ≡ B.calc bench.old }
+    ensures asks { IfOk result (λ answer. Asks (B.calc bench.old) object (state_of today slots.now store.old.kept) (state_of today slots.now store.new.kept) answer
+        (B.count bench.old) (B.count bench.new) (B.log bench.old) (B.log bench.new)) }
+    ensures stops { OnErr result (Stops (B.calc bench.old) object (state_of today slots.now store.old.kept) (state_of today slots.now store.new.kept)
+        (B.count bench.old) (B.count bench.new) (B.log bench.old) (B.log bench.new)) }
+    ensures stays { Stays (B.calc bench.old) (state_of today slots.now store.new.kept) }
+    ensures long { (length scratch.new.entries ≡ length slots.now) × (length scratch.new.positions ≡ length slots.now) }
+{
+    let mut stack: Vec<ObjId> = Vec::new(alloc);
+    stack.push(object)?;
+    let mut runs: u64 = 0;
+    while let Some(top) = stack.pop() {
+        match next(alloc, today, slots, store, scratch, top)? {
+            Next::Stops(cause) => return Ok(answered(Some(cause), runs)),
+            Next::First(needed) => {
+                stack.push(top)?;
+                stack.push(needed)?;
+            }
+            Next::Ready(inputs) => {
+                let cause = compute(alloc, today, slots, store, top, &inputs, bench)?;
+                runs += 1;
+                if cause.is_some() {
+                    return Ok(answered(cause, runs));
+                }
+            }
+        }
+    }
+    Ok(answered(None, runs))
+}
+
+// One computation: the value is stored, or the cause is answered.
+fn compute<'a, B: Bench>(
+    alloc: Global,
+    today: Day,
+    slots: &'a [Slot],
+    store: &mut Store,
+    object: ObjId,
+    inputs: &'a InputList,
+    bench: &mut B,
+) -> Result<Option<Cause>, AllocError>
+    requires lazy { is_lazy_at (market_of today slots.now) object ≡ true }
+    requires made { is_made (terms_at (market_of today slots.now) object) ≡ true }
+    requires within { object < length store.old.kept }
+    requires fits { (terms : Terms) → terms_at (market_of today slots.now) object ≡ Some terms → IsWellFormed (reading_at (market_of today slots.now) object terms inputs.now) }
+    ensures same { B.calc bench.new ≡ B.calc bench.old }
+    ensures computes { IfOk result (λ cause. Computes (B.calc bench.old) (market_of today slots.now) object inputs.now store.old.kept store.new.kept cause
+        (B.count bench.old) (B.count bench.new) (B.log bench.old) (B.log bench.new)) }
+    ensures err { OnErr result ((store.new.kept ≡ store.old.kept) × (B.count bench.new ≡ counted (B.count bench.old) 1) × (B.log bench.new ≡ B.log bench.old)) }
+{
+    let job = Job {
+        object,
+        terms: lazy_terms(today, slots, object),
+        inputs,
+        today,
+        index: None,
+    };
+    match bench.price(alloc, &job) {
+        Ok(value) => {
+            store.keep(object, value);
+            Ok(None)
+        }
+        Err(fault) => match fault.cause() {
+            Some(cause) => Ok(Some(cause)),
+            None => Err(AllocError),
+        },
+    }
+}
+
+// The terms of an object that is priced.
+fn lazy_terms(today: Day, slots: &[Slot], object: ObjId) -> &Terms
+    requires { is_lazy_at (market_of today slots.now) object ≡ true }
+    ensures { terms_at (market_of today slots.now) object ≡ Some result.now }
+{
+    match terms_of(slots, object) {
+        Some(terms) => terms,
+        None => unreachable!(),
+    }
+}
+
+// An answer: fresh, since nothing is held back yet.
+fn answered(cause: Option<Cause>, runs: u64) -> Asked
+    ensures { result ≡ record { cause = cause; mark = Fresh; runs = runs } }
+{
+    Asked {
+        cause,
+        mark: Mark::Fresh,
+        runs,
+    }
+}

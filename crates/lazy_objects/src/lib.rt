@@ -1,0 +1,18 @@
+//! The objects of a session: what is stored of each, who observes whom, and what is computed when one is asked for
+//! (QuantLib's `LazyObject`).
+//!
+//! `Desk`, which a clause sees as its `State`.
+#![tactic(auto)]
+
+mod asking;
+mod changes;
+mod desk;
+mod reader;
+mod scratch;
+mod steps;
+mod store;
+mod users;
+mod walk;
+mod weights;
+
+pub use desk::Desk;

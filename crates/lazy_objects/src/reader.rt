@@ -1,0 +1,189 @@
+// What objects give where others name them, by an explicit stack: each is worked out at most once in an ask.
+ghost use Rattle.std.specs.Prelude.{◌≡◌, ◌<◌, length, None, Some, IfOk, slice_index_or};
+ghost use Rattle.std.specs.Option.{option_copied};
+ghost use Rattle.desk_model.specs.Market.{terms_in};
+ghost use Rattle.desk_model.specs.declared.slot.Slot.TheVariants.{Free};
+ghost use Rattle.desk_model.specs.Uses.{input_at, derived_entry, rate_entry};
+ghost use Rattle.desk_model.specs.Links.{IsLinked};
+ghost use Rattle.std.specs.Prelude.{ℤ, ◌-ℤ◌, ◌+ℤ◌, if◌then◌else◌};
+ghost use Rattle.lazy_objects.specs.Slots.{market_of};
+ghost use Rattle.lazy_objects.specs.Reads.{recalled, Remembers, given_by, and_sum, and_is};
+
+use crate::scratch::Scratch;
+use day_number::Day;
+use desk_model::{Entry, Slot};
+use desk_names::ObjId;
+use desk_terms::{Cause, Input, Terms};
+use fixed_amount::Rate;
+use std::alloc::{AllocError, Global};
+
+/// What one look at an object tells.
+#[derive(Clone, Copy, Debug, PartialEq, Eq)]
+pub enum Look {
+    /// What it gives.
+    Is(Entry),
+    /// This object has to be read first.
+    First(ObjId),
+}
+
+/// What an object gives where another names it. What was read before is remembered.
+pub fn read(
+    alloc: Global,
+    today: Day,
+    slots: &[Slot],
+    scratch: &mut Scratch,
+    object: ObjId,
+) -> Result<Entry, AllocError>
+    requires linked { IsLinked (market_of today slots.now) }
+    requires within { object < length slots.now }
+    requires remembers { Remembers (market_of today slots.now) scratch.old.entries }
+    ensures entry { IfOk result (λ entry. entry ≡ input_at (market_of today slots.now) object) }
+    ensures remembers { Remembers (market_of today slots.now) scratch.new.entries }
+    ensures positions { scratch.new.positions ≡ scratch.old.positions }
+{
+    match scratch.entry(object) {
+        Some(entry) => return Ok(entry),
+        None => {}
+    }
+    let mut stack: Vec<ObjId> = Vec::new(alloc);
+    stack.push(object)?;
+    while let Some(top) = stack.pop() {
+        match look_at(slots, scratch, top) {
+            Look::First(needed) => {
+                stack.push(top)?;
+                stack.push(needed)?;
+            }
+            Look::Is(entry) => scratch.remember(top, entry)?,
+        }
+    }
+    match scratch.entry(object) {
+        Some(entry) => Ok(entry),
+        None => unreachable!(),
+    }
+}
+
+/// The terms of an object, if it has any.
+pub fn terms_of(slots: &[Slot], object: ObjId) -> Option<&Terms>
+    ensures { option_copied result ≡ terms_in (slice_index_or slots.now object Free) }
+{
+    match slots.get(object.place()) {
+        Some(slot) => terms_in(slot),
+        None => None,
+    }
+}
+
+// The terms that stand at a number.
+fn terms_in(slot: &Slot) -> Option<&Terms>
+    ensures { option_copied result ≡ terms_in slot.now }
+{
+    match slot {
+        Slot::Free => None,
+        Slot::Today => None,
+        Slot::Watcher(_) => None,
+        Slot::Live(terms) => Some(terms),
+    }
+}
+
+// What an object gives over what is remembered, or the first object that has to be read before.
+fn look_at(slots: &[Slot], scratch: &Scratch, object: ObjId) -> Look
+    ensures { result ≡ given_by (recalled scratch.now.entries) object (terms_in (slice_index_or slots.now object Free)) }
+{
+    match terms_of(slots, object) {
+        None => Look::Is(Entry::Refuses(Cause::Unset(object))),
+        Some(terms) => given_by(scratch, object, terms),
+    }
+}
+
+// What an object with these terms gives.
+fn given_by(scratch: &Scratch, object: ObjId, terms: &Terms) -> Look
+    ensures { result ≡ given_by (recalled scratch.now.entries) object (Some terms.now) }
+{
+    match terms {
+        Terms::Quote(value) => match value {
+            None => Look::Is(Entry::Refuses(Cause::Unset(object))),
+            Some(rate) => Look::Is(Entry::Gives(Input::Rate(*rate))),
+        },
+        Terms::Derived {
+            minus,
+            first,
+            second,
+        } => summed(scratch, object, *minus, *first, *second),
+        Terms::Handle { target, .. } => match target {
+            None => Look::Is(Entry::Refuses(Cause::Empty(object))),
+            Some(reached) => passed(scratch, *reached),
+        },
+        Terms::Index(index, _) => passed(scratch, index.curve),
+        Terms::Engine { curve } => passed(scratch, *curve),
+        Terms::Curve(_) => Look::Is(Entry::Needs(object)),
+        Terms::Implied { .. } => Look::Is(Entry::Needs(object)),
+        Terms::Stock { .. } => Look::Is(Entry::Needs(object)),
+        Terms::Composite(_) => Look::Is(Entry::Needs(object)),
+        Terms::Flows(..) => Look::Is(Entry::Needs(object)),
+    }
+}
+
+// What another object gives.
+fn passed(scratch: &Scratch, object: ObjId) -> Look
+    ensures { result ≡ and_is (recalled scratch.now.entries object) object }
+{
+    match scratch.entry(object) {
+        Some(entry) => Look::Is(entry),
+        None => Look::First(object),
+    }
+}
+
+// The sum or difference of what two objects give.
+fn summed(scratch: &Scratch, object: ObjId, minus: bool, first: ObjId, second: ObjId) -> Look
+    ensures { result ≡ and_sum object minus (recalled scratch.now.entries first) first (recalled scratch.now.entries second) second }
+{
+    match scratch.entry(first) {
+        None => Look::First(first),
+        Some(a) => match scratch.entry(second) {
+            None => Look::First(second),
+            Some(b) => Look::Is(derived(object, minus, &a, &b)),
+        },
+    }
+}
+
+// The sum or difference of what two inputs give.
+fn derived(object: ObjId, minus: bool, first: &Entry, second: &Entry) -> Entry
+    ensures { result ≡ derived_entry object minus first.now second.now }
+{
+    match first {
+        Entry::Refuses(cause) => Entry::Refuses(*cause),
+        Entry::Gives(Input::Rate(a)) => match second {
+            Entry::Refuses(cause) => Entry::Refuses(*cause),
+            Entry::Gives(Input::Rate(b)) => combined(object, minus, *a, *b),
+            Entry::Gives(Input::Money(_)) => Entry::Refuses(Cause::Unset(object)),
+            Entry::Needs(_) => Entry::Refuses(Cause::Unset(object)),
+        },
+        Entry::Gives(Input::Money(_)) => match second {
+            Entry::Refuses(cause) => Entry::Refuses(*cause),
+            Entry::Gives(_) => Entry::Refuses(Cause::Unset(object)),
+            Entry::Needs(_) => Entry::Refuses(Cause::Unset(object)),
+        },
+        Entry::Needs(_) => Entry::Refuses(Cause::Unset(object)),
+    }
+}
+
+// The sum or difference of two rates.
+fn combined(object: ObjId, minus: bool, first: Rate, second: Rate) -> Entry
+    ensures { result ≡ rate_entry object (if minus then first -ℤ second else first +ℤ second) }
+{
+    if minus {
+        rated(object, first.0 - second.0)
+    } else {
+        rated(object, first.0 + second.0)
+    }
+}
+
+// A rate of these units, or that there is none.
+fn rated(object: ObjId, units: i64) -> Entry
+    ensures { result ≡ rate_entry object units }
+{
+    if -1_000_000_000_000_000_000 <= units && units <= 1_000_000_000_000_000_000 {
+        Entry::Gives(Input::Rate(Rate(units)))
+    } else {
+        Entry::Refuses(Cause::TooLarge(object))
+    }
+}

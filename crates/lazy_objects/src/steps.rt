@@ -1,0 +1,148 @@
+// What an ask does next at an object.
+ghost use Rattle.std.specs.Prelude.{◌≡◌, true, ◌<◌, ◌≤◌, take, [], ◌∷◌, length, Some, None, Ok, Err, IfOk, slice_index_or};
+ghost use Rattle.desk_terms.specs.declared.value.Value.{Value};
+ghost use Rattle.desk_model.specs.Uses.{member_entries, uses};
+ghost use Rattle.desk_model.specs.Fresh.{input_of};
+ghost use Rattle.desk_model.specs.Next.{next_of};
+ghost use Rattle.desk_model.specs.Links.{IsLinked, is_lazy_at};
+ghost use Rattle.desk_model.specs.Market.{terms_at};
+ghost use Rattle.lazy_objects.specs.Reads.{Remembers};
+ghost use Rattle.lazy_objects.specs.Begun.{AreSettled, Begun};
+ghost use Rattle.lazy_objects.specs.Slots.{market_of, is_now, answer_of, answered_of, is_made};
+
+use crate::reader::{read, terms_of};
+use crate::scratch::Scratch;
+use crate::store::Store;
+use day_number::Day;
+use desk_model::{Entry, Kept, Next, Slot};
+use desk_names::ObjId;
+use desk_terms::{Cause, Input, InputList, Part, Terms, Value};
+use std::alloc::{AllocError, Global};
+
+// A value as the input of another price.
+fn as_input(value: Value) -> Input
+    ensures { result ≡ input_of value }
+{
+    match value {
+        Value::Money(amount) => Input::Money(amount),
+    }
+}
+
+// The answer of an object whose value is current; none where it is not.
+fn answer(store: &Store, object: ObjId) -> Option<Result<Value, Cause>>
+    ensures { result ≡ answered_of (is_now store.now.kept object) (answer_of store.now.kept object) }
+{
+    let kept = store.kept(object);
+    if !kept.current {
+        return None;
+    }
+    match kept.last {
+        Some(value) => Some(Ok(value)),
+        None => Some(Err(Cause::Unpriced(object))),
+    }
+}
+
+// What an ask does next at a composite of these parts, of which the first were read and are settled. It reads on from
+// there, and all of them once more when all are settled.
+fn next_member(
+    alloc: Global,
+    store: &Store,
+    parts: &[Part],
+    begun: &mut usize,
+) -> Result<Next, AllocError>
+    requires low { begun.old ≤ length parts.now }
+    requires settled { AreSettled store.now.kept (take begun.old parts.now) }
+    ensures next { IfOk result (λ next. next ≡ next_of (is_now store.now.kept) (answer_of store.now.kept) (member_entries parts.now)) }
+    ensures low { begun.new ≤ length parts.now }
+    ensures settled { AreSettled store.now.kept (take begun.new parts.now) }
+{
+    while *begun < parts.len() {
+        let part = &parts[*begun];
+        match answer(store, part.member) {
+            Some(outcome) => match outcome {
+                Ok(_) => *begun += 1,
+                Err(cause) => return Ok(Next::Stops(cause)),
+            },
+            None => return Ok(Next::First(part.member)),
+        }
+    }
+    all_members(alloc, store, parts)
+}
+
+// What an ask does next at a composite of these parts.
+fn all_members(alloc: Global, store: &Store, parts: &[Part]) -> Result<Next, AllocError>
+    ensures { IfOk result (λ next. next ≡ next_of (is_now store.now.kept) (answer_of store.now.kept) (member_entries parts.now)) }
+{
+    let mut inputs = InputList::new(alloc);
+    for at in 0..parts.len() {
+        let part = &parts[at];
+        match answer(store, part.member) {
+            Some(outcome) => match outcome {
+                Ok(value) => inputs.push(as_input(value))?,
+                Err(cause) => return Ok(Next::Stops(cause)),
+            },
+            None => return Ok(Next::First(part.member)),
+        }
+    }
+    Ok(Next::Ready(inputs))
+}
+
+// What an ask does next where a price takes one entry.
+fn next_entry(alloc: Global, store: &Store, entry: Entry) -> Result<Next, AllocError>
+    ensures { IfOk result (λ next. next ≡ next_of (is_now store.now.kept) (answer_of store.now.kept) (entry ∷ [])) }
+{
+    let mut inputs = InputList::new(alloc);
+    match entry {
+        Entry::Gives(input) => inputs.push(input)?,
+        Entry::Refuses(cause) => return Ok(Next::Stops(cause)),
+        Entry::Needs(object) => match answer(store, object) {
+            Some(Ok(value)) => inputs.push(as_input(value))?,
+            Some(Err(cause)) => return Ok(Next::Stops(cause)),
+            None => return Ok(Next::First(object)),
+        },
+    }
+    Ok(Next::Ready(inputs))
+}
+
+/// What an ask does next at a lazy object.
+pub fn next(
+    alloc: Global,
+    today: Day,
+    slots: &[Slot],
+    store: &Store,
+    scratch: &mut Scratch,
+    object: ObjId,
+) -> Result<Next, AllocError>
+    requires lazy { is_lazy_at (market_of today slots.now) object ≡ true }
+    requires made { is_made (terms_at (market_of today slots.now) object) ≡ true }
+    requires linked { IsLinked (market_of today slots.now) }
+    requires remembers { Remembers (market_of today slots.now) scratch.old.entries }
+    requires begun { Begun slots.now store.now.kept scratch.old.positions }
+    ensures remembers { Remembers (market_of today slots.now) scratch.new.entries }
+    ensures begun { Begun slots.now store.now.kept scratch.new.positions }
+    ensures next { IfOk result (λ next. next ≡ next_of (is_now store.now.kept) (answer_of store.now.kept) (uses (market_of today slots.now) object)) }
+{
+    match terms_of(slots, object) {
+        None => unreachable!(),
+        Some(terms) => match terms {
+            Terms::Stock { quote } => {
+                let entry = read(alloc, today, slots, scratch, *quote)?;
+                next_entry(alloc, store, entry)
+            }
+            Terms::Composite(parts) => {
+                let mut at = scratch.position(object);
+                let next = next_member(alloc, store, parts.items(), &mut at)?;
+                scratch.advance(object, at)?;
+                Ok(next)
+            }
+            Terms::Quote(_)
+            | Terms::Derived { .. }
+            | Terms::Handle { .. }
+            | Terms::Curve(_)
+            | Terms::Implied { .. }
+            | Terms::Index(..)
+            | Terms::Engine { .. }
+            | Terms::Flows(..) => unreachable!(),
+        },
+    }
+}

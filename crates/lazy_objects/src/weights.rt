@@ -1,0 +1,119 @@
+// The parts of a composite, and what they are with another weight of a member.
+ghost use Rattle.std.specs.Prelude.{◌≡◌, Some, IfOk, slice_index_or};
+ghost use Rattle.std.specs.Ordering.{int_eq};
+ghost use Rattle.desk_model.specs.Held.{changeable, weight_of, has_member, without_member, reweighted, with_member};
+ghost use Rattle.desk_model.specs.declared.slot.Slot.TheVariants.{Free};
+ghost use Rattle.lazy_objects.specs.Parts.{parts_in, parts_held};
+
+use crate::reader::terms_of;
+use desk_model::Slot;
+use desk_names::ObjId;
+use desk_terms::{Part, PartList, Terms};
+use std::alloc::{AllocError, Global};
+
+/// The parts of a composite; none where something else stands.
+pub fn parts_of(slots: &[Slot], composite: ObjId) -> &[Part]
+    ensures { result.now ≡ parts_in (slice_index_or slots.now composite Free) }
+{
+    match terms_of(slots, composite) {
+        Some(terms) => parts_held(terms),
+        None => &[],
+    }
+}
+
+// The parts that terms hold.
+fn parts_held(terms: &Terms) -> &[Part]
+    ensures { result.now ≡ parts_held (changeable (Some terms.now)) }
+{
+    match terms {
+        Terms::Composite(parts) => parts.items(),
+        Terms::Quote(_)
+        | Terms::Derived { .. }
+        | Terms::Handle { .. }
+        | Terms::Curve(_)
+        | Terms::Implied { .. }
+        | Terms::Index(..)
+        | Terms::Engine { .. }
+        | Terms::Stock { .. }
+        | Terms::Flows(..) => &[],
+    }
+}
+
+/// Whether a member has this weight, or, where the weight is 0, whether it is none.
+pub fn has_weight(parts: &[Part], member: ObjId, weight: i64) -> bool
+    ensures { result ≡ int_eq (weight_of parts.now member) weight }
+{
+    weight_of(parts, member) == weight
+}
+
+// The weight of a member; 0 for an object that is none.
+fn weight_of(parts: &[Part], member: ObjId) -> i64
+    ensures { result ≡ weight_of parts.now member }
+{
+    for part in parts {
+        if part.member == member {
+            return part.weight;
+        }
+    }
+    0
+}
+
+/// New parts with another weight of a member: appended, changed in its place, or left out where the weight is 0.
+pub fn with_member(
+    alloc: Global,
+    parts: &[Part],
+    member: ObjId,
+    weight: i64,
+) -> Result<PartList, AllocError>
+    ensures { IfOk result (λ changed. changed ≡ with_member parts.now member weight) }
+{
+    if weight == 0 {
+        return without_member(alloc, parts, member);
+    }
+    let mut changed = reweighted(alloc, parts, member, weight)?;
+    if !has_member(parts, member) {
+        changed.push(Part { weight, member })?;
+    }
+    Ok(changed)
+}
+
+fn has_member(parts: &[Part], member: ObjId) -> bool
+    ensures { result ≡ has_member parts.now member }
+{
+    parts.iter().any(|part| part.member == member)
+}
+
+fn without_member(alloc: Global, parts: &[Part], member: ObjId) -> Result<PartList, AllocError>
+    ensures { IfOk result (λ rest. rest ≡ without_member parts.now member) }
+{
+    let mut rest = PartList::new(alloc);
+    for part in parts {
+        if part.member != member {
+            rest.push(*part)?;
+        }
+    }
+    Ok(rest)
+}
+
+fn reweighted(
+    alloc: Global,
+    parts: &[Part],
+    member: ObjId,
+    weight: i64,
+) -> Result<PartList, AllocError>
+    ensures { IfOk result (λ changed. changed ≡ reweighted parts.now member weight) }
+{
+    let mut changed = PartList::new(alloc);
+    for part in parts {
+        let held = if part.member == member {
+            weight
+        } else {
+            part.weight
+        };
+        changed.push(Part {
+            weight: held,
+            ..*part
+        })?;
+    }
+    Ok(changed)
+}

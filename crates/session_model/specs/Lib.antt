@@ -1,4 +1,6 @@
+pub mod Place
 pub mod Standing
-pub mod Refused
+pub mod Resolve
 pub mod Turn
-pub mod Transcript
+pub mod Rounds
+pub mod Rows

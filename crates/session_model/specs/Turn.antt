@@ -1,19 +1,17 @@
 -- What one command does, which lines it writes and which computations it makes.
-use Rattle.std.specs.Prelude.{ℕ, Bool, List, [], ◌∷◌, ◌++◌, length, ℤ, Option, Some, None}
-use Rattle.desk_terms.specs.declared.terms.Terms.{Terms}
-use Rattle.desk_terms.specs.declared.terms.Terms.TheVariants as terms
-use Rattle.desk_terms.specs.declared.asked.Mark.TheVariants.{Fresh}
+use Rattle.std.specs.Prelude.{ℕ, Bool, List, [], ◌∷◌, ◌++◌, length, Result, Ok, Err}
 use Rattle.desk_terms.specs.Reading.{Calc}
-use Rattle.desk_model.specs.Fresh.{fresh}
-use Rattle.desk_model.specs.Visit.{runs, asked}
-use Rattle.desk_model.specs.Effect.{added, quote_set}
-use Rattle.session_lang.specs.declared.command.Command.{Command}
-use Rattle.session_lang.specs.declared.command.Command.TheVariants as command
-use Rattle.session_lang.specs.declared.refusal.Refusal.{Refusal}
-use Rattle.session_lang.specs.Parts.{command_word}
+use Rattle.desk_model.specs.State.{State, mark_of, shows}
+use Rattle.desk_model.specs.Visit.{runs, log_of, asked}
+use Rattle.desk_model.specs.Effect as effect
+use Rattle.session_commands.specs.declared.command.Command.{Command}
+use Rattle.session_commands.specs.declared.refusal.Refusal.{Refusal}
+use Rattle.session_commands.specs.Parts.{command_word}
 use Rattle.price_report.specs.Line.{asked_line, refusal_line}
-use Rattle.session_model.specs.Standing.{Standing, object_named}
-use Rattle.session_model.specs.Refused.{refusal_of}
+use Rattle.session_model.specs.declared.act.Act.{Act}
+use Rattle.session_model.specs.declared.act.Act.TheVariants as act
+use Rattle.session_model.specs.Standing.{Standing}
+use Rattle.session_model.specs.Resolve.{resolve}
 
 -- what one command gives: its lines, the computations that it makes, and the session after it
 pub record Turn : Type 0 where
@@ -21,47 +19,54 @@ pub record Turn : Type 0 where
   pub calls : List (ℕ × Bool)
   pub next : Standing
 
--- the number that a name stands for; a name that stands for none is refused before
-abbrev pub or_today : Option ℕ → ℕ
-or_today (Some o) = o
-or_today None = 0
+-- THE ONE TABLE OF CHANGES: the state of the objects after an act and its notice
+unfoldable pub step : Calc → State → Act → State
+step calc s (act.Make name terms) = effect.made terms s
+step calc s (act.Set quote value) = effect.quote_set quote value s
+step calc s (act.Member composite member weight) = effect.member_set composite member weight s
+step calc s (act.Drop object) = effect.dropped object s
+step calc s (act.Ask name object) = asked calc object s
 
-abbrev pub number_of : Standing → ℕ → ℕ
-number_of standing name = or_today (object_named standing name)
+-- the names of the objects after an act
+abbrev pub enrolled : Act → List ℕ → List ℕ
+enrolled (act.Make name terms) of_object = of_object ++ name ∷ []
+enrolled (act.Set quote value) of_object = of_object
+enrolled (act.Member composite member weight) of_object = of_object
+enrolled (act.Drop object) of_object = of_object
+enrolled (act.Ask name object) of_object = of_object
 
--- the session with one object more, which has this name and these terms
-abbrev pub made : ℕ → Terms → Standing → Standing
-made name terms standing = record standing { state = added (Some terms) standing.state; of_object = standing.of_object ++ name ∷ [] }
+-- The lines that an act writes. An ask shows the price afresh from the market of that moment where nothing beneath the
+-- object is held back.
+abbrev pub own_lines : Calc → Standing → Act → List ℕ
+own_lines calc p (act.Make name terms) = []
+own_lines calc p (act.Set quote value) = []
+own_lines calc p (act.Member composite member weight) = []
+own_lines calc p (act.Drop object) = []
+own_lines calc p (act.Ask name object) =
+    asked_line p.names p.of_object name (shows calc p.state object) (mark_of p.state object)
+    (length (runs calc p.state object))
 
--- a quote has another value
-abbrev pub moved : ℕ → Option ℤ → Standing → Standing
-moved quote value standing = record standing { state = quote_set quote value standing.state }
+-- the computations that an act makes: the objects in order, each with whether it got a value
+abbrev pub own_calls : Calc → State → Act → List (ℕ × Bool)
+own_calls calc s (act.Make name terms) = []
+own_calls calc s (act.Set quote value) = []
+own_calls calc s (act.Member composite member weight) = []
+own_calls calc s (act.Drop object) = []
+own_calls calc s (act.Ask name object) = log_of (runs calc s object)
 
--- a command that writes nothing and computes nothing
-abbrev pub quiet : Standing → Turn
-quiet next = record { lines = []; calls = []; next = next }
-
--- An ask of o by its name shows the price afresh from the market of that moment. Nothing is frozen or deferred yet, so
--- each mark is fresh.
-abbrev pub shown : Calc → ℕ → ℕ → Standing → Turn
-shown calc name o standing = record {
-  lines = asked_line standing.names standing.of_object name (fresh calc standing.state.market o) Fresh (length (runs calc standing.state o));
-  calls = runs calc standing.state o;
-  next = record standing { state = asked calc o standing.state };
+unfoldable pub effect_of : Calc → Standing → Act → Turn
+effect_of calc p a = record {
+  lines = own_lines calc p a;
+  calls = own_calls calc p.state a;
+  next = record p { state = step calc p.state a; of_object = enrolled a p.of_object };
 }
 
--- what a command does that is not refused
-abbrev pub carried_out : Calc → Standing → Command → Turn
-carried_out calc standing (command.Quote name value) = quiet (made name (terms.Quote value) standing)
-carried_out calc standing (command.Stock name quote) = quiet (made name (terms.Stock (number_of standing quote)) standing)
-carried_out calc standing (command.Set quote value) = quiet (moved (number_of standing quote) (Some value) standing)
-carried_out calc standing (command.Ask name) = shown calc name (number_of standing name) standing
-carried_out calc standing other = quiet standing
+-- a command that is refused writes one line and changes nothing
+abbrev pub done_as : Calc → Standing → Command → Result Act Refusal → Turn
+done_as calc p c (Err refusal) =
+    record { lines = refusal_line p.names p.of_object (command_word c) refusal; calls = []; next = p }
+done_as calc p c (Ok a) = effect_of calc p a
 
--- a refused command writes one line and changes nothing
-abbrev pub unless_refused : Option Refusal → Calc → Standing → Command → Turn
-unless_refused (Some refusal) calc standing command = record { lines = refusal_line standing.names standing.of_object (command_word command) refusal; calls = []; next = standing }
-unless_refused None calc standing command = carried_out calc standing command
-
+-- A round is the command alone, as long as no command makes a watcher.
 unfoldable pub turn : Calc → Standing → Command → Turn
-turn calc standing command = unless_refused (refusal_of standing command) calc standing command
+turn calc p c = done_as calc p c (resolve p c)

@@ -1,9 +1,20 @@
-//! What a session with names does, said without the code that does it: when a command is refused, what it changes, the
+//! What a session with names does, said without the code that does it: what a command resolves to, what it changes, the
 //! lines and the computations that it gives, and the transcript of all its commands.
 //!
-//! `Wanted`. Words of `specs/`: `Standing`, `object_named`, `refusal_of`, `turn`, `transcript`, `calls_of`.
+//! `Act`, `Place`, `MOST_LIVE`, `MOST_NUMBERS`. Words of `specs/`: `Standing`, `resolve`, `step`, `Turn`, `turn`,
+//! `rounds`, `transcript`, `calls_of`.
+//! Its functions without a body are laws: their contracts are what is proved.
 #![tactic(auto)]
 
-mod wanted;
+mod act;
+mod limits;
+mod place;
+mod rows;
 
-pub use wanted::Wanted;
+pub use act::Act;
+pub use limits::{MOST_LIVE, MOST_NUMBERS};
+pub use place::Place;
+pub use rows::{
+    drops_and_cycles_are_worked_through, members_are_worked_through, refusals_are_worked_through,
+    unset_quotes_are_worked_through,
+};

@@ -1,0 +1,99 @@
+-- What a command is once its names are looked up, or why it is refused (this project's profile). The first reason in
+-- this order: it is not built; its new name is taken; another name, in the order in which they are written, is unknown
+-- or of another kind; it closes a cycle, or the object is in use; there is no room.
+use Rattle.std.specs.Prelude.{ℕ, Bool, true, false, not, ◌&&◌, ◌||◌, ◌==◌, if◌then◌else◌, [], Option, Some, None, is_some, Result, Ok, Err, ℤ, pos}
+use Rattle.std.specs.Ordering.{int_eq}
+use Rattle.desk_terms.specs.declared.terms.Terms.{Terms}
+use Rattle.desk_terms.specs.declared.terms.Terms.TheVariants as terms
+use Rattle.desk_terms.specs.declared.kind.Wanted.TheVariants as wanted
+use Rattle.desk_model.specs.Market.{Market, kind_at, least_user}
+use Rattle.desk_model.specs.Links.{reaches}
+use Rattle.session_commands.specs.declared.command.Command.{Command}
+use Rattle.session_commands.specs.declared.command.Command.TheVariants as command
+use Rattle.session_commands.specs.declared.refusal.Refusal.{Refusal}
+use Rattle.session_commands.specs.declared.refusal.Refusal.TheVariants.{Unknown, Taken, Kind, Cycle, InUse, TooMany, Unbuilt}
+use Rattle.session_model.specs.declared.act.Act.{Act}
+use Rattle.session_model.specs.declared.act.Act.TheVariants as act
+use Rattle.session_model.specs.declared.place.Place.{Place}
+use Rattle.session_model.specs.declared.place.Place.TheVariants as place
+use Rattle.session_model.specs.Place.{takes_found}
+use Rattle.session_model.specs.Standing.{Standing, object_named, is_full}
+
+-- a name is found, or refused
+abbrev pub found : Place → Market → ℕ → Option ℕ → Result ℕ Refusal
+found p market name None = Err (Unknown name)
+found p market name (Some o) = if takes_found p (kind_at market o) then Ok o else Err (Kind name)
+
+unfoldable pub find : Place → Standing → ℕ → Result ℕ Refusal
+find p standing name = found p standing.state.market name (object_named standing name)
+
+unfoldable pub with_found : Result ℕ Refusal → (ℕ → Result Act Refusal) → Result Act Refusal
+with_found (Ok o) rest = rest o
+with_found (Err refusal) rest = Err refusal
+
+-- what refuses after the names
+unfoldable pub unless : Bool → Refusal → Act → Result Act Refusal
+unless is_refused refusal a = if is_refused then Err refusal else Ok a
+
+unfoldable pub unless_used : Option ℕ → Act → Result Act Refusal
+unless_used (Some user) a = Err (InUse user)
+unless_used None a = Ok a
+
+-- whether an edge from the holder to the target would close a cycle
+abbrev pub closes : Market → ℕ → ℕ → Bool
+closes market holder target = (target == holder) || reaches market target holder
+
+-- a weight of 0 brings no member
+abbrev pub joins : ℤ → Market → ℕ → ℕ → Bool
+joins weight market holder target = not (int_eq weight (pos 0)) && closes market holder target
+
+-- a new object needs room, and a name that no live object has
+abbrev pub made : Standing → ℕ → Terms → Result Act Refusal
+made p name t = unless (is_full p.state.market) TooMany (act.Make name t)
+
+unfoldable pub unless_taken : Standing → ℕ → Result Act Refusal → Result Act Refusal
+unless_taken p name rest = if is_some (object_named p name) then Err (Taken name) else rest
+
+abbrev pub quote_input : Place
+quote_input = place.Input wanted.QuoteInput
+
+abbrev pub member : Place
+member = place.Input wanted.Member
+
+-- two inputs that give rates
+abbrev pub derived : Standing → ℕ → Bool → ℕ → ℕ → Result Act Refusal
+derived p name minus a b =
+    with_found (find quote_input p a)
+    (λ x. with_found (find quote_input p b) (λ y. made p name (terms.Derived minus x y)))
+
+unfoldable pub resolve : Standing → Command → Result Act Refusal
+resolve p (command.Quote name value) = unless_taken p name (made p name (terms.Quote value))
+resolve p (command.Sum name a b) = unless_taken p name (derived p name false a b)
+resolve p (command.Difference name a b) = unless_taken p name (derived p name true a b)
+resolve p (command.Handle name is_curve) = Err Unbuilt
+resolve p (command.Stock name q) =
+    unless_taken p name (with_found (find quote_input p q) (λ x. made p name (terms.Stock x)))
+resolve p (command.Composite name) = unless_taken p name (made p name (terms.Composite []))
+resolve p (command.Member k i weight) =
+    with_found (find place.Composite p k)
+    (λ x. with_found (find member p i) (λ y. unless (joins weight p.state.market x y) Cycle (act.Member x y weight)))
+resolve p (command.Set q value) = with_found (find place.Quote p q) (λ x. Ok (act.Set x (Some value)))
+resolve p (command.Unset q) = with_found (find place.Quote p q) (λ x. Ok (act.Set x None))
+resolve p (command.Link h t) = Err Unbuilt
+resolve p (command.Unlink h) = Err Unbuilt
+resolve p (command.Engine i e) = Err Unbuilt
+resolve p (command.Today day) = Err Unbuilt
+resolve p (command.Fixing x day rate) = Err Unbuilt
+resolve p (command.Freeze o) = Err Unbuilt
+resolve p (command.Thaw o) = Err Unbuilt
+resolve p (command.Recalc o) = Err Unbuilt
+resolve p (command.Forward o is_on) = Err Unbuilt
+resolve p command.Defer = Err Unbuilt
+resolve p command.Resume = Err Unbuilt
+resolve p (command.Watch w action) = Err Unbuilt
+resolve p (command.Register w o) = Err Unbuilt
+resolve p (command.Unregister w o) = Err Unbuilt
+resolve p (command.Drop o) =
+    with_found (find place.Droppable p o) (λ x. unless_used (least_user p.state.market x) (act.Drop x))
+resolve p (command.Ask o) = with_found (find place.Priced p o) (λ x. Ok (act.Ask o x))
+resolve p (command.Df c day) = Err Unbuilt

@@ -1,0 +1,131 @@
+-- Sessions worked through by hand.
+use Rattle.std.specs.Prelude.{◌≡◌, ℕ, ◌*◌, Bool, true, List, [], ◌∷◌, ◌++◌, codes, ℤ, pos, neg_ℤ, ◌*ℤ◌, ◌+ℤ◌, Some, None, Ok, Err}
+use Rattle.fixed_amount.specs.Rounding.{closest}
+use Rattle.desk_terms.specs.declared.terms.Terms.{Terms}
+use Rattle.desk_terms.specs.declared.terms.Terms.TheVariants as terms
+use Rattle.desk_terms.specs.declared.terms.Part.{Part}
+use Rattle.desk_terms.specs.declared.value.Input as input
+use Rattle.desk_terms.specs.declared.value.Value.TheVariants.{Money}
+use Rattle.desk_terms.specs.declared.cause.Cause.TheVariants.{TooLarge}
+use Rattle.desk_terms.specs.Reading.{Outcome, Calc}
+use Rattle.session_commands.specs.declared.command.Command.{Command}
+use Rattle.session_commands.specs.declared.command.Command.TheVariants.{Quote, Sum, Difference, Stock, Composite, Member, Set, Unset, Freeze, Drop, Ask, Df}
+use Rattle.session_model.specs.Standing.{Standing, start_of}
+use Rattle.session_model.specs.Rounds.{transcript, calls_of}
+
+-- a stock is worth its quote, rounded from units of 10^-9 to units of 10^-6, and a composite the weighted sum of its
+-- members
+abbrev pub weighted : List Part → List input.Input → ℤ
+weighted [] inputs = pos 0
+weighted (part ∷ parts) [] = pos 0
+weighted (part ∷ parts) (input.TheVariants.Money amount ∷ inputs) = (part.weight *ℤ amount) +ℤ weighted parts inputs
+weighted (part ∷ parts) (input.TheVariants.Rate rate ∷ inputs) = pos 0
+
+abbrev pub rate_of : List input.Input → ℤ
+rate_of [] = pos 0
+rate_of (input.TheVariants.Rate rate ∷ inputs) = rate
+rate_of (input.TheVariants.Money amount ∷ inputs) = pos 0
+
+abbrev pub hand_price : ℕ → Terms → List input.Input → Outcome
+hand_price o (terms.Stock quote) inputs = Ok (Money (closest (rate_of inputs) 1000))
+hand_price o (terms.Composite parts) inputs = Ok (Money (weighted parts inputs))
+hand_price o (terms.Quote value) inputs = Err (TooLarge o)
+hand_price o (terms.Derived minus first second) inputs = Err (TooLarge o)
+hand_price o (terms.Handle kind target) inputs = Err (TooLarge o)
+hand_price o (terms.Curve terms) inputs = Err (TooLarge o)
+hand_price o (terms.Implied curve reference) inputs = Err (TooLarge o)
+hand_price o (terms.Index terms fixings) inputs = Err (TooLarge o)
+hand_price o (terms.Engine curve) inputs = Err (TooLarge o)
+hand_price o (terms.Flows flows engine) inputs = Err (TooLarge o)
+
+abbrev pub by_hand : Calc
+by_hand reading = hand_price reading.object reading.terms reading.inputs
+
+-- a session of the names `today`, `q`, `s`, `z`, `a`, `b`, `t`, `k`, `l` and `d`, by the numbers 0 to 9
+abbrev pub some_session : Standing
+some_session = start_of (pos 0)
+    (codes "today" ∷ codes "q" ∷ codes "s" ∷ codes "z" ∷ codes "a" ∷ codes "b" ∷ codes "t" ∷ codes "k" ∷ codes "l" ∷
+    codes "d" ∷ []) []
+
+abbrev pub written : List Command → List ℕ
+written commands = transcript by_hand some_session commands
+
+abbrev pub computed : List Command → List (ℕ × Bool)
+computed commands = calls_of by_hand some_session commands
+
+-- so many units of a quote
+abbrev pub units : ℕ → ℤ
+units n = pos (n * 1_000_000_000)
+
+-- a stock `s` on the quote `q`
+abbrev pub with_stock : ℤ → List Command → List Command
+with_stock value commands = Quote 1 (Some value) ∷ Stock 2 1 ∷ commands
+
+pub record AreRefused : Type 0 where
+  pub nothing : written [] ≡ []
+  pub names : written (Set 3 (units 1) ∷ Quote 1 (Some (units 1)) ∷ Quote 1 (Some (units 2)) ∷ Ask 1 ∷ Drop 0 ∷ [])
+      ≡ codes "refused set unknown z\nrefused quote taken q\nrefused ask kind q\nrefused drop kind today\n"
+  pub places : written (Quote 1 (Some (units 1)) ∷ Stock 2 3 ∷ Stock 1 1 ∷ Stock 2 1 ∷ Set 2
+      (units 2) ∷ Freeze 2 ∷ Df 3 (pos 0) ∷ Ask 2 ∷ [])
+      ≡ codes "refused stock unknown z\nrefused stock taken q\nrefused set kind s\n"
+      ++ codes "refused freeze unbuilt\nrefused df unbuilt\ns 1.000000 fresh 1\n"
+  pub today : written (Quote 0
+      (Some (units 1)) ∷ Ask 0 ∷ Stock 2
+      0 ∷ []) ≡ codes "refused quote taken today\nrefused ask kind today\nrefused stock kind today\n"
+  pub order : written (with_stock (units 1)
+      (Sum 2 3 3 ∷ Sum 9 2 3 ∷ Sum 9 3 2 ∷ Member 3 1 (pos 1) ∷ Member 2 3 (pos 1) ∷ Composite 7 ∷ Member 7 1
+      (pos 1) ∷ []))
+      ≡ codes "refused sum taken s\nrefused sum kind s\nrefused sum unknown z\n"
+      ++ codes "refused member unknown z\nrefused member kind s\nrefused member kind q\n"
+
+pub record AreUnset : Type 0 where
+  pub set : written (Quote 1 None ∷ Stock 2 1 ∷ Ask 2 ∷ Set 1
+      (units 2) ∷ Ask 2 ∷ []) ≡ codes "s refused unset q 0\ns 2.000000 fresh 1\n"
+  pub unset_again : written
+      (Quote 1 None ∷ Stock 2 1 ∷ Ask 2 ∷ Set 1 (units 1) ∷ Ask 2 ∷ Unset 1 ∷ Unset 1 ∷ Ask 2 ∷ [])
+      ≡ codes "s refused unset q 0\ns 1.000000 fresh 1\ns refused unset q 0\n"
+  pub equal_value : written
+      (with_stock (pos 1_500_000_000)
+      (Ask 2 ∷ Set 1 (pos 1_500_000_000) ∷ Ask 2 ∷ [])) ≡ codes "s 1.500000 fresh 1\ns 1.500000 fresh 0\n"
+  pub halves_of_a_unit : written
+      (with_stock (pos 500)
+      (Ask 2 ∷ Set 1 (neg_ℤ (pos 500)) ∷ Ask 2 ∷ [])) ≡ codes "s 0.000001 fresh 1\ns -0.000001 fresh 1\n"
+
+-- the composite `k` of two stocks, `s` twice and `t` taken away
+abbrev pub two_stocks : List Command → List Command
+two_stocks commands =
+    Quote 4 (Some (pos 1_500_000_000)) ∷ Quote 5
+    (Some (pos 500_000_000)) ∷ Stock 2 4 ∷ Stock 6 5 ∷ Composite 7 ∷ Member 7 2 (pos 2) ∷ Member 7 6
+    (neg_ℤ (pos 1)) ∷ commands
+
+pub record AreMembers : Type 0 where
+  pub lines : written (two_stocks
+      (Ask 7 ∷ Set 4 (units 2) ∷ Ask 7 ∷ [])) ≡ codes "k 2.500000 fresh 3\nk 3.500000 fresh 2\n"
+  pub calls : computed (two_stocks (Ask 7 ∷ Set 4 (units 2) ∷ Ask 7 ∷ [])) ≡ (3, true) ∷ (4, true) ∷ (5, true) ∷ (
+    3,
+    true,
+  ) ∷ (5, true) ∷ []
+  pub weights : written
+      (two_stocks (Ask 7 ∷ Member 7 2 (pos 2) ∷ Ask 7 ∷ Member 7 2 (pos 3) ∷ Ask 7 ∷ Member 7 6
+      (pos 0) ∷ Ask 7 ∷ Member 7 6 (pos 0) ∷ Ask 7 ∷ []))
+      ≡ codes "k 2.500000 fresh 3\nk 2.500000 fresh 0\nk 4.000000 fresh 1\nk 4.500000 fresh 1\nk 4.500000 fresh 0\n"
+
+pub record AreDropped : Type 0 where
+  pub derived : written
+      (Quote 4 (Some (units 1)) ∷ Quote 5 (Some (pos 400_000_000)) ∷ Difference 9 4 5 ∷ Stock 2 9 ∷ Ask 2 ∷ Set 5
+      (pos 500_000_000) ∷ Ask 2 ∷ Drop 9 ∷ Drop 2 ∷ Drop 9 ∷ Ask 2 ∷ [])
+      ≡ codes "s 0.600000 fresh 1\ns 0.500000 fresh 1\nrefused drop inuse s\nrefused ask unknown s\n"
+  pub cycle : written (Composite 7 ∷ Composite 8 ∷ Member 7 8 (pos 1) ∷ Member 8 7 (pos 1) ∷ Member 7 7
+      (pos 1) ∷ Ask 7 ∷ Member 7 8 (pos 0) ∷ Ask 7 ∷ [])
+      ≡ codes "refused member cycle\nrefused member cycle\nk 0.000000 fresh 2\nk 0.000000 fresh 1\n"
+  pub weightless : written
+      (Composite 7 ∷ Composite 8 ∷ Member 7 8 (pos 1) ∷ Member 8 7 (pos 0) ∷ Member 7 7
+      (pos 0) ∷ Ask 8 ∷ []) ≡ codes "l 0.000000 fresh 1\n"
+  pub least_user : written (two_stocks (Composite 8 ∷ Member 8 2 (pos 1) ∷ Drop 2 ∷ Drop 7 ∷ Drop 2 ∷ []))
+      ≡ codes "refused drop inuse k\nrefused drop inuse l\n"
+  pub name_again : written
+      (with_stock (units 1)
+      (Ask 2 ∷ Drop 2 ∷ Ask 2 ∷ Stock 2 1 ∷ Ask 2 ∷ [])) ≡ codes
+      "s 1.000000 fresh 1\nrefused ask unknown s\ns 1.000000 fresh 1\n"
+  pub number_anew : computed
+      (with_stock (units 1) (Ask 2 ∷ Drop 2 ∷ Stock 2 1 ∷ Ask 2 ∷ [])) ≡ (2, true) ∷ (3, true) ∷ []

@@ -1,0 +1,22 @@
+// The definitions checked against sessions that were worked through by hand.
+ghost use Rattle.session_model.specs.Rows.{AreRefused, AreUnset, AreMembers, AreDropped};
+
+/// Each refusal comes in its order.
+pub fn refusals_are_worked_through()
+    ensures { AreRefused }
+{}
+
+/// A quote without a value refuses the price, and a value that is taken away does so again.
+pub fn unset_quotes_are_worked_through()
+    ensures { AreUnset }
+{}
+
+/// A composite is computed after its members, and after a move those alone that it reached.
+pub fn members_are_worked_through()
+    ensures { AreMembers }
+{}
+
+/// A composite reaches itself by no path, and an object that is used is not dropped.
+pub fn drops_and_cycles_are_worked_through()
+    ensures { AreDropped }
+{}

@@ -1,3 +1,5 @@
+pub mod Alike
+pub mod Making
 pub mod Naming
-pub mod Allowed
+pub mod Resolved
 pub mod Turns

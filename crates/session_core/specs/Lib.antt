@@ -1,3 +1,3 @@
+pub mod Allowed
 pub mod HasNames
 pub mod Steps
-pub mod Rows

@@ -1,15 +1,96 @@
--- What one command does.
-use Rattle.std.specs.Prelude.{◌≡◌, ◌++◌, ℕ, Bool, List, length, Option}
-use Rattle.desk_terms.specs.Reading.{Calc}
+-- What one command does, whether it ends or memory runs out in it.
+use Rattle.std.specs.Prelude.{◌≡◌, ◌++◌, ◌+◌, ◌≤◌, ℕ, Bool, List, [], ◌∷◌, length, take, Option, Result, Ok, Err, IsOk}
+use Rattle.desk_terms.specs.declared.terms.Terms.{Terms}
+use Rattle.desk_terms.specs.Reading.{Outcome, Calc}
 use Rattle.desk_terms.specs.Bench.{counted, logged}
-use Rattle.session_lang.specs.declared.command.Command.{Command}
+use Rattle.desk_model.specs.State.{State}
+use Rattle.desk_model.specs.Visit.{runs, stored}
+use Rattle.desk_model.specs.Effect as effect
+use Rattle.session_commands.specs.declared.command.Command.{Command}
+use Rattle.session_commands.specs.declared.refusal.Refusal.{Refusal}
+use Rattle.session_core.specs.declared.fault.MakeFault.{MakeFault}
+use Rattle.session_core.specs.declared.fault.MakeFault.TheVariants.{Refused, NoMemory}
+use Rattle.session_model.specs.declared.act.Act.{Act}
+use Rattle.session_model.specs.declared.act.Act.TheVariants as act
 use Rattle.session_model.specs.Standing.{Standing}
-use Rattle.session_model.specs.Turn.{turn}
+use Rattle.session_model.specs.Resolve.{resolve}
+use Rattle.session_model.specs.Turn.{Turn, turn, effect_of}
 
--- The next session, the lines appended and the computations are those of the definition: an ask makes the bench calls of
--- the definition in their order, and no other command makes any.
-pub record Steps (calc : Calc) (command : Command) (old new : Standing) (lines_old lines_new : List ℕ) (count_old count_new : ℕ) (log_old log_new : Option (List (ℕ × Bool))) : Type 0 where
-  pub next : new ≡ (turn calc old command).next
-  pub written : lines_new ≡ lines_old ++ (turn calc old command).lines
-  pub count : count_new ≡ counted count_old (length (turn calc old command).calls)
-  pub log : log_new ≡ logged log_old (turn calc old command).calls
+-- another state of the objects
+abbrev pub with_state : State → Standing → Standing
+with_state state p = record p { state = state }
+
+-- one object more, which has this name and these terms
+abbrev pub with_object : ℕ → Terms → Standing → Standing
+with_object name terms p = record p { state = effect.made terms p.state; of_object = p.of_object ++ name ∷ [] }
+
+abbrev Log : Type 0
+Log = Option (List (ℕ × Bool))
+
+-- The next session, the lines appended and the computations are those of a turn: what a bench tells of its calls has
+-- grown by them, in their order.
+pub record Does (t : Turn) (new : Standing) (lines_old lines_new : List ℕ) (count_old count_new : ℕ)
+    (log_old log_new : Option (List (ℕ × Bool))) : Type 0 where
+  pub next : new ≡ t.next
+  pub written : lines_new ≡ lines_old ++ t.lines
+  pub count : count_new ≡ counted count_old (length t.calls)
+  pub log : log_new ≡ logged log_old t.calls
+
+-- Memory ran out in a turn: a front of its computations was begun, and all of these ended but the last one at most; the
+-- stored values are those that they left, a front of its lines was appended, and all else is as it was.
+pub record Ends (t : Turn) (outcomes : List (ℕ × Outcome)) (old new : Standing) (lines_old lines_new : List ℕ)
+    (count_old count_new : ℕ) (log_old log_new : Option (List (ℕ × Bool))) : Type 0 where
+  pub begun : ℕ
+  pub ended : ℕ
+  pub shown : ℕ
+  pub most : begun ≤ length t.calls
+  pub last : (ended ≤ begun) × (begun ≤ ended + 1)
+  pub count : count_new ≡ counted count_old begun
+  pub log : log_new ≡ logged log_old (take ended t.calls)
+  pub written : lines_new ≡ lines_old ++ take shown t.lines
+  pub state : new.state ≡ stored old.state (take ended outcomes)
+  pub others : new ≡ record old { state = new.state; stopped = new.stopped }
+
+-- the computations of an act, each with its outcome
+abbrev pub act_outcomes : Calc → State → Act → List (ℕ × Outcome)
+act_outcomes calc s (act.Make name terms) = []
+act_outcomes calc s (act.Set quote value) = []
+act_outcomes calc s (act.Member composite member weight) = []
+act_outcomes calc s (act.Drop object) = []
+act_outcomes calc s (act.Ask name object) = runs calc s object
+
+abbrev pub outcomes_of : Calc → State → Result Act Refusal → List (ℕ × Outcome)
+outcomes_of calc s (Err refusal) = []
+outcomes_of calc s (Ok a) = act_outcomes calc s a
+
+-- an act does what the definition says
+abbrev pub Carries : Calc → Act → Standing → Standing → List ℕ → List ℕ → ℕ → ℕ → Option (List (ℕ × Bool))
+    → Option (List (ℕ × Bool)) → Type 0
+Carries calc a old new lines_old lines_new count_old count_new log_old log_new =
+    Does (effect_of calc old a) new lines_old lines_new count_old count_new log_old log_new
+
+abbrev pub BreaksOff : Calc → Act → Standing → Standing → List ℕ → List ℕ → ℕ → ℕ → Option (List (ℕ × Bool))
+    → Option (List (ℕ × Bool)) → Type 0
+BreaksOff calc a old new lines_old lines_new count_old count_new log_old log_new =
+    Ends (effect_of calc old a) (act_outcomes calc old.state a) old new lines_old lines_new count_old count_new
+    log_old log_new
+
+-- A COMMAND DOES ITS TURN
+abbrev pub Steps : Calc → Command → Standing → Standing → List ℕ → List ℕ → ℕ → ℕ → Option (List (ℕ × Bool))
+    → Option (List (ℕ × Bool)) → Type 0
+Steps calc c old new lines_old lines_new count_old count_new log_old log_new =
+    Does (turn calc old c) new lines_old lines_new count_old count_new log_old log_new
+
+-- MEMORY RUNS OUT IN IT
+abbrev pub Stops : Calc → Command → Standing → Standing → List ℕ → List ℕ → ℕ → ℕ → Option (List (ℕ × Bool))
+    → Option (List (ℕ × Bool)) → Type 0
+Stops calc c old new lines_old lines_new count_old count_new log_old log_new =
+    Ends (turn calc old c) (outcomes_of calc old.state (resolve old c)) old new lines_old lines_new count_old
+    count_new log_old log_new
+
+-- An object is made where the definition makes it, and refused where it refuses; memory is wanted only where it is not
+-- refused.
+abbrev pub AnswersMake : Result Act Refusal → Result ℕ MakeFault → Type 0
+AnswersMake wanted (Ok object) = IsOk wanted
+AnswersMake wanted (Err (Refused refusal)) = wanted ≡ Err refusal
+AnswersMake wanted (Err NoMemory) = IsOk wanted

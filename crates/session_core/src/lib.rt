@@ -1,12 +1,12 @@
-//! A session with names: which object a name stands for, when a command is refused, and what it does, writes and
+//! A session with names: which object a name stands for, what a command resolves to, and what it does, writes and
 //! computes. Each command is one turn of the definition.
-//! Offers `Session`. Its function without a body is a law: its contract is what is proved.
+//! Offers `Session` and `MakeFault`.
 #![tactic(auto)]
 
-mod rows;
+mod acting;
+mod fault;
+mod resolving;
 mod session;
-#[cfg(test)]
-mod tests;
 
-pub use rows::the_rows_are_worked_through;
+pub use fault::MakeFault;
 pub use session::Session;

@@ -1,38 +1,95 @@
-use Rattle.std.proofs.Common.{Option, Bool, false, sym, ◌∙◌, ap, subst}
-use Rattle.std.specs.Prelude.{OnOk}
-use Rattle.desk_model.specs.State.{State, seen}
+use Rattle.std.proofs.Common.{Option, refl, sym, subst}
+use Rattle.std.specs.Prelude.{OnOk, OnErr}
 use Rattle.desk_terms.specs.declared.value.Value.{Value}
 use Rattle.desk_terms.specs.Asked.{Shows}
 use Rattle.desk_terms.specs.Reading.{Calc}
-use Rattle.session_lang.specs.declared.command.Command.TheVariants.{Ask}
+use Rattle.desk_model.specs.State.{shows}
+use Rattle.session_model.specs.declared.act.Act.TheVariants as act
 use Rattle.session_model.specs.Standing.{Standing}
-use Rattle.session_model.specs.Refused.{refusal_of}
-use Rattle.session_model.specs.Turn.{number_of}
-use Rattle.session_core.specs.Steps.{Steps}
-use Rattle.session_core.proofs.Naming.{names_kept}
-use Rattle.session_core.proofs.Turns.{steps_asked, asked_market, on_ok}
+use Rattle.session_core.specs.Steps.{Carries, BreaksOff}
+use Rattle.session_core.proofs.Naming.{names_alike}
+use Rattle.session_core.proofs.Alike.{stored_alike, asked_alike}
+use Rattle.session_core.proofs.Turns.{ask_carries, ask_breaks, ask_unwritten, on_err, on_ok, on_err_of}
 use Rattle.session_core.proofs.session.Session.ask.Goals as goal
 
+pub invariant_of-self : goal.invariant_of-self
+invariant_of-self g c =
+    let stops = c.in_err-asked.ensures.stops in
+    names_alike _ c.self.inside.of_name.items c.self.inside.live c.ask.new.self c.self.inside.stopped
+    (stored_alike c.self.inside.desk c.ask.new.self stops.front stops.state) c.self.invariant
+
+pub returns-in_err-asked-clause-stops : goal.returns-in_err-asked-clause-stops
+returns-in_err-asked-clause-stops g c =
+    let calc : Calc = g.B.Bench.calc c.args.bench.now in
+    let p : Standing = record {
+      state = c.self.inside.desk;
+      names = c.self.inside.names;
+      of_object =
+          c.self.inside.of_object;
+      actions = c.self.inside.actions;
+      stopped = c.self.inside.stopped;
+    } in
+    on_err c.from_residual.result
+    (subst (λ (q : Standing). BreaksOff calc (act.Ask c.args.name c.args.object) q
+    (record p { state = c.ask.new.self }) c.args.lines.now.items c.args.lines.now.items
+    (g.B.Bench.count c.args.bench.now) (g.B.Bench.count c.ask.new.bench) (g.B.Bench.log c.args.bench.now)
+    (g.B.Bench.log c.ask.new.bench)) c.self.view_is
+    (ask_breaks calc c.args.name c.args.object p
+    (record p { state = c.ask.new.self }) c.args.lines.now.items c.args.lines.now.items
+    (g.B.Bench.count c.args.bench.now) (g.B.Bench.count c.ask.new.bench) (g.B.Bench.log c.args.bench.now)
+    (g.B.Bench.log c.ask.new.bench) c.in_err-asked.ensures.stops refl refl))
+
 pub invariant_of-self-2 : goal.invariant_of-self-2
-invariant_of-self-2 g c _ =
-    let s : Standing = record { state = c.self.inside.desk; names = c.self.inside.names; of_object = c.self.inside.of_object; stopped = c.self.inside.stopped } in
-    names_kept s c.ask.new.self false c.self.inside.of_name.items c.self.inside.live
-    (ap (λ (state : State). state.market) c.in_ok-asked.ensures.asks.state ∙ asked_market (g.B.Bench.calc c.args.bench.now) c.number_of-object.result c.self.inside.desk)
-    (c.self.invariant (ap (λ (t : Standing). t.stopped) c.self.view_is ∙ c.requires.running))
+invariant_of-self-2 g c =
+    names_alike _ c.self.inside.of_name.items c.self.inside.live c.ask.new.self c.self.inside.stopped
+    (asked_alike (g.B.Bench.calc c.args.bench.now) c.self.inside.desk c.ask.new.self c.args.object
+    c.in_ok-asked.ensures.asks.state) c.self.invariant
 
 pub returns-clause-steps : goal.returns-clause-steps
 returns-clause-steps g c =
     let calc : Calc = g.B.Bench.calc c.args.bench.now in
-    let s : Standing = record { state = c.self.inside.desk; names = c.self.inside.names; of_object = c.self.inside.of_object; stopped = c.self.inside.stopped } in
-    let next : Bool → Standing = λ b. record { state = c.ask.new.self; names = c.self.inside.names; of_object = c.self.inside.of_object; stopped = b } in
+    let p : Standing = record {
+      state = c.self.inside.desk;
+      names = c.self.inside.names;
+      of_object =
+          c.self.inside.of_object;
+      actions = c.self.inside.actions;
+      stopped = c.self.inside.stopped;
+    } in
     let asks = c.in_ok-asked.ensures.asks in
-    let o = c.number_of-object.result in
-    subst (λ (t : Standing). OnOk c.asked_line.result (Steps calc (Ask c.args.name) t (next false) c.args.lines.now.items c.asked_line.new.out.items
-    (g.B.Bench.count c.args.bench.now) (g.B.Bench.count c.ask.new.bench) (g.B.Bench.log c.args.bench.now) (g.B.Bench.log c.ask.new.bench))) c.self.view_is
+    subst (λ (q : Standing). OnOk c.asked_line.result
+    (Carries calc (act.Ask c.args.name c.args.object) q
+    (record p { state = c.ask.new.self }) c.args.lines.now.items c.asked_line.new.out.items
+    (g.B.Bench.count c.args.bench.now) (g.B.Bench.count c.ask.new.bench) (g.B.Bench.log c.args.bench.now)
+    (g.B.Bench.log c.ask.new.bench))) c.self.view_is
     (on_ok c.asked_line.result
-    (λ written. steps_asked calc c.args.name o s (next false) c.args.lines.now.items c.asked_line.new.out.items c.in_ok-asked.asked (g.B.Bench.count c.args.bench.now) (g.B.Bench.count c.ask.new.bench)
-    (g.B.Bench.log c.args.bench.now) (g.B.Bench.log c.ask.new.bench)
-    (ap (λ (t : Standing). refusal_of t (Ask c.args.name)) c.self.view_is ∙ c.requires.allowed)
-    (c.number_of-object.ensures ∙ ap (λ (t : Standing). number_of t c.args.name) (sym c.self.view_is))
-    asks (ap next (sym (ap (λ (t : Standing). t.stopped) c.self.view_is ∙ c.requires.running))) written)
-    (c.asked_line.ensures.ok (seen calc c.self.inside.desk o) (subst (λ (l : Option Value). Shows c.in_ok-asked.asked.cause l (seen calc c.self.inside.desk o)) (sym c.last.ensures) asks.shown)))
+    (ask_carries calc c.args.name c.args.object p
+    (record p { state = c.ask.new.self }) c.args.lines.now.items c.asked_line.new.out.items c.in_ok-asked.asked
+    (g.B.Bench.count c.args.bench.now) (g.B.Bench.count c.ask.new.bench) (g.B.Bench.log c.args.bench.now)
+    (g.B.Bench.log c.ask.new.bench) asks refl)
+    (c.asked_line.ensures.ok (shows calc c.self.inside.desk c.args.object)
+    (subst (λ (l : Option Value). Shows c.in_ok-asked.asked.cause l (shows calc c.self.inside.desk c.args.object))
+    (sym c.last.ensures) asks.shown)))
+
+pub returns-clause-stops : goal.returns-clause-stops
+returns-clause-stops g c =
+    let calc : Calc = g.B.Bench.calc c.args.bench.now in
+    let p : Standing = record {
+      state = c.self.inside.desk;
+      names = c.self.inside.names;
+      of_object =
+          c.self.inside.of_object;
+      actions = c.self.inside.actions;
+      stopped = c.self.inside.stopped;
+    } in
+    subst (λ (q : Standing). OnErr c.asked_line.result
+    (BreaksOff calc (act.Ask c.args.name c.args.object) q
+    (record p { state = c.ask.new.self }) c.args.lines.now.items c.asked_line.new.out.items
+    (g.B.Bench.count c.args.bench.now) (g.B.Bench.count c.ask.new.bench) (g.B.Bench.log c.args.bench.now)
+    (g.B.Bench.log c.ask.new.bench))) c.self.view_is
+    (on_err_of c.asked_line.result
+    (ask_unwritten calc c.args.name c.args.object p
+    (record p { state = c.ask.new.self }) c.args.lines.now.items c.asked_line.new.out.items c.in_ok-asked.asked
+    (g.B.Bench.count c.args.bench.now) (g.B.Bench.count c.ask.new.bench) (g.B.Bench.log c.args.bench.now)
+    (g.B.Bench.log c.ask.new.bench) c.in_ok-asked.ensures.asks refl)
+    c.asked_line.ensures.err)

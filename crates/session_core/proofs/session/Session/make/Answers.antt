@@ -1,13 +1,26 @@
-use Rattle.std.proofs.Common.{◌<◌, length, sym, ◌∙◌, ap, subst}
-use Rattle.session_model.specs.Standing.{Standing, object_named}
-use Rattle.session_core.proofs.Naming.{names_with}
+use Rattle.std.proofs.Common.{sym, ◌∙◌}
+use Rattle.session_core.proofs.Making.{answers_refused, answers_memory, taken_refuses, full_refuses, is_made}
 use Rattle.session_core.proofs.session.Session.make.Goals as goal
 
-pub invariant_of-self-2 : goal.invariant_of-self-2
-invariant_of-self-2 c _ =
-    let s : Standing = record { state = c.self.inside.desk; names = c.self.inside.names; of_object = c.self.inside.of_object; stopped = c.self.inside.stopped } in
-    names_with s c.args.name c.place.result c.len.result c.args.terms c.self.inside.of_name.items c.self.inside.live c.make.new.self c.push.new.self
-    c.in_ok-make.ensures.made c.in_ok-push.ensures.ok c.place.ensures c.len.ensures
-    (ap (λ (t : Standing). object_named t c.args.name) c.self.view_is ∙ c.requires.fresh)
-    (subst (λ (t : Standing). c.args.name < length t.names) (sym c.self.view_is) c.requires.named)
-    (c.self.invariant (ap (λ (t : Standing). t.stopped) c.self.view_is ∙ c.requires.running))
+pub returns-in_err-free-clause-answer : goal.returns-in_err-free-clause-answer
+returns-in_err-free-clause-answer c =
+    answers_refused _ c.from_residual.result c.in_err-free.field-0.0 c.from_residual.ensures.1
+    (taken_refuses c.args.self.now c.args.name c.args.terms c.in_err-free.field-0.0
+    (sym c.free.ensures ∙ c.in_err-free.was))
+
+pub returns-in_err-room-clause-answer : goal.returns-in_err-room-clause-answer
+returns-in_err-room-clause-answer c =
+    answers_refused _ c.from_residual-in_err-room.result c.in_err-room.field-0.0 c.from_residual-in_err-room.ensures.1
+    (full_refuses c.args.self.now c.args.name c.args.terms c.in_err-room.field-0.0
+    (sym c.free.ensures ∙ c.in_ok-free.was) (sym c.room.ensures ∙ c.in_err-room.was))
+
+pub returns-in_err-add-clause-answer : goal.returns-in_err-add-clause-answer
+returns-in_err-add-clause-answer c =
+    answers_memory _ c.from_residual-in_err-add.result c.from_residual-in_err-add.ensures.1
+    (is_made c.args.self.now c.args.name c.args.terms (sym c.free.ensures ∙ c.in_ok-free.was)
+    (sym c.room.ensures ∙ c.in_ok-room.was))
+
+pub returns-clause-answer : goal.returns-clause-answer
+returns-clause-answer c =
+    is_made c.args.self.now c.args.name c.args.terms (sym c.free.ensures ∙ c.in_ok-free.was)
+    (sym c.room.ensures ∙ c.in_ok-room.was)

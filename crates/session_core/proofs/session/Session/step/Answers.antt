@@ -1,8 +1,19 @@
 use Rattle.std.proofs.Common.{◌∙◌, ap}
 use Rattle.session_model.specs.Standing.{Standing}
-use Rattle.session_core.proofs.Turns.{turn_running}
+use Rattle.session_core.proofs.Turns.{turn_kept}
 use Rattle.session_core.proofs.session.Session.step.Goals as goal
+
+pub returns-in-Ok-clause-names : goal.returns-in-Ok-clause-names
+returns-in-Ok-clause-names g c =
+    ap (λ (p : Standing). p.names) c.in-Ok.ensures.steps.next
+    ∙ (turn_kept (g.B.Bench.calc c.args.bench.now) c.args.self.now c.args.command.now).1
+
+pub returns-in-Ok-clause-actions : goal.returns-in-Ok-clause-actions
+returns-in-Ok-clause-actions g c =
+    ap (λ (p : Standing). p.actions) c.in-Ok.ensures.steps.next
+    ∙ (turn_kept (g.B.Bench.calc c.args.bench.now) c.args.self.now c.args.command.now).2
 
 pub returns-in-Ok-clause-stopped : goal.returns-in-Ok-clause-stopped
 returns-in-Ok-clause-stopped g c =
-    ap (λ (s : Standing). s.stopped) c.in-Ok.ensures.steps.next ∙ turn_running (g.B.Bench.calc c.args.bench.now) c.args.self.now c.args.command.now ∙ c.requires.running
+    ap (λ (p : Standing). p.stopped) c.in-Ok.ensures.steps.next
+    ∙ (turn_kept (g.B.Bench.calc c.args.bench.now) c.args.self.now c.args.command.now).0 ∙ c.requires.running

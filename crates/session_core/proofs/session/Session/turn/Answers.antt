@@ -1,9 +1,33 @@
-use Rattle.std.proofs.Common.{refl, sym, ◌∙◌}
-use Rattle.session_core.proofs.Turns.{steps_refused, on_ok}
+use Rattle.std.proofs.Common.{sym, subst}
+use Rattle.session_model.specs.Standing.{Standing}
+use Rattle.session_core.specs.Allowed.{IsAllowed}
+use Rattle.session_core.proofs.Resolved.{allowed_act}
+use Rattle.session_core.proofs.Turns.{steps_of, stops_of, refused_steps, ends_at_once, on_err_of}
 use Rattle.session_core.proofs.session.Session.turn.Goals as goal
 
-pub returns-in-Some-clause-steps : goal.returns-in-Some-clause-steps
-returns-in-Some-clause-steps g c =
-    on_ok c.refuse.result
-    (steps_refused (g.B.Bench.calc c.args.bench.now) c.args.command.now c.args.self.now c.args.self.now c.args.lines.now.items c.refuse.new.lines.items (g.B.Bench.count c.args.bench.now) (g.B.Bench.log c.args.bench.now)
-    c.in-Some.refusal (sym c.refusal_of.ensures ∙ c.in-Some.is) refl) c.refuse.ensures.ok
+pub carry_out-requires-clause-allowed : goal.carry_out-requires-clause-allowed
+carry_out-requires-clause-allowed g c =
+    subst (λ (p : Standing). IsAllowed p c.in-Ok.act) (sym c.resolve.ensures.same)
+    (allowed_act c.args.self.now c.args.command.now c.in-Ok.act c.requires.known c.in-Ok.ensures.act)
+
+pub returns-in-Ok-clause-steps : goal.returns-in-Ok-clause-steps
+returns-in-Ok-clause-steps g c =
+    steps_of _ _ c.in-Ok.act c.resolve.new.self _ _ _ _ _ _ _ _ c.carry_out.result c.resolve.ensures.same
+    c.in-Ok.ensures.act c.carry_out.ensures.steps
+
+pub returns-in-Ok-clause-stops : goal.returns-in-Ok-clause-stops
+returns-in-Ok-clause-stops g c =
+    stops_of _ _ c.in-Ok.act c.resolve.new.self _ _ _ _ _ _ _ _ c.carry_out.result c.resolve.ensures.same
+    c.in-Ok.ensures.act c.carry_out.ensures.stops
+
+pub returns-in-Err-clause-steps : goal.returns-in-Err-clause-steps
+returns-in-Err-clause-steps g c =
+    refused_steps _ _ c.in-Err.refusal _ _ _ _ _ _ c.refuse.result c.resolve.ensures.same c.in-Err.ensures.act
+    c.refuse.ensures.ok
+
+pub returns-in-Err-clause-stops : goal.returns-in-Err-clause-stops
+returns-in-Err-clause-stops g c =
+    on_err_of c.refuse.result
+    (λ none. ends_at_once _ _ c.args.self.now c.resolve.new.self c.args.lines.now.items c.refuse.new.lines.items
+    (g.B.Bench.count c.args.bench.now) (g.B.Bench.log c.args.bench.now) c.resolve.ensures.same none)
+    c.refuse.ensures.err

@@ -1,0 +1,197 @@
+-- What a command that is not refused found.
+use Rattle.std.proofs.Common.{◌≡◌, ℕ, ◌<◌, Bool, true, false, if◌then◌else◌, length, [], Option, Some, None, Result, Ok, Err, ℤ, refl, sym, subst}
+use Rattle.std.specs.Prelude.{IfOk, is_some}
+use Rattle.std.proofs.lemmas.Bool.{false≢true}
+use Rattle.desk_terms.specs.declared.terms.Terms.{Terms}
+use Rattle.desk_terms.specs.declared.terms.Terms.TheVariants as terms
+use Rattle.desk_terms.specs.declared.kind.Kind.{Kind}
+use Rattle.desk_terms.specs.declared.kind.Kind.TheVariants as kind
+use Rattle.desk_terms.specs.declared.kind.Wanted.{Wanted}
+use Rattle.desk_terms.specs.declared.kind.Wanted.TheVariants as wanted
+use Rattle.desk_model.specs.declared.slot.Slot.{Slot}
+use Rattle.desk_model.specs.declared.slot.Slot.TheVariants.{Free, Today, Watcher, Live}
+use Rattle.desk_model.specs.Market.{Market, slot_at, is_given, kind_in, kind_at, terms_in, role_of, is_lazy, least_user}
+use Rattle.desk_model.specs.Links.{AreOfKind, serves_as}
+use Rattle.desk_terms.specs.Terms.{kind_of}
+use Rattle.lazy_objects.specs.Slots.{makes}
+use Rattle.session_commands.specs.declared.command.Command.{Command}
+use Rattle.session_commands.specs.declared.command.Command.TheVariants as command
+use Rattle.session_commands.specs.declared.refusal.Refusal.{Refusal}
+use Rattle.session_commands.specs.declared.refusal.Refusal.TheVariants as refusal
+use Rattle.session_commands.specs.Whole.{IsCommand}
+use Rattle.session_commands.specs.Parts.{parts_of}
+use Rattle.session_commands.specs.Table.{row_of}
+use Rattle.session_model.specs.declared.act.Act.{Act}
+use Rattle.session_model.specs.declared.act.Act.TheVariants as act
+use Rattle.session_model.specs.declared.place.Place.{Place}
+use Rattle.session_model.specs.declared.place.Place.TheVariants as place
+use Rattle.session_model.specs.Place.{takes_found}
+use Rattle.session_model.specs.Standing.{Standing, object_named, is_full, IsKnown}
+use Rattle.session_model.specs.Resolve.{found, find, with_found, unless, unless_used, unless_taken, joins, made, quote_input, member, resolve}
+use Rattle.session_core.specs.Allowed.{IsAllowed}
+use Rattle.session_core.proofs.Alike.{given_of_kind}
+
+-- what is found is of a kind that the place takes
+pub find_taken : (w : Place) (p : Standing) (name o : ℕ) → find w p name ≡ Ok o
+    → takes_found w (kind_at p.state.market o) ≡ true
+unfolding find
+find_taken w p name o e = by (object_named p name) e
+  where
+    pick : (x : ℕ) (b : Bool) → takes_found w (kind_at p.state.market x) ≡ b
+        → (if b then Ok x else Err (refusal.Kind name)) ≡ Ok o → takes_found w (kind_at p.state.market o) ≡ true
+    pick x true is e = let same : x ≡ o = cc in
+        subst (λ (y : ℕ). takes_found w (kind_at p.state.market y) ≡ true) same is
+    pick x false is e = absurd (cc)
+
+    by : (r : Option ℕ) → found w p.state.market name r ≡ Ok o → takes_found w (kind_at p.state.market o) ≡ true
+    by None e = absurd (cc)
+    by (Some x) e = pick x (takes_found w (kind_at p.state.market x)) refl e
+
+taken_input : (k : Option Kind) (w : Wanted) → takes_found (place.Input w) k ≡ true → serves_as k w ≡ true
+taken_input None w e = e
+taken_input (Some k) w e = e
+
+taken_quote : (k : Option Kind) → takes_found place.Quote k ≡ true → k ≡ Some kind.Quote
+taken_quote None e = absurd (false≢true e)
+taken_quote (Some kind.Today) e = absurd (false≢true e)
+taken_quote (Some kind.Quote) e = refl
+taken_quote (Some kind.Derived) e = absurd (false≢true e)
+taken_quote (Some kind.QuoteHandle) e = absurd (false≢true e)
+taken_quote (Some kind.CurveHandle) e = absurd (false≢true e)
+taken_quote (Some kind.Index) e = absurd (false≢true e)
+taken_quote (Some kind.Engine) e = absurd (false≢true e)
+taken_quote (Some kind.Curve) e = absurd (false≢true e)
+taken_quote (Some kind.Implied) e = absurd (false≢true e)
+taken_quote (Some kind.Stock) e = absurd (false≢true e)
+taken_quote (Some kind.Composite) e = absurd (false≢true e)
+taken_quote (Some kind.Flows) e = absurd (false≢true e)
+taken_quote (Some kind.Watcher) e = absurd (false≢true e)
+
+taken_composite : (k : Option Kind) → takes_found place.Composite k ≡ true → k ≡ Some kind.Composite
+taken_composite None e = absurd (false≢true e)
+taken_composite (Some kind.Today) e = absurd (false≢true e)
+taken_composite (Some kind.Quote) e = absurd (false≢true e)
+taken_composite (Some kind.Derived) e = absurd (false≢true e)
+taken_composite (Some kind.QuoteHandle) e = absurd (false≢true e)
+taken_composite (Some kind.CurveHandle) e = absurd (false≢true e)
+taken_composite (Some kind.Index) e = absurd (false≢true e)
+taken_composite (Some kind.Engine) e = absurd (false≢true e)
+taken_composite (Some kind.Curve) e = absurd (false≢true e)
+taken_composite (Some kind.Implied) e = absurd (false≢true e)
+taken_composite (Some kind.Stock) e = absurd (false≢true e)
+taken_composite (Some kind.Composite) e = refl
+taken_composite (Some kind.Flows) e = absurd (false≢true e)
+taken_composite (Some kind.Watcher) e = absurd (false≢true e)
+
+taken_lazy : (slot : Slot) → takes_found place.Priced (kind_in slot) ≡ true → is_lazy (role_of (terms_in slot)) ≡ true
+taken_lazy Free e = absurd (false≢true e)
+taken_lazy Today e = absurd (false≢true e)
+taken_lazy (Watcher action) e = absurd (false≢true e)
+taken_lazy (Live terms) e = e
+
+-- every act that these lead to is allowed
+module _ (p : Standing) where
+  abbrev AllAllowed : Result Act Refusal → Type 0
+  AllAllowed r = IfOk r (IsAllowed p)
+
+  finds : (w : Place) (name : ℕ) (rest : ℕ → Result Act Refusal)
+      → ((o : ℕ) → takes_found w (kind_at p.state.market o) ≡ true → AllAllowed (rest o))
+      → AllAllowed (with_found (find w p name) rest)
+  unfolding with_found
+  finds w name rest all = by (find w p name) refl
+    where
+      by : (r : Result ℕ Refusal) → find w p name ≡ r → AllAllowed (with_found r rest)
+      by (Ok o) e = all o (find_taken w p name o e)
+      by (Err refusal) e = tt
+
+  untaken : (name : ℕ) (rest : Result Act Refusal) → (object_named p name ≡ None → AllAllowed rest)
+      → AllAllowed (unless_taken p name rest)
+  unfolding unless_taken
+  untaken name rest all = by (object_named p name) refl
+    where
+      by : (r : Option ℕ) → object_named p name ≡ r → AllAllowed (if is_some r then Err (refusal.Taken name) else rest)
+      by None e = all e
+      by (Some o) e = tt
+
+  roomy : (name : ℕ) (t : Terms) → (is_full p.state.market ≡ false → IsAllowed p (act.Make name t))
+      → AllAllowed (made p name t)
+  unfolding unless
+  roomy name t all = by (is_full p.state.market) refl
+    where
+      by : (b : Bool) → is_full p.state.market ≡ b
+          → AllAllowed (if b then Err refusal.TooMany else Ok (act.Make name t))
+      by true e = tt
+      by false e = all e
+
+  opened : (x y : ℕ) (weight : ℤ) → (joins weight p.state.market x y ≡ false → IsAllowed p (act.Member x y weight))
+      → AllAllowed (unless (joins weight p.state.market x y) refusal.Cycle (act.Member x y weight))
+  unfolding unless
+  opened x y weight all = by (joins weight p.state.market x y) refl
+    where
+      by : (b : Bool) → joins weight p.state.market x y ≡ b
+          → AllAllowed (if b then Err refusal.Cycle else Ok (act.Member x y weight))
+      by true e = tt
+      by false e = all e
+
+  unused : (x : ℕ) → (least_user p.state.market x ≡ None → IsAllowed p (act.Drop x))
+      → AllAllowed (unless_used (least_user p.state.market x) (act.Drop x))
+  unfolding unless_used
+  unused x all = by (least_user p.state.market x) refl
+    where
+      by : (r : Option ℕ) → least_user p.state.market x ≡ r → AllAllowed (unless_used r (act.Drop x))
+      by None e = all e
+      by (Some user) e = tt
+
+  -- an object of these terms may be made under this name
+  may_make : (name : ℕ) (t : Terms) → name < length p.names → makes (kind_of t) ≡ true
+      → AreOfKind p.state.market (Some t) → object_named p name ≡ None → AllAllowed (made p name t)
+  may_make name t named is inputs free =
+      roomy name t (λ room. record { named = named; free = free; room = room; made = is; inputs = inputs })
+
+  derives : (name a b : ℕ) (minus : Bool) → name < length p.names → object_named p name ≡ None
+      → AllAllowed (with_found (find quote_input p a)
+      (λ x. with_found (find quote_input p b) (λ y. made p name (terms.Derived minus x y))))
+  derives name a b minus named free = finds quote_input a _ (λ x first. finds quote_input b _ (λ y second.
+      may_make name (terms.Derived minus x y) named refl
+      (taken_input _ wanted.QuoteInput first, (taken_input _ wanted.QuoteInput second, tt)) free))
+
+  pub allowed : (c : Command) → IsKnown p c → AllAllowed (resolve p c)
+  unfolding resolve IsCommand parts_of row_of
+  allowed (command.Quote name value) known = untaken name _ (may_make name (terms.Quote value) known.first refl tt)
+  allowed (command.Sum name a b) known = untaken name _ (derives name a b false known.first)
+  allowed (command.Difference name a b) known = untaken name _ (derives name a b true known.first)
+  allowed (command.Handle name is_curve) known = tt
+  allowed (command.Stock name q) known =
+      untaken name _ (λ free. finds quote_input q _
+      (λ x is. may_make name (terms.Stock x) known.first refl (taken_input _ wanted.QuoteInput is, tt) free))
+  allowed (command.Composite name) known = untaken name _ (may_make name (terms.Composite []) known.first refl tt)
+  allowed (command.Member k i weight) known =
+      finds place.Composite k _ (λ x is_composite. finds member i _ (λ y is_member. opened x y weight (λ clear. record {
+        composite = taken_composite _ is_composite;
+        member = taken_input _ wanted.Member is_member;
+        opens = clear;
+        limit = known.third;
+      })))
+  allowed (command.Set q value) known = finds place.Quote q _ (λ x is. taken_quote _ is)
+  allowed (command.Unset q) known = finds place.Quote q _ (λ x is. taken_quote _ is)
+  allowed (command.Link h t) known = tt
+  allowed (command.Unlink h) known = tt
+  allowed (command.Engine i e) known = tt
+  allowed (command.Today day) known = tt
+  allowed (command.Fixing x day rate) known = tt
+  allowed (command.Freeze o) known = tt
+  allowed (command.Thaw o) known = tt
+  allowed (command.Recalc o) known = tt
+  allowed (command.Forward o is_on) known = tt
+  allowed command.Defer known = tt
+  allowed command.Resume known = tt
+  allowed (command.Watch w action) known = tt
+  allowed (command.Register w o) known = tt
+  allowed (command.Unregister w o) known = tt
+  allowed (command.Drop o) known =
+      finds place.Droppable o _ (λ x is. unused x (λ free. record { taken = is; unused = free }))
+  allowed (command.Ask o) known = finds place.Priced o _ (λ x is. taken_lazy (slot_at p.state.market x) is)
+  allowed (command.Df c day) known = tt
+
+pub allowed_act : (p : Standing) (c : Command) (a : Act) → IsKnown p c → Ok a ≡ resolve p c → IsAllowed p a
+allowed_act p c a known is = subst (λ (r : Result Act Refusal). IfOk r (IsAllowed p)) (sym is) (allowed p c known)

@@ -1,0 +1,135 @@
+// What a command does: its turn, and want of memory in it.
+ghost use Rattle.std.specs.Prelude.{◌≡◌, ◌<◌, true, false, length, Some, is_err, IfOk, OnOk, OnErr};
+ghost use Rattle.desk_terms.specs.Reading.{Calc};
+ghost use Rattle.desk_model.specs.Links.{AreOfKind};
+ghost use Rattle.desk_model.specs.Sound.{IsSound, KeepsCurrent};
+ghost use Rattle.lazy_objects.specs.Slots.{makes};
+ghost use Rattle.desk_terms.specs.Terms.{kind_of};
+ghost use Rattle.session_model.specs.Standing.{IsKnown};
+ghost use Rattle.session_model.specs.Resolve.{made, unless_taken};
+ghost use Rattle.session_core.specs.Allowed.{IsAllowed};
+ghost use Rattle.session_core.specs.Steps.{with_object, AnswersMake, Carries, BreaksOff, Steps, Stops};
+
+use crate::{MakeFault, Session};
+use desk_names::{NameId, ObjId};
+use desk_terms::{Bench, Terms};
+use session_commands::Command;
+use session_model::Act;
+use std::alloc::AllocError;
+
+impl Session {
+    /// Does one command, and appends its line where it writes one: the answer of an ask, or why the command is refused.
+    /// A refused command changes nothing, and a command that writes nothing appends nothing. After want of memory the
+    /// session is stopped; what an ask computed before stays.
+    pub fn step<B: Bench>(
+        &mut self,
+        command: &Command,
+        bench: &mut B,
+        lines: &mut Vec<u8>,
+    ) -> Result<(), AllocError>
+        requires running { self.old.stopped ≡ false }
+        requires known { IsKnown self.old command.now }
+        requires sound { IsSound (B.calc bench.old) self.old.state }
+        ensures same { B.calc bench.new ≡ B.calc bench.old }
+        // The command does its turn, exactly.
+        ensures steps { OnOk result (Steps (B.calc bench.old) command.now self.old self.new
+            lines.old.items lines.new.items (B.count bench.old) (B.count bench.new)
+            (B.log bench.old) (B.log bench.new)) }
+        // Memory ran out in it: a front of its computations and of its lines, and nothing else.
+        ensures stops { OnErr result (Stops (B.calc bench.old) command.now self.old self.new
+            lines.old.items lines.new.items (B.count bench.old) (B.count bench.new)
+            (B.log bench.old) (B.log bench.new)) }
+        ensures names { self.new.names ≡ self.old.names }
+        ensures actions { self.new.actions ≡ self.old.actions }
+        ensures sound { IsSound (B.calc bench.old) self.new.state }
+        ensures stopped { self.new.stopped ≡ is_err result }
+    {
+        match self.turn(command, bench, lines) {
+            Ok(()) => Ok(()),
+            Err(fault) => {
+                self.stop();
+                Err(fault)
+            }
+        }
+    }
+
+    /// Makes an object that has this name and these terms, and answers its number: how many numbers were given before.
+    /// It is refused `Taken` where a live object has the name, then `TooMany` where there is no room. After a refusal
+    /// or want of memory the session is as it was.
+    pub fn make(&mut self, name: NameId, terms: Terms) -> Result<ObjId, MakeFault>
+        requires running { self.old.stopped ≡ false }
+        requires named { name < length self.old.names }
+        requires made { makes (kind_of terms) ≡ true }
+        requires inputs { AreOfKind self.old.state.market (Some terms) }
+        ensures number { IfOk result (λ object. object ≡ length self.old.state.market.objects) }
+        ensures made { OnOk result (self.new ≡ with_object name terms self.old) }
+        ensures answer { AnswersMake (unless_taken self.old name (made self.old name terms)) result }
+        ensures same { OnErr result (self.new ≡ self.old) }
+        ensures keeps { KeepsCurrent self.old.state self.new.state }
+        ensures sound { (calc : Calc) → IsSound calc self.old.state → IsSound calc self.new.state }
+    {
+        self.free(name)?;
+        self.room()?;
+        Ok(self.add(name, terms)?)
+    }
+
+    // Does one command, or refuses it.
+    fn turn<B: Bench>(
+        &mut self,
+        command: &Command,
+        bench: &mut B,
+        lines: &mut Vec<u8>,
+    ) -> Result<(), AllocError>
+        requires known { IsKnown self.old command.now }
+        requires sound { IsSound (B.calc bench.old) self.old.state }
+        ensures same { B.calc bench.new ≡ B.calc bench.old }
+        ensures steps { OnOk result (Steps (B.calc bench.old) command.now self.old self.new
+            lines.old.items lines.new.items (B.count bench.old) (B.count bench.new)
+            (B.log bench.old) (B.log bench.new)) }
+        ensures stops { OnErr result (Stops (B.calc bench.old) command.now self.old self.new
+            lines.old.items lines.new.items (B.count bench.old) (B.count bench.new)
+            (B.log bench.old) (B.log bench.new)) }
+        ensures sound { IsSound (B.calc bench.old) self.new.state }
+    {
+        match self.resolve(command) {
+            Ok(act) => self.carry_out(act, bench, lines),
+            Err(refusal) => self.refuse(command, &refusal, lines),
+        }
+    }
+
+    // Does what a command resolved to.
+    fn carry_out<B: Bench>(
+        &mut self,
+        act: Act,
+        bench: &mut B,
+        lines: &mut Vec<u8>,
+    ) -> Result<(), AllocError>
+        requires allowed { IsAllowed self.old act }
+        requires sound { IsSound (B.calc bench.old) self.old.state }
+        ensures same { B.calc bench.new ≡ B.calc bench.old }
+        ensures steps { OnOk result (Carries (B.calc bench.old) act self.old self.new lines.old.items lines.new.items
+            (B.count bench.old) (B.count bench.new)
+            (B.log bench.old) (B.log bench.new)) }
+        ensures stops { OnErr result (BreaksOff (B.calc bench.old) act self.old self.new lines.old.items lines.new.items
+            (B.count bench.old) (B.count bench.new)
+            (B.log bench.old) (B.log bench.new)) }
+        ensures sound { IsSound (B.calc bench.old) self.new.state }
+    {
+        match act {
+            Act::Make(name, terms) => match self.add(name, terms) {
+                Ok(_) => Ok(()),
+                Err(fault) => Err(fault),
+            },
+            Act::Set(quote, value) => {
+                self.set(quote, value);
+                Ok(())
+            }
+            Act::Member(composite, member, weight) => self.weigh(composite, member, weight),
+            Act::Drop(object) => {
+                self.remove(object);
+                Ok(())
+            }
+            Act::Ask(name, object) => self.ask(name, object, bench, lines),
+        }
+    }
+}

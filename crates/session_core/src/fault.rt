@@ -1,0 +1,36 @@
+// Why no object is made.
+use session_commands::Refusal;
+use std::alloc::AllocError;
+use thiserror::Error;
+
+/// Why a session makes no object.
+#[derive(Clone, Copy, Debug, Error, PartialEq, Eq)]
+pub enum MakeFault {
+    /// A live object has the name, or there is no room.
+    #[error("refused")]
+    Refused(Refusal),
+    #[error("out of memory")]
+    NoMemory,
+}
+
+impl From<Refusal> for MakeFault {
+    ghost use Rattle.std.specs.Prelude.{◌≡◌};
+    ghost use Rattle.session_core.specs.declared.fault.MakeFault.TheVariants.{Refused};
+
+    ghost from_gives = { λ refusal e. e ≡ Refused refusal };
+
+    fn from(refusal: Refusal) -> Self {
+        MakeFault::Refused(refusal)
+    }
+}
+
+impl From<AllocError> for MakeFault {
+    ghost use Rattle.std.specs.Prelude.{◌≡◌};
+    ghost use Rattle.session_core.specs.declared.fault.MakeFault.TheVariants.{NoMemory};
+
+    ghost from_gives = { λ _ e. e ≡ NoMemory };
+
+    fn from(_: AllocError) -> Self {
+        MakeFault::NoMemory
+    }
+}

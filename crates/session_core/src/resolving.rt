@@ -1,0 +1,202 @@
+// What a command is once its names are looked up, or why it is refused.
+ghost use Rattle.std.specs.Prelude.{◌≡◌, [], Ok, Err, is_some, if◌then◌else◌};
+ghost use Rattle.session_commands.specs.declared.refusal.Refusal.TheVariants.{Taken, TooMany};
+ghost use Rattle.desk_terms.specs.declared.terms.Terms.TheVariants as terms;
+ghost use Rattle.desk_terms.specs.declared.kind.Wanted.TheVariants as wanted;
+ghost use Rattle.desk_model.specs.Market.{kind_at};
+ghost use Rattle.session_model.specs.declared.place.Place.TheVariants as place;
+ghost use Rattle.session_model.specs.declared.act.Act.TheVariants as act;
+ghost use Rattle.session_model.specs.Place.{takes_found};
+ghost use Rattle.session_model.specs.Standing.{object_named, is_full};
+ghost use Rattle.session_model.specs.Resolve.{find, with_found, made, unless, unless_used, unless_taken, joins, derived, quote_input, resolve};
+ghost use Rattle.desk_model.specs.Market.{least_user};
+ghost use Rattle.session_commands.specs.declared.refusal.Refusal.TheVariants.{Cycle};
+
+use crate::Session;
+use desk_names::{NameId, ObjId};
+use desk_terms::{PartList, Terms, Wanted};
+use fixed_amount::Rate;
+use session_commands::{Command, Refusal};
+use session_model::{Act, Place};
+
+impl Session {
+    // The command with its objects found, or the first reason for which it is refused.
+    #[tactic(auto, unfolding(session_model::specs::Resolve::resolve))]
+    pub(crate) fn resolve(&mut self, command: &Command) -> Result<Act, Refusal>
+        ensures act { result ≡ resolve self.old command.now }
+        ensures same { self.new ≡ self.old }
+    {
+        match command {
+            Command::Quote(name, value) => self.quote(*name, *value),
+            Command::Sum(name, first, second) => self.derived(*name, false, *first, *second),
+            Command::Difference(name, first, second) => self.derived(*name, true, *first, *second),
+            Command::Stock(name, quote) => self.stock(*name, *quote),
+            Command::Composite(name) => self.composite(*name),
+            Command::Member(composite, member, weight) => self.member(*composite, *member, *weight),
+            Command::Set(quote, value) => self.value(*quote, Some(*value)),
+            Command::Unset(quote) => self.value(*quote, None),
+            Command::Drop(object) => self.dropped(*object),
+            Command::Ask(object) => self.asked(*object),
+            Command::Handle(..)
+            | Command::Link(..)
+            | Command::Unlink(..)
+            | Command::Engine(..)
+            | Command::Today(..)
+            | Command::Fixing(..)
+            | Command::Freeze(..)
+            | Command::Thaw(..)
+            | Command::Recalc(..)
+            | Command::Forward(..)
+            | Command::Defer
+            | Command::Resume
+            | Command::Watch(..)
+            | Command::Register(..)
+            | Command::Unregister(..)
+            | Command::Df(..) => Err(Refusal::Unbuilt),
+        }
+    }
+
+    // The object that a name stands for, where it is of a kind that the place takes.
+    #[tactic(auto, unfolding(session_model::specs::Resolve::find))]
+    fn find(&self, place: Place, name: NameId) -> Result<ObjId, Refusal>
+        ensures { result ≡ find place self.now name }
+    {
+        match self.named(name) {
+            Some(object) if self.takes(place, object) => Ok(object),
+            Some(_) => Err(Refusal::Kind(name)),
+            None => Err(Refusal::Unknown(name)),
+        }
+    }
+
+    // Whether the object is of a kind that the place takes.
+    fn takes(&self, place: Place, object: ObjId) -> bool
+        ensures { result ≡ takes_found place (kind_at self.now.state.market object) }
+    {
+        match self.kind(object) {
+            Some(kind) => place.takes(kind),
+            None => false,
+        }
+    }
+
+    // A new name must not be the name of a live object.
+    pub(crate) fn free(&self, name: NameId) -> Result<(), Refusal>
+        ensures { result ≡ (if is_some (object_named self.now name) then Err (Taken name) else Ok tt) }
+    {
+        match self.named(name) {
+            Some(_) => Err(Refusal::Taken(name)),
+            None => Ok(()),
+        }
+    }
+
+    // A new object needs room.
+    pub(crate) fn room(&self) -> Result<(), Refusal>
+        ensures { result ≡ (if is_full self.now.state.market then Err TooMany else Ok tt) }
+    {
+        if self.is_full() {
+            Err(Refusal::TooMany)
+        } else {
+            Ok(())
+        }
+    }
+
+    // An object of these terms, where there is room.
+    #[tactic(auto, unfolding(session_model::specs::Resolve::unless))]
+    fn made(&self, name: NameId, terms: Terms) -> Result<Act, Refusal>
+        ensures { result ≡ made self.now name terms }
+    {
+        self.room()?;
+        Ok(Act::Make(name, terms))
+    }
+
+    #[tactic(auto, unfolding(session_model::specs::Resolve::unless_taken))]
+    fn quote(&self, name: NameId, value: Option<Rate>) -> Result<Act, Refusal>
+        ensures { result ≡ unless_taken self.now name (made self.now name (terms.Quote value)) }
+    {
+        self.free(name)?;
+        self.made(name, Terms::Quote(value))
+    }
+
+    #[tactic(auto, unfolding(session_model::specs::Resolve::unless_taken, session_model::specs::Resolve::with_found))]
+    fn derived(
+        &self,
+        name: NameId,
+        minus: bool,
+        first: NameId,
+        second: NameId,
+    ) -> Result<Act, Refusal>
+        ensures { result ≡ unless_taken self.now name (derived self.now name minus first second) }
+    {
+        self.free(name)?;
+        let first = self.find(Place::Input(Wanted::QuoteInput), first)?;
+        let second = self.find(Place::Input(Wanted::QuoteInput), second)?;
+        self.made(
+            name,
+            Terms::Derived {
+                minus,
+                first,
+                second,
+            },
+        )
+    }
+
+    #[tactic(auto, unfolding(session_model::specs::Resolve::unless_taken, session_model::specs::Resolve::with_found))]
+    fn stock(&self, name: NameId, quote: NameId) -> Result<Act, Refusal>
+        ensures { result ≡ unless_taken self.now name
+            (with_found (find quote_input self.now quote) (λ x. made self.now name (terms.Stock x))) }
+    {
+        self.free(name)?;
+        let quote = self.find(Place::Input(Wanted::QuoteInput), quote)?;
+        self.made(name, Terms::Stock { quote })
+    }
+
+    #[tactic(auto, unfolding(session_model::specs::Resolve::unless_taken))]
+    fn composite(&self, name: NameId) -> Result<Act, Refusal>
+        ensures { result ≡ unless_taken self.now name (made self.now name (terms.Composite [])) }
+    {
+        self.free(name)?;
+        self.made(name, Terms::Composite(PartList::new(self.allocator())))
+    }
+
+    #[tactic(auto, unfolding(session_model::specs::Resolve::with_found, session_model::specs::Resolve::unless))]
+    fn member(&mut self, composite: NameId, member: NameId, weight: i64) -> Result<Act, Refusal>
+        ensures act { result ≡ with_found (find place.Composite self.old composite) (λ x.
+            with_found (find (place.Input wanted.Member) self.old member) (λ y.
+            unless (joins weight self.old.state.market x y) Cycle (act.Member x y weight))) }
+        ensures same { self.new ≡ self.old }
+    {
+        let composite = self.find(Place::Composite, composite)?;
+        let member = self.find(Place::Input(Wanted::Member), member)?;
+        if weight != 0 && self.closes(composite, member) {
+            return Err(Refusal::Cycle);
+        }
+        Ok(Act::Member(composite, member, weight))
+    }
+
+    #[tactic(auto, unfolding(session_model::specs::Resolve::with_found))]
+    fn value(&self, quote: NameId, value: Option<Rate>) -> Result<Act, Refusal>
+        ensures { result ≡ with_found (find place.Quote self.now quote) (λ x. Ok (act.Set x value)) }
+    {
+        let quote = self.find(Place::Quote, quote)?;
+        Ok(Act::Set(quote, value))
+    }
+
+    #[tactic(auto, unfolding(session_model::specs::Resolve::with_found, session_model::specs::Resolve::unless_used))]
+    fn dropped(&self, name: NameId) -> Result<Act, Refusal>
+        ensures { result ≡ with_found (find place.Droppable self.now name) (λ x.
+            unless_used (least_user self.now.state.market x) (act.Drop x)) }
+    {
+        let object = self.find(Place::Droppable, name)?;
+        match self.user_of(object) {
+            Some(user) => Err(Refusal::InUse(user)),
+            None => Ok(Act::Drop(object)),
+        }
+    }
+
+    #[tactic(auto, unfolding(session_model::specs::Resolve::with_found))]
+    fn asked(&self, name: NameId) -> Result<Act, Refusal>
+        ensures { result ≡ with_found (find place.Priced self.now name) (λ x. Ok (act.Ask name x)) }
+    {
+        let object = self.find(Place::Priced, name)?;
+        Ok(Act::Ask(name, object))
+    }
+}

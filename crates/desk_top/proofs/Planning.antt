@@ -2,7 +2,7 @@
 use Rattle.std.proofs.Common.{◌≡◌, ◌⊎◌, inl, inr, ⊎_elim, ℕ, ◌<◌, Bool, true, false, List, length, Option, Some, None, Result, Ok, Err, Vec, refl, sym, ◌∙◌, ap, subst, arith}
 use Rattle.std.specs.Prelude.{◌++◌, IfSome, nat_lt, codes}
 use Rattle.desk_names.specs.Names.{has_text}
-use Rattle.session_lang.specs.Given.{Grows}
+use Rattle.script_words.specs.Given.{Grows}
 use Rattle.std.specs.Str.{bytes_eq}
 use Rattle.std.specs.declared.alloc.Global.{Global}
 use Rattle.std.proofs.lemmas.Bool.Decides.{nat_tests}
@@ -11,21 +11,21 @@ use Rattle.desk_edge.specs.Count.{Rose}
 use Rattle.desk_edge.specs.Shelf.{most_bytes, file_at}
 use Rattle.desk_top.specs.declared.status.Section.TheVariants.{Top}
 use Rattle.desk_top.specs.declared.status.MarketKind as market
-use Rattle.session_lang.specs.declared.fault.ScriptKind.TheVariants.{TooLong}
+use Rattle.session_commands.specs.declared.script_kind.ScriptKind.TheVariants.{TooLong}
 use Rattle.session_lang.specs.Reading.{script_meaning}
 use Rattle.desk_top.specs.declared.status.FileRole as role
 use Rattle.desk_top.specs.declared.status.Status.{Status}
 use Rattle.desk_top.specs.declared.status.Status as status
 use Rattle.desk_top.specs.declared.running.Plan as read
-use Rattle.desk_top.specs.Found.{Finds, Plans, Reads}
+use Rattle.desk_top.specs.Found.{plan_in, Finds, Plans, Reads}
 use Rattle.desk_terms.specs.Reading.{Calc}
-use Rattle.session_lang.specs.declared.command.Command.{Command}
-use Rattle.session_model.specs.Standing.{start_of}
-use Rattle.session_model.specs.Transcript.{transcript}
+use Rattle.session_commands.specs.declared.command.Command.{Command}
+use Rattle.session_model.specs.Rounds.{rounds, transcript}
+use Rattle.session_model.specs.Turn.{Turn}
 use Rattle.desk_top.specs.Run.{IsReading, IsLate, IsAccepted, IsQuiet, Writes}
-use Rattle.desk_forms.specs.Market.{two_lines}
-use Rattle.desk_top.specs.Verdict.{Files, Plan, first_names, with_plan, with_script, with_market, with_request, verdict_of, output_of}
-use Rattle.desk_forms.specs.Words.{Request, request_of}
+use Rattle.desk_top.specs.Market.{two_lines}
+use Rattle.desk_top.specs.Verdict.{Files, Plan, first_names, with_plan, with_script, with_market, with_request, verdict_of, first_standing, output_of, rounds_of}
+use Rattle.desk_words.specs.Words.{Request, request_of}
 
 abbrev Bytes : Type 0
 Bytes = List ℕ
@@ -120,11 +120,30 @@ told_memory (Some files) words = inl tt
 
 -- what was written of a plan's transcript was written of the verdict's
 pub told_written : (told : Option (List (List ℕ × List ℕ))) (words : List (List ℕ)) (calc : Calc) (plan : read.Plan) (commands : List Command) (old new : Option (List ℕ)) (s : Status)
-    → IfSome told (λ files. Plans (verdict_of files words) (Ok plan)) → commands ≡ plan.script.commands → Writes old new (transcript calc (start_of plan.names) commands) s
+    → IfSome told (λ files. Plans (verdict_of files words) (Ok plan)) → commands ≡ plan.script.commands → Writes old new (transcript calc (first_standing (plan_in plan)) commands) s
     → IfSome told (λ files. Writes old new (output_of calc (verdict_of files words)) s)
 told_written None words calc plan commands old new s plans are writes = tt
 told_written (Some files) words calc plan commands old new s plans are writes =
-    subst (λ v. Writes old new (output_of calc v) s) (sym plans) (subst (λ (l : List Command). Writes old new (transcript calc (start_of plan.names) l) s) are writes)
+    subst (λ v. Writes old new (output_of calc v) s) (sym plans) (subst (λ (l : List Command). Writes old new (transcript calc (first_standing (plan_in plan)) l) s) are writes)
+
+-- what holds of the rounds of a plan holds of the verdict's
+pub told_rounds : (told : Option (List (List ℕ × List ℕ))) (words : List (List ℕ)) (calc : Calc) (plan : read.Plan) (commands : List Command) (Holds : List Turn → Type 0)
+    → IfSome told (λ files. Plans (verdict_of files words) (Ok plan)) → commands ≡ plan.script.commands → Holds (rounds calc (first_standing (plan_in plan)) commands)
+    → IfSome told (λ files. Holds (rounds_of calc (verdict_of files words)))
+told_rounds None words calc plan commands Holds plans are holds = tt
+told_rounds (Some files) words calc plan commands Holds plans are holds =
+    subst (λ v. Holds (rounds_of calc v)) (sym plans) (subst (λ (l : List Command). Holds (rounds calc (first_standing (plan_in plan)) l)) are holds)
+
+-- words and files that give a plan are accepted
+pub told_accepted : (told : Option (List (List ℕ × List ℕ))) (words : List (List ℕ)) (plan : read.Plan) (s : Status) → IfSome told (λ files. Plans (verdict_of files words) (Ok plan))
+    → IfSome told (λ files. s ≡ status.TheVariants.WriteFault → IsAccepted (verdict_of files words))
+told_accepted None words plan s plans = tt
+told_accepted (Some files) words plan s plans = λ is. subst IsAccepted (sym plans) tt
+
+-- a fact that files do not matter to
+pub told_any : {Q : List (List ℕ × List ℕ) → Type 0} (told : Option (List (List ℕ × List ℕ))) → ((files : List (List ℕ × List ℕ)) → Q files) → IfSome told Q
+told_any None q = tt
+told_any (Some files) q = q files
 
 -- a count that is quiet did not rise
 quiet : (before now : ℕ) → IsQuiet before now → Rose before now → ⊥

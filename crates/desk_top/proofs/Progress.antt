@@ -1,132 +1,265 @@
--- How far a session has come: what is written and computed so far, and what is left.
-use Rattle.std.proofs.Common.{◌≡◌, ℕ, zero, suc, ◌+◌, ◌-◌, ◌^◌, ◌<◌, ◌≤◌, min, Bool, false, List, [], ◌∷◌, ◌++◌, length, get_or, take, drop, Option, Some, None, refl, sym, ◌∙◌, ap, subst, arith, append_assoc, length-append}
-use Rattle.std.proofs.lemmas.List.{append-nil, take-append-le, take_at, drop_more, drop_all}
+-- How far a session has come: the rounds that are done, and what is left.
+use Rattle.std.proofs.Common.{◌≡◌, ℕ, zero, suc, ◌+◌, ◌-◌, ◌^◌, ◌<◌, ◌≤◌, min, Bool, false, List, [], ◌∷◌, ◌++◌, length, get_or, take, drop, Option, Some, None, Result, Err, refl, sym, ◌∙◌, ap, subst, arith, append_assoc, length-append}
+use Rattle.std.specs.Prelude.{All}
+use Rattle.std.proofs.lemmas.List.{append-nil, take-append-drop, take-append-le, drop_more, drop_all}
+use Rattle.std.proofs.lemmas.List.Elements.{All-nil, All-push}
+use Rattle.std.proofs.Math.Seq.{drop-append_seam, take-append_seam, take-append-add}
 use Rattle.desk_edge.specs.Sink.{appended}
 use Rattle.desk_edge.proofs.SinkLemmas.{appended-appended, appended-nil}
 use Rattle.desk_terms.specs.Reading.{Calc}
 use Rattle.desk_terms.specs.Bench.{counted, logged}
-use Rattle.desk_model.specs.Effect.{start}
 use Rattle.desk_model.specs.Sound.{IsSound}
-use Rattle.session_lang.specs.declared.command.Command.{Command}
-use Rattle.session_model.specs.Standing.{Standing, start_of}
+use Rattle.session_commands.specs.declared.command.Command.{Command}
+use Rattle.session_model.specs.Standing.{Standing}
 use Rattle.session_model.specs.Turn.{Turn, turn}
-use Rattle.session_model.specs.Transcript.{transcript, calls_of}
-use Rattle.session_core.specs.Steps.{Steps}
-use Rattle.session_core.proofs.Turns.{turn_names, turn_running}
-use Rattle.desk_session.proofs.Exits.{logged_nothing}
+use Rattle.session_model.specs.Rounds.{rounds, lines_of, calls_in}
+use Rattle.desk_top.specs.Early.{Outside, next_of, IsCut, IsHalted}
+use Rattle.desk_top.specs.Round.{IsPlayed, IsUnwritten, IsStopped, RoundEnds}
+use Rattle.desk_top.specs.Run.{Writes}
+use Rattle.desk_top.specs.declared.status.Status.{Status}
+use Rattle.desk_top.specs.declared.status.Status as status
 
 abbrev Log : Type 0
 Log = Option (List (ℕ × Bool))
 
-pub counted-counted : (n a b : ℕ) → counted (counted n a) b ≡ counted n (a + b)
+counted-counted : (n a b : ℕ) → counted (counted n a) b ≡ counted n (a + b)
 counted-counted n a zero = let e : a ≡ a + 0 = omega arith in ap (counted n) e
 counted-counted n a (suc b) = let e : suc (a + b) ≡ a + suc b = omega arith in ap (λ (m : ℕ). min (m + 1) (2 ^ 64 - 1)) (counted-counted n a b) ∙ ap (counted n) e
 
-pub logged-logged : (log : Log) (a b : List (ℕ × Bool)) → logged (logged log a) b ≡ logged log (a ++ b)
+logged-logged : (log : Log) (a b : List (ℕ × Bool)) → logged (logged log a) b ≡ logged log (a ++ b)
 logged-logged None a b = refl
 logged-logged (Some entries) a b = ap Some (append_assoc entries a b)
 
+logged_nothing : (log : Log) → log ≡ logged log []
+logged_nothing None = refl
+logged_nothing (Some entries) = ap Some (sym (append-nil entries))
+
+-- the lines of two lists of rounds, and their computations
+lines_joined : (a b : List Turn) → lines_of (a ++ b) ≡ lines_of a ++ lines_of b
+unfolding lines_of
+lines_joined [] b = refl
+lines_joined (t ∷ a) b = ap (λ (l : List ℕ). t.lines ++ l) (lines_joined a b) ∙ sym (append_assoc t.lines (lines_of a) (lines_of b))
+
+calls_joined : (a b : List Turn) → calls_in (a ++ b) ≡ calls_in a ++ calls_in b
+unfolding calls_in
+calls_joined [] b = refl
+calls_joined (t ∷ a) b = ap (λ (l : List (ℕ × Bool)). t.calls ++ l) (calls_joined a b) ∙ sym (append_assoc t.calls (calls_in a) (calls_in b))
+
+lines_one : (t : Turn) → lines_of (t ∷ []) ≡ t.lines
+unfolding lines_of
+lines_one t = append-nil t.lines
+
+calls_one : (t : Turn) → calls_in (t ∷ []) ≡ t.calls
+unfolding calls_in
+calls_one t = append-nil t.calls
+
 -- where a session stands that began at `first`: `rest` is left of its commands
-pub record Progress (calc : Calc) (first : Standing) (commands rest : List Command) (state : Standing) (bytes_first bytes_now : Option (List ℕ)) (count_first count_now : ℕ) (log_first log_now : Option (List (ℕ × Bool))) : Type 0 where
-  pub lines : List ℕ
-  pub calls : List (ℕ × Bool)
-  pub bytes : bytes_now ≡ appended lines bytes_first
-  pub count : count_now ≡ counted count_first (length calls)
-  pub log : log_now ≡ logged log_first calls
-  pub whole : transcript calc first commands ≡ lines ++ transcript calc state rest
-  pub total : calls_of calc first commands ≡ calls ++ calls_of calc state rest
+pub record Progress (calc : Calc) (first : Standing) (commands rest : List Command) (state : Standing) (start now : Outside) : Type 0 where
+  pub done : List Turn
+  pub bytes : now.bytes ≡ appended (lines_of done) start.bytes
+  pub count : now.count ≡ counted start.count (length (calls_in done))
+  pub log : now.log ≡ logged start.log (calls_in done)
+  pub whole : rounds calc first commands ≡ done ++ rounds calc state rest
+  pub sounds : All (λ (t : Turn). IsSound calc t.next.state) done
   pub names : state.names ≡ first.names
+  pub actions : state.actions ≡ first.actions
   pub running : state.stopped ≡ false
   pub sound : IsSound calc state.state
 
-start_sound : (calc : Calc) → IsSound calc start
-start_sound calc zero current = absurd (cc)
-start_sound calc (suc o) current = absurd (cc)
-
 -- nothing is done yet
-pub progress_none : (calc : Calc) (names : List (List ℕ)) (commands : List Command) (bytes : Option (List ℕ)) (count : ℕ) (log : Log) → Progress calc (start_of names) commands commands (start_of names) bytes bytes count count log log
-progress_none calc names commands bytes count log = record {
-  lines = [];
-  calls = [];
-  bytes = sym (appended-nil bytes);
+pub progress_none : (calc : Calc) (first : Standing) (commands : List Command) (start : Outside) → first.stopped ≡ false → IsSound calc first.state → Progress calc first commands commands first start start
+unfolding lines_of calls_in
+progress_none calc first commands start running sound = record {
+  done = [];
+  bytes = sym (appended-nil start.bytes);
   count = refl;
-  log = logged_nothing log;
+  log = logged_nothing start.log;
   whole = refl;
-  total = refl;
+  sounds = All-nil (λ (t : Turn). IsSound calc t.next.state);
   names = refl;
-  running = refl;
-  sound = start_sound calc;
+  actions = refl;
+  running = running;
+  sound = sound;
 }
 
--- the front of a text that ends within its second part
-front_of : (a b c : List ℕ) (n : ℕ) → n ≤ length b → take (length a + n) (a ++ (b ++ c)) ≡ a ++ take n b
-front_of [] b c n le = let e : 0 + n ≡ n = omega arith in ap (λ (k : ℕ). take k (b ++ c)) e ∙ take-append-le n b c le
-front_of (x ∷ a) b c n le = let e : suc (length a) + n ≡ suc (length a + n) = omega arith in ap (λ (k : ℕ). take k (x ∷ (a ++ (b ++ c)))) e ∙ ap (λ (l : List ℕ). x ∷ l) (front_of a b c n le)
+-- a list of rounds that ends early within the round t, after those that are done
+module _ (turns done later : List Turn) (t : Turn) (whole : turns ≡ done ++ (t ∷ later)) where
+  next_is : next_of (length done) turns ≡ t ∷ []
+  next_is = ap (λ (l : List Turn). next_of (length done) l) whole ∙ ap (λ (l : List Turn). take 1 l) (drop-append_seam done (t ∷ later))
 
-module _ (calc : Calc) (first : Standing) (commands : List Command) (bytes_first : Option (List ℕ)) (count_first : ℕ) (log_first : Log) where
+  done_is : take (length done) turns ≡ done
+  done_is = ap (λ (l : List Turn). take (length done) l) whole ∙ take-append_seam done (t ∷ later)
+
+  lines_next : lines_of (next_of (length done) turns) ≡ t.lines
+  lines_next = ap lines_of next_is ∙ lines_one t
+
+  calls_next : calls_in (next_of (length done) turns) ≡ t.calls
+  calls_next = ap calls_in next_is ∙ calls_one t
+
+  calls_with : calls_in (take (length done + 1) turns) ≡ calls_in done ++ t.calls
+  calls_with =
+      ap (λ (l : List Turn). calls_in (take (length done + 1) l)) whole ∙ ap calls_in (take-append-add done (t ∷ later) 1) ∙ calls_joined done (t ∷ []) ∙ ap (λ (l : List (ℕ × Bool)). calls_in done ++ l) (calls_one t)
+
+  bytes_within : (start now new : Option (List ℕ)) (part : ℕ) → now ≡ appended (lines_of done) start → new ≡ appended (take part t.lines) now
+      → new ≡ appended (lines_of (take (length done) turns) ++ take part (lines_of (next_of (length done) turns))) start
+  bytes_within start now new part come put =
+      put ∙ ap (appended (take part t.lines)) come ∙ appended-appended (lines_of done) (take part t.lines) start
+      ∙ ap (λ (l : List ℕ). appended (lines_of done ++ take part l) start) (sym lines_next)
+      ∙ ap (λ (l : List Turn). appended (lines_of l ++ take part (lines_of (next_of (length done) turns))) start) (sym done_is)
+
+  module _ (start now new : Outside) (bytes : now.bytes ≡ appended (lines_of done) start.bytes) (count : now.count ≡ counted start.count (length (calls_in done))) (log : now.log ≡ logged start.log (calls_in done)) where
+    pub cut_in : IsUnwritten t now new → IsCut turns start new
+    cut_in r = record {
+      whole = length done;
+      part = r.part;
+      short = omega (arith, r.short, ap (λ (l : List ℕ). length l) lines_next);
+      bytes = bytes_within start.bytes now.bytes new.bytes r.part bytes r.bytes;
+      count = r.count ∙ ap (λ (n : ℕ). counted n (length t.calls)) count ∙ counted-counted start.count (length (calls_in done)) (length t.calls)
+          ∙ ap (counted start.count) (sym (length-append (calls_in done) t.calls)) ∙ ap (λ (l : List (ℕ × Bool)). counted start.count (length l)) (sym calls_with);
+      log = r.log ∙ ap (λ (l : Log). logged l t.calls) log ∙ logged-logged start.log (calls_in done) t.calls ∙ ap (logged start.log) (sym calls_with);
+    }
+
+    pub halted_in : IsStopped t now new → IsHalted turns start new
+    halted_in r = record {
+      whole = length done;
+      part = r.part;
+      begun = r.begun;
+      ended = r.ended;
+      short = omega (arith, r.short, ap (λ (l : List ℕ). length l) lines_next);
+      most = omega (arith, r.most, ap (λ (l : List (ℕ × Bool)). length l) calls_next);
+      last = r.last;
+      bytes = bytes_within start.bytes now.bytes new.bytes r.part bytes r.bytes;
+      count = r.count ∙ ap (λ (n : ℕ). counted n r.begun) count ∙ counted-counted start.count (length (calls_in done)) r.begun
+          ∙ ap (λ (l : List Turn). counted start.count (length (calls_in l) + r.begun)) (sym done_is);
+      log = r.log ∙ ap (λ (l : Log). logged l (take r.ended t.calls)) log ∙ logged-logged start.log (calls_in done) (take r.ended t.calls)
+          ∙ ap (λ (l : List (ℕ × Bool)). logged start.log (calls_in done ++ take r.ended l)) (sym calls_next)
+          ∙ ap (λ (l : List Turn). logged start.log (calls_in l ++ take r.ended (calls_in (next_of (length done) turns)))) (sym done_is);
+    }
+
+-- it halts before its first round
+pub halted_before : (turns : List Turn) (start : Outside) → IsHalted turns start start
+unfolding lines_of calls_in
+halted_before turns start = record {
+  whole = 0;
+  part = 0;
+  begun = 0;
+  ended = 0;
+  short = omega arith;
+  most = omega arith;
+  last = (omega arith, omega arith);
+  bytes = sym (appended-nil start.bytes);
+  count = refl;
+  log = logged_nothing start.log;
+}
+
+-- what is written of whole rounds and a part of the next one is a front of the lines
+module _ (turns : List Turn) (whole part : ℕ) (short : part ≤ length (lines_of (next_of whole turns))) where
+  split : turns ≡ take whole turns ++ (next_of whole turns ++ drop 1 (drop whole turns))
+  split = sym (ap (λ (l : List Turn). take whole turns ++ l) (take-append-drop 1 (drop whole turns)) ∙ take-append-drop whole turns)
+
+  lines_split : lines_of turns ≡ lines_of (take whole turns) ++ (lines_of (next_of whole turns) ++ lines_of (drop 1 (drop whole turns)))
+  lines_split =
+      ap lines_of split ∙ lines_joined (take whole turns) (next_of whole turns ++ drop 1 (drop whole turns))
+      ∙ ap (λ (l : List ℕ). lines_of (take whole turns) ++ l) (lines_joined (next_of whole turns) (drop 1 (drop whole turns)))
+
+  front : take (length (lines_of (take whole turns)) + part) (lines_of turns) ≡ lines_of (take whole turns) ++ take part (lines_of (next_of whole turns))
+  front =
+      ap (λ (l : List ℕ). take (length (lines_of (take whole turns)) + part) l) lines_split
+      ∙ take-append-add (lines_of (take whole turns)) (lines_of (next_of whole turns) ++ lines_of (drop 1 (drop whole turns))) part
+      ∙ ap (λ (l : List ℕ). lines_of (take whole turns) ++ l) (take-append-le part (lines_of (next_of whole turns)) (lines_of (drop 1 (drop whole turns))) short)
+
+  pub front_written : (old new : Option (List ℕ)) → new ≡ appended (lines_of (take whole turns) ++ take part (lines_of (next_of whole turns))) old → (n : ℕ) × (new ≡ appended (take n (lines_of turns)) old)
+  front_written old new put = (length (lines_of (take whole turns)) + part, put ∙ ap (λ (l : List ℕ). appended l old) (sym front))
+
+pub cut_front : (turns : List Turn) (old new : Outside) → IsCut turns old new → (n : ℕ) × (new.bytes ≡ appended (take n (lines_of turns)) old.bytes)
+cut_front turns old new c = front_written turns c.whole c.part (omega (arith, c.short)) old.bytes new.bytes c.bytes
+
+pub halted_front : (turns : List Turn) (old new : Outside) → IsHalted turns old new → (n : ℕ) × (new.bytes ≡ appended (take n (lines_of turns)) old.bytes)
+halted_front turns old new h = front_written turns h.whole h.part h.short old.bytes new.bytes h.bytes
+
+module _ (calc : Calc) (first : Standing) (commands : List Command) (start : Outside) where
+  -- the next round is that of the next command
+  next_whole : (command : Command) (rest : List Command) (state : Standing) (done : List Turn) → rounds calc first commands ≡ done ++ rounds calc state (command ∷ rest)
+      → rounds calc first commands ≡ done ++ (turn calc state command ∷ rounds calc (turn calc state command).next rest)
+  unfolding rounds
+  next_whole command rest state done is = is
+
   -- one command more, and its lines
-  pub progress_more : (command : Command) (rest : List Command) (state next : Standing) (begun lines : List ℕ) (bytes_now bytes_later : Option (List ℕ)) (count_now count_later : ℕ) (log_now log_later : Log)
-      → Progress calc first commands (command ∷ rest) state bytes_first bytes_now count_first count_now log_first log_now
-      → Steps calc command state next begun lines count_now count_later log_now log_later → begun ≡ [] → IsSound calc next.state → bytes_later ≡ appended lines bytes_now
-      → Progress calc first commands rest next bytes_first bytes_later count_first count_later log_first log_later
-  unfolding transcript calls_of
-  progress_more command rest state next begun lines bytes_now bytes_later count_now count_later log_now log_later p steps empty sound put =
+  pub progress_more : (command : Command) (rest : List Command) (state next : Standing) (now later : Outside) → Progress calc first commands (command ∷ rest) state start now
+      → IsPlayed (turn calc state command) now later → next ≡ (turn calc state command).next → next.names ≡ state.names → next.actions ≡ state.actions → next.stopped ≡ false → IsSound calc next.state
+      → Progress calc first commands rest next start later
+  progress_more command rest state next now later p played is names actions running sound =
       let t : Turn = turn calc state command in
-      let written : lines ≡ t.lines = steps.written ∙ ap (λ (l : List ℕ). l ++ t.lines) empty in
+      let calls : calls_in (p.done ++ t ∷ []) ≡ calls_in p.done ++ t.calls = calls_joined p.done (t ∷ []) ∙ ap (λ (l : List (ℕ × Bool)). calls_in p.done ++ l) (calls_one t) in
+      let lines : lines_of (p.done ++ t ∷ []) ≡ lines_of p.done ++ t.lines = lines_joined p.done (t ∷ []) ∙ ap (λ (l : List ℕ). lines_of p.done ++ l) (lines_one t) in
       record {
-        lines = p.lines ++ lines;
-        calls = p.calls ++ t.calls;
-        bytes = put ∙ ap (appended lines) p.bytes ∙ appended-appended p.lines lines bytes_first;
-        count = steps.count ∙ ap (λ (n : ℕ). counted n (length t.calls)) p.count ∙ counted-counted count_first (length p.calls) (length t.calls) ∙ ap (counted count_first) (sym (length-append p.calls t.calls));
-        log = steps.log ∙ ap (λ (l : Log). logged l t.calls) p.log ∙ logged-logged log_first p.calls t.calls;
-        whole = p.whole ∙ sym (append_assoc p.lines t.lines (transcript calc t.next rest)) ∙ ap (λ (l : List ℕ). (p.lines ++ l) ++ transcript calc t.next rest) (sym written) ∙ ap (λ (s : Standing). (p.lines ++ lines) ++ transcript calc s rest) (sym steps.next);
-        total = p.total ∙ sym (append_assoc p.calls t.calls (calls_of calc t.next rest)) ∙ ap (λ (s : Standing). (p.calls ++ t.calls) ++ calls_of calc s rest) (sym steps.next);
-        names = ap (λ (s : Standing). s.names) steps.next ∙ turn_names calc state command ∙ p.names;
-        running = ap (λ (s : Standing). s.stopped) steps.next ∙ turn_running calc state command ∙ p.running;
+        done = p.done ++ t ∷ [];
+        bytes = played.bytes ∙ ap (appended t.lines) p.bytes ∙ appended-appended (lines_of p.done) t.lines start.bytes ∙ ap (λ (l : List ℕ). appended l start.bytes) (sym lines);
+        count = played.count ∙ ap (λ (n : ℕ). counted n (length t.calls)) p.count ∙ counted-counted start.count (length (calls_in p.done)) (length t.calls)
+            ∙ ap (counted start.count) (sym (length-append (calls_in p.done) t.calls)) ∙ ap (λ (l : List (ℕ × Bool)). counted start.count (length l)) (sym calls);
+        log = played.log ∙ ap (λ (l : Log). logged l t.calls) p.log ∙ logged-logged start.log (calls_in p.done) t.calls ∙ ap (logged start.log) (sym calls);
+        whole = next_whole command rest state p.done p.whole ∙ sym (append_assoc p.done (t ∷ []) (rounds calc t.next rest)) ∙ ap (λ (s : Standing). (p.done ++ t ∷ []) ++ rounds calc s rest) (sym is);
+        sounds = All-push (λ (u : Turn). IsSound calc u.next.state) p.done t p.sounds (subst (λ (s : Standing). IsSound calc s.state) is sound);
+        names = names ∙ p.names;
+        actions = actions ∙ p.actions;
+        running = running;
         sound = sound;
       }
 
+  -- it ends early in the next command
+  pub progress_cut : (command : Command) (rest : List Command) (state : Standing) (now new : Outside) → Progress calc first commands (command ∷ rest) state start now
+      → IsUnwritten (turn calc state command) now new → IsCut (rounds calc first commands) start new
+  progress_cut command rest state now new p r =
+      cut_in (rounds calc first commands) p.done (rounds calc (turn calc state command).next rest) (turn calc state command) (next_whole command rest state p.done p.whole) start now new p.bytes p.count p.log r
+
+  pub progress_halted : (command : Command) (rest : List Command) (state : Standing) (now new : Outside) → Progress calc first commands (command ∷ rest) state start now
+      → IsStopped (turn calc state command) now new → IsHalted (rounds calc first commands) start new
+  progress_halted command rest state now new p r =
+      halted_in (rounds calc first commands) p.done (rounds calc (turn calc state command).next rest) (turn calc state command) (next_whole command rest state p.done p.whole) start now new p.bytes p.count p.log r
+
+  module _ (command : Command) (rest : List Command) (state : Standing) (now new : Outside) (p : Progress calc first commands (command ∷ rest) state start now) where
+    pub ends_written : (s : Status) → RoundEnds {A = Unit {0}} (turn calc state command) (Err s) now new → Writes start.bytes new.bytes (lines_of (rounds calc first commands)) s
+    ends_written status.TheVariants.WriteFault r = cut_front (rounds calc first commands) start new (progress_cut command rest state now new p r)
+    ends_written status.TheVariants.NoMemory r = halted_front (rounds calc first commands) start new (progress_halted command rest state now new p r)
+    ends_written status.TheVariants.Done r = absurd r
+    ends_written status.TheVariants.Usage r = absurd r
+    ends_written (status.TheVariants.Market section entry kind) r = absurd r
+    ends_written (status.TheVariants.Script line kind) r = absurd r
+    ends_written status.TheVariants.ReadFault r = absurd r
+    ends_written (status.TheVariants.Absent role) r = absurd r
+
+    pub ends_cut : (s : Status) → RoundEnds {A = Unit {0}} (turn calc state command) (Err s) now new → s ≡ status.TheVariants.WriteFault → IsCut (rounds calc first commands) start new
+    ends_cut s r is = progress_cut command rest state now new p (subst (λ (x : Status). RoundEnds {A = Unit {0}} (turn calc state command) (Err x) now new) is r)
+
+    pub ends_halted : (s : Status) → RoundEnds {A = Unit {0}} (turn calc state command) (Err s) now new → s ≡ status.TheVariants.NoMemory → IsHalted (rounds calc first commands) start new
+    ends_halted s r is = progress_halted command rest state now new p (subst (λ (x : Status). RoundEnds {A = Unit {0}} (turn calc state command) (Err x) now new) is r)
+
   -- all is done
-  pub progress_bytes : (state : Standing) (bytes_now : Option (List ℕ)) (count_now : ℕ) (log_now : Log) → Progress calc first commands [] state bytes_first bytes_now count_first count_now log_first log_now → bytes_now ≡ appended (transcript calc first commands) bytes_first
-  unfolding transcript
-  progress_bytes state bytes_now count_now log_now p = p.bytes ∙ ap (λ (l : List ℕ). appended l bytes_first) (sym (p.whole ∙ append-nil p.lines))
+  all_done : (state : Standing) (now : Outside) (p : Progress calc first commands [] state start now) → rounds calc first commands ≡ p.done
+  unfolding rounds
+  all_done state now p = p.whole ∙ append-nil p.done
 
-  pub progress_count : (state : Standing) (bytes_now : Option (List ℕ)) (count_now : ℕ) (log_now : Log) → Progress calc first commands [] state bytes_first bytes_now count_first count_now log_first log_now → count_now ≡ counted count_first (length (calls_of calc first commands))
-  unfolding calls_of
-  progress_count state bytes_now count_now log_now p = p.count ∙ ap (λ (l : List (ℕ × Bool)). counted count_first (length l)) (sym (p.total ∙ append-nil p.calls))
+  pub progress_bytes : (state : Standing) (now : Outside) → Progress calc first commands [] state start now → now.bytes ≡ appended (lines_of (rounds calc first commands)) start.bytes
+  progress_bytes state now p = p.bytes ∙ ap (λ (l : List Turn). appended (lines_of l) start.bytes) (sym (all_done state now p))
 
-  pub progress_log : (state : Standing) (bytes_now : Option (List ℕ)) (count_now : ℕ) (log_now : Log) → Progress calc first commands [] state bytes_first bytes_now count_first count_now log_first log_now → log_now ≡ logged log_first (calls_of calc first commands)
-  unfolding calls_of
-  progress_log state bytes_now count_now log_now p = p.log ∙ ap (logged log_first) (sym (p.total ∙ append-nil p.calls))
+  pub progress_count : (state : Standing) (now : Outside) → Progress calc first commands [] state start now → now.count ≡ counted start.count (length (calls_in (rounds calc first commands)))
+  progress_count state now p = p.count ∙ ap (λ (l : List Turn). counted start.count (length (calls_in l))) (sym (all_done state now p))
 
-  -- it ends early: what is written is a front of the transcript
-  pub progress_front : (rest : List Command) (state : Standing) (bytes_now : Option (List ℕ)) (count_now : ℕ) (log_now : Log) → Progress calc first commands rest state bytes_first bytes_now count_first count_now log_first log_now
-      → (n : ℕ) × (bytes_now ≡ appended (take n (transcript calc first commands)) bytes_first)
-  progress_front rest state bytes_now count_now log_now p =
-      (length p.lines, p.bytes ∙ ap (λ (l : List ℕ). appended l bytes_first) (sym (ap (λ (l : List ℕ). take (length p.lines) l) p.whole ∙ take_at p.lines (transcript calc state rest) (length p.lines) refl)))
+  pub progress_log : (state : Standing) (now : Outside) → Progress calc first commands [] state start now → now.log ≡ logged start.log (calls_in (rounds calc first commands))
+  progress_log state now p = p.log ∙ ap (λ (l : List Turn). logged start.log (calls_in l)) (sym (all_done state now p))
 
-  pub progress_cut : (command : Command) (rest : List Command) (state : Standing) (lines : List ℕ) (n : ℕ) (bytes_now bytes_later : Option (List ℕ)) (count_now : ℕ) (log_now : Log)
-      → Progress calc first commands (command ∷ rest) state bytes_first bytes_now count_first count_now log_first log_now
-      → lines ≡ (turn calc state command).lines → n < length lines → bytes_later ≡ appended (take n lines) bytes_now
-      → (m : ℕ) × (bytes_later ≡ appended (take m (transcript calc first commands)) bytes_first)
-  unfolding transcript
-  progress_cut command rest state lines n bytes_now bytes_later count_now log_now p written short put =
-      let t : Turn = turn calc state command in
-      let after = transcript calc t.next rest in
-      let whole : transcript calc first commands ≡ p.lines ++ (lines ++ after) = p.whole ∙ ap (λ (l : List ℕ). p.lines ++ (l ++ after)) (sym written) in
-      let front : take (length p.lines + n) (p.lines ++ (lines ++ after)) ≡ p.lines ++ take n lines = front_of p.lines lines after n (omega arith) in
-      (length p.lines + n, put ∙ ap (appended (take n lines)) p.bytes ∙ appended-appended p.lines (take n lines) bytes_first ∙ ap (λ (l : List ℕ). appended l bytes_first) (sym (ap (λ (l : List ℕ). take (length p.lines + n) l) whole ∙ front)))
+  pub progress_sounds : (state : Standing) (now : Outside) → Progress calc first commands [] state start now → All (λ (t : Turn). IsSound calc t.next.state) (rounds calc first commands)
+  progress_sounds state now p = subst (λ (l : List Turn). All (λ (t : Turn). IsSound calc t.next.state) l) (sym (all_done state now p)) p.sounds
 
   -- at the place of a loop over the commands: one is next, or none is left
-  pub progress_next : (i : ℕ) (command : Command) (state : Standing) (bytes_now : Option (List ℕ)) (count_now : ℕ) (log_now : Log) → i < length commands → command ≡ get_or commands i command
-      → Progress calc first commands (drop i commands) state bytes_first bytes_now count_first count_now log_first log_now
-      → Progress calc first commands (command ∷ drop (i + 1) commands) state bytes_first bytes_now count_first count_now log_first log_now
-  progress_next i command state bytes_now count_now log_now within is p =
-      subst (λ (rest : List Command). Progress calc first commands rest state bytes_first bytes_now count_first count_now log_first log_now)
-      (drop_more commands i command within ∙ ap (λ (c : Command). c ∷ drop (i + 1) commands) (sym is)) p
+  pub progress_next : (i : ℕ) (command : Command) (state : Standing) (now : Outside) → i < length commands → command ≡ get_or commands i command
+      → Progress calc first commands (drop i commands) state start now → Progress calc first commands (command ∷ drop (i + 1) commands) state start now
+  progress_next i command state now within is p =
+      subst (λ (rest : List Command). Progress calc first commands rest state start now) (drop_more commands i command within ∙ ap (λ (c : Command). c ∷ drop (i + 1) commands) (sym is)) p
 
-  pub progress_last : (i : ℕ) (state : Standing) (bytes_now : Option (List ℕ)) (count_now : ℕ) (log_now : Log) → length commands ≤ i
-      → Progress calc first commands (drop i commands) state bytes_first bytes_now count_first count_now log_first log_now
-      → Progress calc first commands [] state bytes_first bytes_now count_first count_now log_first log_now
-  progress_last i state bytes_now count_now log_now past p =
-      subst (λ (rest : List Command). Progress calc first commands rest state bytes_first bytes_now count_first count_now log_first log_now) (drop_all i commands past) p
+  pub progress_last : (i : ℕ) (state : Standing) (now : Outside) → length commands ≤ i → Progress calc first commands (drop i commands) state start now → Progress calc first commands [] state start now
+  progress_last i state now past p = subst (λ (rest : List Command). Progress calc first commands rest state start now) (drop_all i commands past) p
+
+-- two errors of one answer are one
+pub same_status : (r : Result (Unit {0}) Status) (s other : Status) → r ≡ Err s → r ≡ Err other → s ≡ other
+same_status r s other is also = cc

@@ -1,6 +1,6 @@
 -- The exit codes and the lines on standard error (this project's profile).
 use Rattle.std.specs.Prelude.{ℕ, List, [], ◌++◌, codes, decimal}
-use Rattle.session_lang.specs.Fault.{kind_text}
+use Rattle.session_commands.specs.ScriptKind.{kind_text}
 use Rattle.desk_top.specs.declared.status.Section.{Section}
 use Rattle.desk_top.specs.declared.status.Section.TheVariants.{Top}
 use Rattle.desk_top.specs.declared.status.MarketKind.{MarketKind}

@@ -4,12 +4,10 @@
 //! `run`, `Status` with `Section`, `MarketKind` and `FileRole`.
 #![tactic(auto)]
 
+mod market;
 mod play;
 mod running;
 mod status;
 
 pub use running::run;
 pub use status::{FileRole, MarketKind, Section, Status};
-
-#[cfg(test)]
-mod tests;

@@ -1,47 +1,107 @@
 // All commands of a script, in order.
-ghost use Rattle.std.specs.Prelude.{◌≡◌, ◌≤◌, ℕ, true, length, codes, All, IfErr, OnOk, IsErrOf};
+ghost use Rattle.std.specs.Prelude.{◌≡◌, ◌≤◌, ◌<◌, ℕ, true, false, length, take, codes, All, IfErr, OnOk, IsErrOf};
 ghost use Rattle.desk_edge.specs.Count.{Rose};
+ghost use Rattle.desk_edge.specs.Sink.{appended};
 ghost use Rattle.desk_names.specs.Names.{has_text};
 ghost use Rattle.desk_terms.specs.Bench.{counted, logged};
-ghost use Rattle.session_lang.specs.Whole.{IsCommand};
-ghost use Rattle.session_model.specs.Standing.{start_of};
-ghost use Rattle.session_model.specs.Transcript.{transcript, calls_of};
+ghost use Rattle.desk_model.specs.Sound.{IsSound};
+ghost use Rattle.session_commands.specs.Whole.{IsCommand};
+ghost use Rattle.session_model.specs.Standing.{start_of, IsKnown};
+ghost use Rattle.session_model.specs.Turn.{Turn, turn};
+ghost use Rattle.session_model.specs.Rounds.{rounds, transcript, calls_of};
+ghost use Rattle.desk_top.specs.Early.{outside, IsCut, IsHalted};
+ghost use Rattle.desk_top.specs.Round.{RoundEnds};
 ghost use Rattle.desk_top.specs.Run.{IsLate, Writes, ended};
 
 use crate::Status;
+use day_number::Day;
 use desk_edge::{Sink, write_whole};
 use desk_names::Names;
 use desk_terms::Bench;
+use session_commands::{Actions, Command};
 use session_core::Session;
-use session_lang::Command;
 use std::alloc::Global;
 
-/// Does all commands in order over a new session, and writes the lines of each before the next begins.
+/// Does all commands in order over a new session, and writes the lines of each before the next begins. The session has
+/// these names, this evaluation date and these actions.
 pub fn play<K: Sink, B: Bench>(
     alloc: Global,
     names: Names,
+    today: Day,
+    actions: Actions,
     commands: &[Command],
     out: &mut K,
     bench: &mut B,
 ) -> Result<(), Status>
     requires today { has_text names (codes "today") ≡ true }
-    requires known { (actions : ℕ) × All (IsCommand (length names) actions) commands.now }
+    requires known { All (IsCommand (length names) (length actions)) commands.now }
     ensures same { B.calc bench.new ≡ B.calc bench.old }
-    ensures written { Writes (K.bytes out.old) (K.bytes out.new) (transcript (B.calc bench.old) (start_of names) commands.now) (ended result) }
-    ensures count { OnOk result (B.count bench.new ≡ counted (B.count bench.old) (length (calls_of (B.calc bench.old) (start_of names) commands.now))) }
-    ensures log { OnOk result (B.log bench.new ≡ logged (B.log bench.old) (calls_of (B.calc bench.old) (start_of names) commands.now)) }
+
+    // At Ok the lines of all rounds were written, and their computations made.
+    ensures written { Writes (K.bytes out.old) (K.bytes out.new) (transcript (B.calc bench.old) (start_of today names actions) commands.now) (ended result) }
+    ensures count { OnOk result (B.count bench.new ≡ counted (B.count bench.old) (length (calls_of (B.calc bench.old) (start_of today names actions) commands.now))) }
+    ensures log { OnOk result (B.log bench.new ≡ logged (B.log bench.old) (calls_of (B.calc bench.old) (start_of today names actions) commands.now)) }
+
+    // At an early end it stands within one round, whose lines were not all written.
+    ensures cut { IsErrOf result Status.WriteFault → IsCut (rounds (B.calc bench.old) (start_of today names actions) commands.now)
+        (outside (K.bytes out.old) (B.count bench.old) (B.log bench.old)) (outside (K.bytes out.new) (B.count bench.new) (B.log bench.new)) }
+    ensures halted { IsErrOf result Status.NoMemory → IsHalted (rounds (B.calc bench.old) (start_of today names actions) commands.now)
+        (outside (K.bytes out.old) (B.count bench.old) (B.log bench.old)) (outside (K.bytes out.new) (B.count bench.new) (B.log bench.new)) }
+
+    // Each round left a sound state.
+    ensures sound { OnOk result (All (λ (t : Turn). IsSound (B.calc bench.old) t.next.state) (rounds (B.calc bench.old) (start_of today names actions) commands.now)) }
+
     ensures late { IfErr result IsLate }
     ensures write { IsErrOf result Status.WriteFault → Rose (K.faults out.old) (K.faults out.new) }
     ensures faults { K.faults out.old ≤ K.faults out.new }
 {
-    let mut session = Session::new(alloc, names)?;
+    let mut session = Session::new(alloc, names, today, actions)?;
+    let mut lines = Vec::new(alloc);
     for command in commands {
-        let mut lines = Vec::new(alloc);
-        session.step(command, bench, &mut lines)?;
-        match write_whole(out, &lines) {
-            Ok(()) => {}
-            Err(_) => return Err(Status::WriteFault),
-        }
+        play_round(&mut session, command, &mut lines, out, bench)?;
     }
     Ok(())
+}
+
+// Does one command, and writes its lines; where memory ran out in it, those so far. `lines` is room for them.
+fn play_round<K: Sink, B: Bench>(
+    session: &mut Session,
+    command: &Command,
+    lines: &mut Vec<u8>,
+    out: &mut K,
+    bench: &mut B,
+) -> Result<(), Status>
+    requires running { session.old.stopped ≡ false }
+    requires known { IsKnown session.old command.now }
+    requires sound { IsSound (B.calc bench.old) session.old.state }
+    ensures same { B.calc bench.new ≡ B.calc bench.old }
+    ensures ends { RoundEnds (turn (B.calc bench.old) session.old command.now) result
+        (outside (K.bytes out.old) (B.count bench.old) (B.log bench.old)) (outside (K.bytes out.new) (B.count bench.new) (B.log bench.new)) }
+    ensures next { OnOk result (session.new ≡ (turn (B.calc bench.old) session.old command.now).next) }
+    ensures sound { IsSound (B.calc bench.old) session.new.state }
+    ensures running { OnOk result (session.new.stopped ≡ false) }
+    ensures names { OnOk result (session.new.names ≡ session.old.names) }
+    ensures actions { OnOk result (session.new.actions ≡ session.old.actions) }
+    ensures late { IfErr result IsLate }
+    ensures write { IsErrOf result Status.WriteFault → Rose (K.faults out.old) (K.faults out.new) }
+    ensures faults { K.faults out.old ≤ K.faults out.new }
+{
+    lines.clear();
+    if session.step(command, bench, lines).is_err() {
+        write_front(out, lines);
+        return Err(Status::NoMemory);
+    }
+    match write_whole(out, lines) {
+        Ok(()) => Ok(()),
+        Err(_) => Err(Status::WriteFault),
+    }
+}
+
+// Writes what it can of the lines of a round in which memory ran out.
+fn write_front<K: Sink>(out: &mut K, lines: &[u8])
+    ensures front { (count : ℕ) × (count ≤ length lines.now) × (K.bytes out.new ≡ appended (take count lines.now) (K.bytes out.old)) }
+    ensures faults { K.faults out.old ≤ K.faults out.new }
+{
+    // Where this fails, it is want of memory all the same.
+    let _ = write_whole(out, lines);
 }

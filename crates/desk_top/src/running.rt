@@ -1,31 +1,37 @@
 // The top call.
-ghost use Rattle.std.specs.Prelude.{◌≡◌, ◌≢◌, ◌⊎◌, ◌↔◌, ◌≤◌, true, codes, length, map, None, IfSome, IfOk, IfErr, OnErr, IsErrOf, OnOk};
+ghost use Rattle.std.specs.Prelude.{◌≡◌, ◌≢◌, ◌⊎◌, ◌↔◌, ◌≤◌, Ok, true, codes, length, map, None, IfSome, IfOk, IfErr, OnErr, IsErrOf, OnOk};
 ghost use Rattle.std.specs.String.{string_bytes};
 ghost use Rattle.desk_edge.specs.Count.{Rose};
 ghost use Rattle.desk_edge.specs.Shelf.{files_of, file_at};
 ghost use Rattle.desk_terms.specs.Bench.{counted, logged};
 ghost use Rattle.desk_top.specs.declared.status.FileRole.{FileRole};
-ghost use Rattle.desk_top.specs.Found.{too_long_of, Finds, IsBefore, Plans, Reads};
+ghost use Rattle.desk_top.specs.Found.{too_long_of, read_status, script_status, Finds, IsBefore, Plans, Reads};
+ghost use Rattle.desk_top.specs.Early.{outside, IsCut, IsHalted};
 ghost use Rattle.desk_top.specs.Run.{IsOutside, IsEarly, IsReading, IsAccepted, IsQuiet, Writes};
 ghost use Rattle.desk_names.specs.Names.{has_text, IsNames};
 ghost use Rattle.session_lang.specs.Reading.{script_meaning};
-ghost use Rattle.session_lang.specs.Whole.{IsScript};
-ghost use Rattle.desk_top.specs.Verdict.{first_names, with_plan, verdict_of, status_of, output_of, computed_by};
-ghost use Rattle.desk_forms.specs.Words.{request_of};
+ghost use Rattle.session_commands.specs.Whole.{IsScript};
+ghost use Rattle.session_model.specs.Rounds.{rounds};
+ghost use Rattle.desk_top.specs.Verdict.{Plan as Wanted, first_names, with_plan, verdict_of, status_of, output_of, computed_by, rounds_of};
+ghost use Rattle.desk_words.specs.Words.{request_of};
 
+use crate::market::{evaluation_date, is_market};
 use crate::play::play;
 use crate::{FileRole, MarketKind, Section, Status};
+use day_number::Day;
 use desk_edge::{ReadFault, Shelf, Sink, read_whole};
-use desk_forms::{Request, is_market, read_words};
-use desk_names::Names;
+use desk_names::{NameFault, Names};
 use desk_terms::Bench;
-use session_lang::{Script, ScriptFault, ScriptKind, read_script};
+use desk_words::read_words;
+use session_commands::{Script, ScriptKind};
+use session_lang::{ScriptFault, read_script};
 use std::alloc::{AllocError, Global};
 
-// A script that was read, and the names of its session.
+// A script that was read, the names of its session, and the evaluation date of the market.
 #[derive(Drop)]
 struct Plan {
     names: Names,
+    today: Day,
     script: Script,
 }
 
@@ -56,6 +62,19 @@ pub fn run<H: Shelf, K: Sink, B: Bench>(
     // At Done the bytes written are the transcript; after a fault of writing or want of memory they are a front of it.
     ensures written { IfSome (files_of (H.contents shelf.old)) (λ files.
         Writes (K.bytes out.old) (K.bytes out.new) (output_of (B.calc bench.old) (verdict_of files (map string_bytes words.now))) result) }
+    ensures accepted { IfSome (files_of (H.contents shelf.old)) (λ files.
+        result ≡ Status.WriteFault → IsAccepted (verdict_of files (map string_bytes words.now))) }
+
+    // Where it ends early the lines of whole rounds were written and a part of the next one's, for files told or not.
+    ensures cut { IfSome (files_of (H.contents shelf.old)) (λ files. result ≡ Status.WriteFault
+        → IsCut (rounds_of (B.calc bench.old) (verdict_of files (map string_bytes words.now)))
+        (outside (K.bytes out.old) (B.count bench.old) (B.log bench.old)) (outside (K.bytes out.new) (B.count bench.new) (B.log bench.new))) }
+    ensures halted { IfSome (files_of (H.contents shelf.old)) (λ files. result ≡ Status.NoMemory
+        → IsHalted (rounds_of (B.calc bench.old) (verdict_of files (map string_bytes words.now)))
+        (outside (K.bytes out.old) (B.count bench.old) (B.log bench.old)) (outside (K.bytes out.new) (B.count bench.new) (B.log bench.new))) }
+    ensures untold { result ≡ Status.WriteFault → (plan : Wanted)
+        × IsCut (rounds_of (B.calc bench.old) (Ok plan))
+        (outside (K.bytes out.old) (B.count bench.old) (B.log bench.old)) (outside (K.bytes out.new) (B.count bench.new) (B.log bench.new)) }
     ensures nothing { IsEarly result → K.bytes out.new ≡ K.bytes out.old }
 
     // At Done the bench was called for the computations of the transcript, in their order, and for no other.
@@ -72,11 +91,23 @@ pub fn run<H: Shelf, K: Sink, B: Bench>(
     ensures absent { (role : FileRole) → result ≡ Status.Absent role → Rose (H.misses shelf.old) (H.misses shelf.new) }
     ensures files { files_of (H.contents shelf.new) ≡ files_of (H.contents shelf.old) }
 {
-    let Plan { names, script } = match plan_of(alloc, words, shelf) {
+    let Plan {
+        names,
+        today,
+        script,
+    } = match plan_of(alloc, words, shelf) {
         Ok(plan) => plan,
         Err(status) => return status,
     };
-    if let Err(status) = play(alloc, names, script.commands.items(), out, bench) {
+    if let Err(status) = play(
+        alloc,
+        names,
+        today,
+        script.actions,
+        script.commands.items(),
+        out,
+        bench,
+    ) {
         return status;
     }
     Status::Done
@@ -101,9 +132,18 @@ fn read_file<H: Shelf>(
     match read_whole(shelf, path, &mut text) {
         Ok(true) => Ok(text),
         Ok(false) => Err(Status::Absent(role)),
-        Err(ReadFault::Failed) => Err(Status::ReadFault),
-        Err(ReadFault::TooLong) => Err(too_long(role)),
-        Err(ReadFault::NoMemory) => Err(Status::NoMemory),
+        Err(fault) => Err(read_status(fault, role)),
+    }
+}
+
+// The status of a read that failed.
+fn read_status(fault: ReadFault, role: FileRole) -> Status
+    ensures { result ≡ read_status role fault }
+{
+    match fault {
+        ReadFault::Failed => Status::ReadFault,
+        ReadFault::TooLong => too_long(role),
+        ReadFault::NoMemory => Status::NoMemory,
     }
 }
 
@@ -150,9 +190,22 @@ fn read_plan(alloc: Global, text: &[u8]) -> Result<Plan, Status>
 {
     let mut names = first_names(alloc)?;
     match read_script(alloc, text, &mut names) {
-        Ok(script) => Ok(Plan { names, script }),
-        Err(ScriptFault::At { line, kind }) => Err(Status::Script(line, kind)),
-        Err(ScriptFault::NoMemory) => Err(Status::NoMemory),
+        Ok(script) => Ok(Plan {
+            names,
+            today: evaluation_date(),
+            script,
+        }),
+        Err(fault) => Err(script_status(fault)),
+    }
+}
+
+// The status of a script that was not read.
+fn script_status(fault: ScriptFault) -> Status
+    ensures { result ≡ script_status fault }
+{
+    match fault {
+        ScriptFault::At { line, kind } => Status::Script(line, kind),
+        ScriptFault::NoMemory => Status::NoMemory,
     }
 }
 
@@ -162,9 +215,11 @@ fn first_names(alloc: Global) -> Result<Names, AllocError>
     ensures names { IfOk result (λ names. IsNames names) }
 {
     let mut names = Names::new(alloc);
-    // `today` is a name and there is room for it, so memory alone can be wanting.
     match names.intern(b"today") {
         Ok(_) => Ok(names),
-        Err(_) => Err(AllocError),
+        Err(NameFault::NoMemory) => Err(AllocError),
+        // `today` is a name, and there is room for it.
+        Err(NameFault::Form) => unreachable!(),
+        Err(NameFault::Full) => unreachable!(),
     }
 }

@@ -2,7 +2,7 @@
 ghost use Rattle.std.specs.Prelude.{◌≡◌, Some};
 ghost use Rattle.desk_top.specs.Status.{code_of, status_text};
 
-use session_lang::ScriptKind;
+use session_commands::ScriptKind;
 use std::alloc::AllocError;
 use std::fmt;
 

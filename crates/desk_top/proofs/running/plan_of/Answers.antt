@@ -2,8 +2,8 @@ use Rattle.std.proofs.Common.{◌≡◌, ℕ, List, sym, ◌∙◌, ap, subst}
 use Rattle.std.specs.Str.{bytes_eq}
 use Rattle.std.proofs.lemmas.Result.{err_from_is_err_and}
 use Rattle.desk_edge.specs.Shelf.{files_of}
-use Rattle.desk_forms.specs.Words.{Request}
-use Rattle.desk_forms.specs.Market.{two_lines}
+use Rattle.desk_words.specs.Words.{Request}
+use Rattle.desk_top.specs.Market.{two_lines}
 use Rattle.session_lang.specs.Reading.{script_meaning}
 use Rattle.desk_top.specs.Found.{Reads}
 use Rattle.desk_top.specs.Verdict.{first_names, with_plan}

@@ -1,8 +1,8 @@
 // The words of the command line.
 ghost use Rattle.std.specs.Prelude.{◌≡◌, [], ◌∷◌, map};
 ghost use Rattle.std.specs.String.{string_bytes};
-ghost use Rattle.desk_forms.specs.Words.{is_path, request_of};
-ghost use Rattle.desk_forms.specs.Asking.{request_in};
+ghost use Rattle.desk_words.specs.Words.{is_path, request_of};
+ghost use Rattle.desk_words.specs.Asking.{request_in};
 
 /// What the words ask for: a run of a script over a market, each by its path.
 #[derive(Clone, Copy, Debug)]

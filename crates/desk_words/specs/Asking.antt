@@ -1,7 +1,7 @@
 -- A request of the code, as the definition sees it.
 use Rattle.std.specs.Prelude.{Option, None, Some}
-use Rattle.desk_forms.specs.declared.words.Request as code
-use Rattle.desk_forms.specs.Words.{Request}
+use Rattle.desk_words.specs.declared.words.Request as code
+use Rattle.desk_words.specs.Words.{Request}
 
 abbrev pub request_in : Option code.Request → Option Request
 request_in None = None

@@ -1,22 +1,31 @@
 //! Runs scripts over the two-line market, and compares the bytes with those that an independent model of the session
 //! writes: prints the number of each script that differs, and how many agree.
+//! Then runs one script with each call of the shelf and of the sink failing in turn, and compares how many calls were
+//! made, failed and missed, and how many bytes were written.
 #![tactic(auto)]
 
+mod calls;
+
+use desk_bench::DeskBench;
 use desk_edge::{CallList, FileList, MemoryFile, MemoryShelf, MemorySink};
-use desk_session::DeskBench;
 use desk_top::{Status, run};
 use std::alloc::{AllocError, Global};
 use std::{fs, io};
 
-const MARKET: &[u8] = b"version = 1\ntoday = \"2024-01-02\"\n";
+pub(crate) const MARKET: &[u8] = b"version = 1\ntoday = \"2024-01-02\"\n";
 
 // The most bytes that a case may write.
 const ROOM: usize = 100_000;
 
-// `scripts` has scripts of which no command is refused, `refused` those with refused commands or a fault.
+// `scripts` has scripts of which no command is refused, `refused` those with refused commands or a fault, `faults` those
+// that have a fault, `unset` those that take values away from quotes, and `graphs` those of all commands that are built.
 fn main(rt: HostRuntime) -> io::Result<()> {
     compare(&rt, "scripts")?;
-    compare(&rt, "refused")
+    compare(&rt, "refused")?;
+    compare(&rt, "faults")?;
+    compare(&rt, "unset")?;
+    compare(&rt, "graphs")?;
+    calls::compare(&rt)
 }
 
 // Compares the cases of a file and prints how many agree. A line `==` stands between two cases. In a case `--` and a
@@ -65,7 +74,7 @@ fn shelf(alloc: Global, script: &str) -> Result<MemoryShelf, AllocError> {
     Ok(MemoryShelf::new(files, 4096, CallList::new(alloc)))
 }
 
-fn file(alloc: Global, path: &str, bytes: &[u8]) -> Result<MemoryFile, AllocError> {
+pub(crate) fn file(alloc: Global, path: &str, bytes: &[u8]) -> Result<MemoryFile, AllocError> {
     let path = String::from_str(alloc, path)?;
     Ok(MemoryFile::new(path, bytes.to_vec(alloc)?))
 }

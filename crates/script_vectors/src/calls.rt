@@ -1,0 +1,134 @@
+// Runs with a call that fails, or with files that are not there.
+use crate::{MARKET, file};
+use desk_bench::DeskBench;
+use desk_edge::{CallList, FileList, MemoryShelf, MemorySink};
+use desk_top::{Status, run};
+use std::alloc::{AllocError, Global};
+use std::{fs, io};
+
+const SCRIPT: &[u8] = b"quote q 1.5\nstock s q\nask s\nask s\n";
+
+const LINES: &[u8] = b"s 1.500000 fresh 1\ns 1.500000 fresh 0\n";
+
+// Compares the rows of `calls` and prints how many agree.
+pub(crate) fn compare(rt: &HostRuntime) -> io::Result<()> {
+    let text = fs::read_to_string(rt, "calls")?;
+    let mut agree = 0u32;
+    let mut differ = 0u32;
+    for row in text.lines() {
+        if agrees(rt.alloc(), row)? {
+            agree = agree.saturating_add(1);
+        } else {
+            differ = differ.saturating_add(1);
+            println!(rt; "calls: this differs: {row}")?;
+        }
+    }
+    println!(rt; "calls: {agree} agree, {differ} differ")
+}
+
+// Whether a row agrees: before the arrow what is given, behind it what is seen.
+fn agrees(alloc: Global, row: &str) -> Result<bool, AllocError> {
+    let Some((given, wanted)) = row.split_once(" -> ") else {
+        return Ok(false);
+    };
+    match seen(alloc, given)? {
+        Some(text) => Ok(text.as_str() == wanted),
+        None => Ok(false),
+    }
+}
+
+// What is seen of a run of the words: the shelf's calls, faults and misses, the sink's calls and faults, how many bytes
+// were written, and the line of the status. Given are, before the words, the most bytes of a read and which call of the
+// shelf fails, the room of the sink, the most bytes of a put and which fails, 0 for none.
+fn seen(alloc: Global, given: &str) -> Result<Option<String>, AllocError> {
+    let parts: Vec<&str> = given.split(' ').collect(alloc)?;
+    match parts.as_slice() {
+        [read_most, read_fails, room, put_most, put_fails, words @ ..] => {
+            let reads = Limits {
+                most: number(read_most),
+                call: number(read_fails),
+            };
+            let puts = Limits {
+                most: number(put_most),
+                call: number(put_fails),
+            };
+            played(alloc, &texts(alloc, words)?, reads, number(room), puts)
+        }
+        _ => Ok(None),
+    }
+}
+
+// How many bytes a call takes at most, and the number of the call that fails, 0 for none.
+#[derive(Clone, Copy)]
+struct Limits {
+    most: usize,
+    call: usize,
+}
+
+// What is seen of a run over this shelf and this sink; none where a call takes nothing, or other bytes were written.
+fn played(
+    alloc: Global,
+    words: &[String],
+    reads: Limits,
+    room: usize,
+    puts: Limits,
+) -> Result<Option<String>, AllocError> {
+    if reads.most == 0 || puts.most == 0 {
+        return Ok(None);
+    }
+    let mut shelf = MemoryShelf::new(files(alloc)?, reads.most, failing(alloc, reads.call)?);
+    let mut out = MemorySink::new(alloc, room, puts.most, failing(alloc, puts.call)?)?;
+    let status = run(alloc, words, &mut shelf, &mut out, &mut DeskBench::new());
+    if LINES.starts_with(out.bytes()) {
+        Ok(Some(counts(alloc, &shelf, &out, status)?))
+    } else {
+        Ok(None)
+    }
+}
+
+// The counts of shelf and sink, and the status.
+fn counts(
+    alloc: Global,
+    shelf: &MemoryShelf,
+    out: &MemorySink,
+    status: Status,
+) -> Result<String, AllocError> {
+    let reads = format!(in alloc; "{} {} {}", shelf.calls(), shelf.faults(), shelf.misses())?;
+    let puts = format!(in alloc; "{} {} {}", out.calls(), out.faults(), out.bytes().len())?;
+    if status == Status::Done {
+        format!(in alloc; "{reads} {puts} done")
+    } else {
+        format!(in alloc; "{reads} {puts} {status}")
+    }
+}
+
+// Words as texts of their own.
+fn texts(alloc: Global, words: &[&str]) -> Result<Vec<String>, AllocError> {
+    let mut texts = Vec::new(alloc);
+    for word in words {
+        texts.push(String::from_str(alloc, word)?)?;
+    }
+    Ok(texts)
+}
+
+// A number, and 0 where there is none.
+fn number(text: &str) -> usize {
+    text.parse().unwrap_or(0)
+}
+
+// The market `m` and the script `s`.
+fn files(alloc: Global) -> Result<FileList, AllocError> {
+    let mut files = FileList::new(alloc);
+    files.push(file(alloc, "m", MARKET)?)?;
+    files.push(file(alloc, "s", SCRIPT)?)?;
+    Ok(files)
+}
+
+// The call that fails, where one does.
+fn failing(alloc: Global, call: usize) -> Result<CallList, AllocError> {
+    let mut calls = CallList::new(alloc);
+    if call > 0 {
+        calls.push(call as u64)?;
+    }
+    Ok(calls)
+}

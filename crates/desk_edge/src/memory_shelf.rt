@@ -1,5 +1,5 @@
 // A shelf of files in memory.
-ghost use Rattle.std.specs.Prelude.{◌≡◌, ◌≤◌, Some, [], length, take, IfOk};
+ghost use Rattle.std.specs.Prelude.{◌≡◌, ◌+◌, ◌≤◌, Some, [], length, take, IfOk};
 ghost use Rattle.desk_edge.specs.MemoryShelf.{find_answer, after_find, take_answer, after_take};
 
 use crate::count::one_more;
@@ -94,6 +94,7 @@ impl MemoryShelf {
         ensures state { self.new ≡ after_find self.old path.now }
         ensures faults { self.old.faults ≤ self.new.faults }
         ensures misses { self.old.misses ≤ self.new.misses }
+        ensures counted { self.new.calls ≤ self.old.calls + 1 }
     {
         self.calls = one_more(self.calls);
         if has_call(&self.fails, self.calls) {
@@ -115,6 +116,7 @@ impl MemoryShelf {
         ensures state { self.new ≡ after_take self.old (length buf.old) }
         ensures bytes { IfOk result (λ count. take count buf.new ≡ take count self.old.contents.rest) }
         ensures faults { self.old.faults ≤ self.new.faults }
+        ensures counted { self.new.calls ≤ self.old.calls + 1 }
         ensures some { 1 ≤ self.old.most }
     {
         self.calls = one_more(self.calls);
@@ -136,6 +138,8 @@ impl Shelf for MemoryShelf {
     ghost faults = { λ s. s.faults };
 
     ghost misses = { λ s. s.misses };
+
+    ghost calls = { λ s. s.calls };
 
     fn find(&mut self, path: &str) -> Result<bool, Failed> {
         MemoryShelf::find(self, path)

@@ -46,16 +46,20 @@ impl From<AllocError> for ReadFault {
 
 /// Reads the file with this path to its end into out. Ok(false): there is none. A file of `MOST`
 /// bytes is read, and of a longer one `MOST` + 1 bytes are taken. After a fault out holds the front
-/// of the file. However it ends, at most `MOST` + 1 bytes are taken of the file that `find` began.
+/// of the file. However it ends, at most `MOST` + 1 bytes are taken of the file that `find` began, and
+/// each `take` but the last gave a byte of out.
 pub fn read_whole<H: Shelf>(shelf: &mut H, path: &str, out: &mut Vec<u8>) -> Result<bool, ReadFault>
     requires { out.old.items ≡ [] }
     ensures files { files_of (H.contents shelf.new) ≡ files_of (H.contents shelf.old) }
     ensures reads { IfSome (files_of (H.contents shelf.old))
         (λ files. Reads files path.now result out.new.items) }
     ensures taken { IfSome (H.contents shelf.new) (Leaves path.now result) }
-    // On every exit: find failed, or it began the file and so many bytes of it were taken.
-    ensures few { (H.contents shelf.new ≡ H.contents shelf.old)
+    // On every exit: find failed and was the one call, or it began the file and so many bytes of it were taken.
+    ensures few { ((H.contents shelf.new ≡ H.contents shelf.old) × (H.calls shelf.new ≤ H.calls shelf.old + 1))
         ⊎ ((count : ℕ) × (count ≤ MOST + 1) × Took count path.now (H.contents shelf.old) (H.contents shelf.new)) }
+    // On every exit: beside find and the last call each call took a byte that stands in out.
+    ensures calls { H.calls shelf.new ≤ H.calls shelf.old + length out.new.items + 2 }
+    ensures once { result ≡ Ok false → H.calls shelf.new ≤ H.calls shelf.old + 1 }
     ensures stops { IsErrOf result ReadFault.Failed → (H.contents shelf.new ≡ H.contents shelf.old)
         ⊎ Took (length out.new.items) path.now (H.contents shelf.old) (H.contents shelf.new) }
     ensures halts { IsErrOf result ReadFault.NoMemory → (count : ℕ) × (count ≤ PIECE)
@@ -90,6 +94,7 @@ fn read_begun<H: Shelf>(shelf: &mut H, out: &mut Vec<u8>) -> Result<(), ReadFaul
     ensures halts { IsErrOf result ReadFault.NoMemory → (count : ℕ) × (count ≤ PIECE)
         × (H.contents shelf.new ≡ option_map (passed (length out.new.items + count)) (H.contents shelf.old)) }
     ensures most { length out.new.items ≤ MOST }
+    ensures calls { H.calls shelf.new ≤ H.calls shelf.old + length out.new.items + 1 }
     ensures failed { IsErrOf result ReadFault.Failed → Rose (H.faults shelf.old) (H.faults shelf.new) }
     ensures faults { H.faults shelf.old ≤ H.faults shelf.new }
     ensures misses { H.misses shelf.old ≤ H.misses shelf.new }
@@ -117,6 +122,8 @@ fn take_more<H: Shelf>(shelf: &mut H, buf: &mut [u8], out: &mut Vec<u8>) -> Resu
         × (H.contents shelf.new ≡ option_map (passed count) (H.contents shelf.old)) }
     ensures stops { IsErrOf result ReadFault.Failed → H.contents shelf.new ≡ H.contents shelf.old }
     ensures most { length out.new.items ≤ MOST }
+    ensures grows { length out.old.items ≤ length out.new.items }
+    ensures calls { H.calls shelf.new ≤ H.calls shelf.old + 1 }
     ensures failed { IsErrOf result ReadFault.Failed → Rose (H.faults shelf.old) (H.faults shelf.new) }
     ensures faults { H.faults shelf.old ≤ H.faults shelf.new }
     ensures misses { H.misses shelf.old ≤ H.misses shelf.new }

@@ -1,5 +1,5 @@
 // A shelf of files: one file at a time is begun and taken from its first byte on.
-ghost use Rattle.std.specs.Prelude.{◌≡◌, ◌<◌, ◌≤◌, ◌↔◌, ℕ, Option, false, [], length, take, is_some, IfOk, IfSome, OnOk, OnErr};
+ghost use Rattle.std.specs.Prelude.{◌≡◌, ◌+◌, ◌<◌, ◌≤◌, ◌↔◌, ℕ, Option, false, [], length, take, is_some, IfOk, IfSome, OnOk, OnErr};
 ghost use Rattle.std.specs.Option.{option_map};
 ghost use Rattle.desk_edge.specs.Count.{Rose};
 ghost use Rattle.desk_edge.specs.Shelf.{Contents, file_at, files_of, begun, passed};
@@ -22,6 +22,9 @@ pub trait Shelf {
     /// How many times no file had the path, as a u64 that stands still at its last value.
     ghost misses: { Self → ℕ };
 
+    /// How many calls were made, where the shelf counts them: one that counts none tells 0.
+    ghost calls: { Self → ℕ };
+
     /// Begins the file with this path at its first byte. Ok(false): there is none, and then none is
     /// begun.
     fn find(&mut self, path: &str) -> Result<bool, Failed>
@@ -32,7 +35,8 @@ pub trait Shelf {
         ensures missed { IfOk result (λ found. found ≡ false → Rose (misses self.old) (misses self.new)) }
         ensures failed { OnErr result (Rose (faults self.old) (faults self.new)) }
         ensures faults { faults self.old ≤ faults self.new }
-        ensures misses { misses self.old ≤ misses self.new };
+        ensures misses { misses self.old ≤ misses self.new }
+        ensures counted { calls self.new ≤ calls self.old + 1 };
 
     /// The next bytes of the file begun, at the front of buf, and how many they are. 0 means the file's
     /// end, or that none is begun. What stands in buf behind them is not promised.
@@ -48,5 +52,6 @@ pub trait Shelf {
             (λ c. (count ≡ 0) ↔ (c.rest ≡ []))) }
         ensures failed { OnErr result (Rose (faults self.old) (faults self.new)) }
         ensures faults { faults self.old ≤ faults self.new }
-        ensures misses { misses self.old ≤ misses self.new };
+        ensures misses { misses self.old ≤ misses self.new }
+        ensures counted { calls self.new ≤ calls self.old + 1 };
 }

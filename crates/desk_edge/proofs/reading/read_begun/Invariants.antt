@@ -1,4 +1,4 @@
-use Rattle.std.proofs.Common.{length, ◌-◌, ◌≡◌, ◌≤◌}
+use Rattle.std.proofs.Common.{length, ◌+◌, ◌-◌, ◌≡◌, ◌≤◌}
 use Rattle.desk_edge.specs.Shelf.{put_back}
 use Rattle.desk_edge.proofs.reading.read_begun.Given as goal
 
@@ -7,6 +7,7 @@ invariant-loop g l = record {
   most : length l.out.items ≤ 8388608;
   piece : length l.buf ≤ 4096;
   kept : put_back l.out.items (g.H.Shelf.contents l.shelf) ≡ g.H.Shelf.contents l.initial.shelf;
+  calls : g.H.Shelf.calls l.shelf ≤ g.H.Shelf.calls l.initial.shelf + length l.out.items;
   faults : g.H.Shelf.faults l.initial.shelf ≤ g.H.Shelf.faults l.shelf;
   misses : g.H.Shelf.misses l.initial.shelf ≤ g.H.Shelf.misses l.shelf;
 }

@@ -11,7 +11,7 @@ use std::marker::Model;
 use thiserror::Error;
 
 /// How many names a session may have.
-const MOST_NAMES: u32 = 65_536;
+pub const MOST_NAMES: u32 = 65_536;
 
 /// Why a text got no number.
 #[derive(Clone, Copy, Debug, Error, PartialEq, Eq)]

@@ -6,3 +6,4 @@ pub mod Sorts
 pub mod PrintedLines
 pub mod Fields
 pub mod ReadFields
+pub mod NamedWords

@@ -24,3 +24,9 @@ Gives view (Err e) told = Fails e told
 pub record Grows (old new : List (List ℕ)) : Type 0 where
   pub more : List (List ℕ)
   pub whole : new ≡ old ++ more
+
+-- a line with a fault leaves the names as they were
+abbrev pub Keeps : {X : Type 0} → Result X LineFault → List (List ℕ) → List (List ℕ) → Type 0
+Keeps (Ok x) old new = Unit {0}
+Keeps (Err fault.NoMemory) old new = Unit {0}
+Keeps (Err (fault.Kind k)) old new = new ≡ old

@@ -1,5 +1,5 @@
 -- What a further word of a command says.
-use Rattle.std.specs.Prelude.{ℕ, Bool, true, false, not, ◌||◌, ◌==◌, nat_le, nat_lt, if◌then◌else◌, List, [], ◌∷◌, length, codes, Option, Some, None, is_some, Result, Ok, Err, ℤ, unsigned_abs}
+use Rattle.std.specs.Prelude.{ℕ, Bool, true, false, not, ◌&&◌, ◌||◌, ◌==◌, nat_le, nat_lt, if◌then◌else◌, List, [], ◌∷◌, length, codes, Option, Some, None, is_some, Result, Ok, Err, ℤ, unsigned_abs}
 use Rattle.std.specs.Str.{bytes_eq}
 use Rattle.fixed_amount.specs.Decimal.{decimal_value}
 use Rattle.fixed_amount.specs.declared.decimal.DecimalFault.{DecimalFault}
@@ -112,6 +112,14 @@ names_one kind.Weight word = false
 names_one kind.Day word = false
 names_one kind.Target word = false
 names_one kind.Switch word = false
+
+-- whether a word names one that is new
+abbrev pub names_new : List (List ℕ) → Kind → List ℕ → Bool
+names_new names k word = names_one k word && not (has_text names word)
+
+-- the names with the one in a word, where a name stands in it
+abbrev pub with_name : Kind → List ℕ → List (List ℕ) → List (List ℕ)
+with_name k word names = if names_one k word then with_text names word else names
 
 -- the field of a name's number
 abbrev pub named_field : Kind → ℕ → Field

@@ -23,12 +23,21 @@ abbrev pub engine_text : List (List ℕ) → Option ℕ → List ℕ
 engine_text names (Some name) = name_text names name
 engine_text names None = codes "none"
 
--- the two words of a kind of flag
+-- the two words of a kind of flag; the other kinds have none
 abbrev pub flag_text : Kind → Bool → List ℕ
 flag_text kind.Target true = codes "curve"
 flag_text kind.Target false = codes "quote"
-flag_text k true = codes "on"
-flag_text k false = codes "off"
+flag_text kind.Switch true = codes "on"
+flag_text kind.Switch false = codes "off"
+flag_text kind.Nothing flag = []
+flag_text kind.Name flag = []
+flag_text kind.Value flag = []
+flag_text kind.Number flag = []
+flag_text kind.Rate flag = []
+flag_text kind.Day flag = []
+flag_text kind.Weight flag = []
+flag_text kind.Engine flag = []
+flag_text kind.Action flag = []
 
 -- the word of a field
 abbrev pub field_text : List (List ℕ) → List ℕ → Kind → Field → List ℕ

@@ -1,11 +1,14 @@
 // A further word of a command, read by its kind.
-ghost use Rattle.std.specs.Prelude.{◌≡◌, ◌^◌, ◌≤◌, true, length, None, is_some, IfOk};
+ghost use Rattle.std.specs.Prelude.{◌≡◌, ◌^◌, ◌≤◌, true, length, None, is_some, IfOk, IfErr, OnOk, OnErr};
 ghost use Rattle.std.specs.Str.{bytes_eq};
-ghost use Rattle.script_words.specs.Word.{number_within, weight_of, unsigned_part, unless, fault_of, field_of, numbered, names_one, named_field, plain_field, number_field, day_field, weight_field, said, word_said};
+ghost use Rattle.script_words.specs.Word.{number_within, weight_of, unsigned_part, unless, fault_of, field_of, numbered, names_one, names_new, with_name, named_field, plain_field, number_field, day_field, weight_field, said, word_said};
 ghost use Rattle.script_words.specs.Given.{Gives, Grows};
 ghost use Rattle.session_commands.specs.Sorts.{IsOf};
 ghost use Rattle.session_commands.specs.declared.table.Kind.TheVariants as kind;
 ghost use Rattle.session_commands.specs.declared.script_kind.ScriptKind.TheVariants as fault;
+ghost use Rattle.script_words.specs.declared.line_fault.LineFault.TheVariants as line;
+ghost use Rattle.desk_names.specs.Name.{is_name};
+ghost use Rattle.desk_names.specs.Names.{with_text, most_names};
 
 use crate::LineFault;
 use day_number::{Day, read_day};
@@ -59,6 +62,10 @@ fn digits_of(word: &[u8]) -> &[u8]
 pub fn number_of(names: &mut Names, word: &[u8]) -> Result<NameId, LineFault>
     ensures gives { Gives (λ n. (n, names.new)) result (numbered names.old word.now) }
     ensures grows { Grows names.old names.new }
+    ensures names { OnOk result (names.new ≡ with_text names.old word.now) }
+    ensures kept { OnErr result (names.new ≡ names.old) }
+    ensures room { is_name word.now ≡ true → length (with_text names.old word.now) ≤ most_names
+        → IfErr result (λ e. e ≡ line.NoMemory) }
 {
     match names.intern(word) {
         Ok(name) => Ok(name),
@@ -86,8 +93,22 @@ fn names_one(kind: Kind, word: &[u8]) -> bool
     match kind {
         Kind::Name | Kind::Action => true,
         Kind::Engine => word != b"none".as_slice(),
-        _ => false,
+        Kind::Nothing
+        | Kind::Value
+        | Kind::Number
+        | Kind::Rate
+        | Kind::Day
+        | Kind::Weight
+        | Kind::Target
+        | Kind::Switch => false,
     }
+}
+
+/// Whether a word names one that is new, where one of this kind is asked for.
+pub fn names_new(names: &Names, kind: Kind, word: &[u8]) -> bool
+    ensures { result ≡ names_new names.now kind word.now }
+{
+    names_one(kind, word) && names.find(word).is_none()
 }
 
 // The field of a name's number.
@@ -98,7 +119,14 @@ fn named_field(kind: Kind, name: NameId) -> Field
         Kind::Name => Field::Name(name),
         Kind::Action => Field::Action(ActionId(name.0)),
         Kind::Engine => Field::Engine(Some(name)),
-        _ => Field::Nothing,
+        Kind::Nothing
+        | Kind::Value
+        | Kind::Number
+        | Kind::Rate
+        | Kind::Day
+        | Kind::Weight
+        | Kind::Target
+        | Kind::Switch => Field::Nothing,
     }
 }
 
@@ -197,6 +225,9 @@ pub fn field_of(
     requires plain { plain ≡ plain_field kind word.now }
     ensures gives { Gives (λ f. (f, names.new)) result (field_of names.old kind word.now) }
     ensures grows { Grows names.old names.new }
+    ensures names { OnOk result (names.new ≡ with_name kind word.now names.old) }
+    ensures kept { OnErr result (names.new ≡ names.old) }
+    ensures room { length (with_name kind word.now names.old) ≤ most_names → IfErr result (λ e. e ≡ line.NoMemory) }
     ensures sorted { IfOk result (λ f. IsOf kind f) }
 {
     if !names_one(kind, word) {

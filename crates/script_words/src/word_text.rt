@@ -61,14 +61,24 @@ fn push_engine(names: &Names, engine: Option<NameId>, out: &mut Vec<u8>) -> Resu
     }
 }
 
+// The word of a flag: no bytes where the kind has none.
 fn flag_text(kind: Kind, flag: bool) -> &'static [u8]
     ensures { result.now ≡ flag_text kind flag }
 {
-    match (kind, flag) {
-        (Kind::Target, true) => b"curve",
-        (Kind::Target, false) => b"quote",
-        (_, true) => b"on",
-        (_, false) => b"off",
+    match kind {
+        Kind::Target if flag => b"curve",
+        Kind::Target => b"quote",
+        Kind::Switch if flag => b"on",
+        Kind::Switch => b"off",
+        Kind::Nothing
+        | Kind::Name
+        | Kind::Value
+        | Kind::Number
+        | Kind::Rate
+        | Kind::Day
+        | Kind::Weight
+        | Kind::Engine
+        | Kind::Action => b"",
     }
 }
 

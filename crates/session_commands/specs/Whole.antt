@@ -19,7 +19,16 @@ name_text names name = slice_index_or names name []
 -- the greatest magnitude of a decimal, in units of 10^-9: 10 for a rate, else 10^9 (this project's profile)
 abbrev pub most_units : Kind → ℕ
 most_units kind.Rate = 10_000_000_000
-most_units _ = 1_000_000_000_000_000_000
+most_units kind.Nothing = 1_000_000_000_000_000_000
+most_units kind.Name = 1_000_000_000_000_000_000
+most_units kind.Value = 1_000_000_000_000_000_000
+most_units kind.Number = 1_000_000_000_000_000_000
+most_units kind.Day = 1_000_000_000_000_000_000
+most_units kind.Weight = 1_000_000_000_000_000_000
+most_units kind.Engine = 1_000_000_000_000_000_000
+most_units kind.Target = 1_000_000_000_000_000_000
+most_units kind.Switch = 1_000_000_000_000_000_000
+most_units kind.Action = 1_000_000_000_000_000_000
 
 -- a quote's value, where there is one, is within 10^9 either way
 abbrev pub IsValue : Option ℤ → Type 0

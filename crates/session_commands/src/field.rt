@@ -27,7 +27,14 @@ impl Field {
     {
         match self {
             Field::Name(name) => Some(name),
-            _ => None,
+            Field::Nothing
+            | Field::Value(_)
+            | Field::Number(_)
+            | Field::Day(_)
+            | Field::Weight(_)
+            | Field::Engine(_)
+            | Field::Flag(_)
+            | Field::Action(_) => None,
         }
     }
 
@@ -36,7 +43,14 @@ impl Field {
     {
         match self {
             Field::Value(value) => Some(value),
-            _ => None,
+            Field::Nothing
+            | Field::Name(_)
+            | Field::Number(_)
+            | Field::Day(_)
+            | Field::Weight(_)
+            | Field::Engine(_)
+            | Field::Flag(_)
+            | Field::Action(_) => None,
         }
     }
 
@@ -45,7 +59,14 @@ impl Field {
     {
         match self {
             Field::Number(units) => Some(units),
-            _ => None,
+            Field::Nothing
+            | Field::Name(_)
+            | Field::Value(_)
+            | Field::Day(_)
+            | Field::Weight(_)
+            | Field::Engine(_)
+            | Field::Flag(_)
+            | Field::Action(_) => None,
         }
     }
 
@@ -54,7 +75,14 @@ impl Field {
     {
         match self {
             Field::Day(day) => Some(day),
-            _ => None,
+            Field::Nothing
+            | Field::Name(_)
+            | Field::Value(_)
+            | Field::Number(_)
+            | Field::Weight(_)
+            | Field::Engine(_)
+            | Field::Flag(_)
+            | Field::Action(_) => None,
         }
     }
 
@@ -63,7 +91,14 @@ impl Field {
     {
         match self {
             Field::Weight(weight) => Some(weight),
-            _ => None,
+            Field::Nothing
+            | Field::Name(_)
+            | Field::Value(_)
+            | Field::Number(_)
+            | Field::Day(_)
+            | Field::Engine(_)
+            | Field::Flag(_)
+            | Field::Action(_) => None,
         }
     }
 
@@ -72,7 +107,14 @@ impl Field {
     {
         match self {
             Field::Engine(engine) => Some(engine),
-            _ => None,
+            Field::Nothing
+            | Field::Name(_)
+            | Field::Value(_)
+            | Field::Number(_)
+            | Field::Day(_)
+            | Field::Weight(_)
+            | Field::Flag(_)
+            | Field::Action(_) => None,
         }
     }
 
@@ -81,7 +123,14 @@ impl Field {
     {
         match self {
             Field::Flag(flag) => Some(flag),
-            _ => None,
+            Field::Nothing
+            | Field::Name(_)
+            | Field::Value(_)
+            | Field::Number(_)
+            | Field::Day(_)
+            | Field::Weight(_)
+            | Field::Engine(_)
+            | Field::Action(_) => None,
         }
     }
 
@@ -90,7 +139,14 @@ impl Field {
     {
         match self {
             Field::Action(action) => Some(action),
-            _ => None,
+            Field::Nothing
+            | Field::Name(_)
+            | Field::Value(_)
+            | Field::Number(_)
+            | Field::Day(_)
+            | Field::Weight(_)
+            | Field::Engine(_)
+            | Field::Flag(_) => None,
         }
     }
 }

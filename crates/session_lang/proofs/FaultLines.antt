@@ -39,7 +39,7 @@ begun_push above line =
 last_push : (marks : List Bool) (b : Bool) → last_of (marks ++ b ∷ []) ≡ b
 last_push marks b = get_or_push marks b false (length (marks ++ b ∷ []) - 1) (simp length-append (omega arith))
 
-inside_push : (above : List (List ℕ)) (line : List ℕ) → is_inside (above ++ line ∷ []) ≡ cond (is_mark (first_of (words_of line))) (is_begin (first_of (words_of line))) (is_inside above)
+pub inside_push : (above : List (List ℕ)) (line : List ℕ) → is_inside (above ++ line ∷ []) ≡ cond (is_mark (first_of (words_of line))) (is_begin (first_of (words_of line))) (is_inside above)
 inside_push above line =
     ap (λ fs. last_of (map is_begin (filter is_mark fs))) (map-append (λ l. first_of (words_of l)) above (line ∷ []))
     ∙ ap (λ fs. last_of (map is_begin fs)) (filter-append is_mark firsts (first_of (words_of line) ∷ []))
@@ -71,7 +71,7 @@ known_is : (next : Known) (n b : List (List ℕ)) → next.names ≡ n → next.
 known_is next n b hn hb = ap (λ x. record { names = x; begun = next.begun }) hn ∙ ap (λ x. record { names = n; begun = x }) hb
 
 -- what a line says, and its first fault
-line_is : (names above : List (List ℕ)) (line : List ℕ) → IsNames (names_after names above) → LineIs names above line (line_meaning (known_after names above) (is_inside above) line)
+pub line_is : (names above : List (List ℕ)) (line : List ℕ) → IsNames (names_after names above) → LineIs names above line (line_meaning (known_after names above) (is_inside above) line)
 unfolding line_meaning
 line_is names above line few = by (list_all is_good line) refl
   where
@@ -133,16 +133,16 @@ abbrev pub LinesAre : List (List ℕ) → ℕ → List (List ℕ) → Result Sai
 LinesAre names from ls (Ok said) = FineFrom names from ls said
 LinesAre names from ls (Err e) = FaultyFrom names from ls e
 
-at_place : (names ls above rest : List (List ℕ)) (line : List ℕ) → above ++ line ∷ rest ≡ ls → fault_at names ls (length above) ≡ line_fault names above line
+pub at_place : (names ls above rest : List (List ℕ)) (line : List ℕ) → above ++ line ∷ rest ≡ ls → fault_at names ls (length above) ≡ line_fault names above line
 at_place names ls above rest line e =
     ap (λ l. fault_at names l (length above)) (sym e)
     ∙ ap (λ t. line_fault names t (slice_index_or (above ++ line ∷ rest) (length above) [])) (take_at above (line ∷ rest) (length above) refl)
     ∙ ap (line_fault names above) (get_or_at above line rest [] (length above) refl)
 
-place_there : (ls above rest : List (List ℕ)) (line : List ℕ) → above ++ line ∷ rest ≡ ls → length above < length ls
+pub place_there : (ls above rest : List (List ℕ)) (line : List ℕ) → above ++ line ∷ rest ≡ ls → length above < length ls
 place_there ls above rest line e = omega (arith, simp length-append at (ap (λ l. length l) e))
 
-some_opened : (st : Statement) (number : ℕ) (open_at : Option ℕ) (inside : Bool) (f : First) → Shows st f → is_some open_at ≡ inside → is_some (opened st number open_at) ≡ cond (is_mark f) (is_begin f) inside
+pub some_opened : (st : Statement) (number : ℕ) (open_at : Option ℕ) (inside : Bool) (f : First) → Shows st f → is_some open_at ≡ inside → is_some (opened st number open_at) ≡ cond (is_mark f) (is_begin f) inside
 some_opened Blank number open_at inside f h e = e ∙ ap (λ m. cond m (is_begin f) inside) (sym h)
 some_opened (Run c) number open_at inside f h e = e ∙ ap (λ m. cond m (is_begin f) inside) (sym h)
 some_opened End number open_at inside f h e = sym h.0 ∙ ap (λ m. cond m (is_begin f) inside) (sym h.1)

@@ -33,7 +33,7 @@ abbrev ScriptIs : List (List ℕ) → List ℕ → Result (Script × List (List 
 ScriptIs names text (Ok x) = Faultless names text x.1
 ScriptIs names text (Err e) = IsFirstFault names text e.0 e.1
 
-no_names : IsNames []
+pub no_names : IsNames []
 no_names = record { distinct = λ i j d lt within. absurd (omega arith); named = All-nil IsName; room = omega arith }
 
 module _ (names : List (List ℕ)) (text : List ℕ) (short : length text ≤ most_bytes) where
@@ -61,7 +61,7 @@ script_is names text sound = by (nat_lt most_bytes (length text)) refl
     by true h = too_long (ltb-true most_bytes (length text) h) refl refl
     by false h = together_is names text (ltb-false most_bytes (length text) h) (lines_meaning (record { names = names; begun = [] }) None 1 (lines text)) (lines_from names (lines text) [] (lines text) None refl sound no_names refl tt)
 
-apart : {X : Type 0} (o : Option X) (x : X) → o ≡ None → o ≡ Some x → ⊥
+pub apart : {X : Type 0} (o : Option X) (x : X) → o ≡ None → o ≡ Some x → ⊥
 apart o x h k = let e : None ≡ Some x = sym h ∙ k in cc
 
 unlike : (b : Bool) → b ≡ true → b ≡ false → ⊥
@@ -72,7 +72,7 @@ begin_mark true ends h = refl
 begin_mark false ends h = absurd (cc)
 
 -- two places of which neither is before the other
-one_place : (a b : ℕ) → (a < b → ⊥) → (b < a → ⊥) → a ≡ b
+pub one_place : (a b : ℕ) → (a < b → ⊥) → (b < a → ⊥) → a ≡ b
 one_place a b h k = ⊎_elim (λ lt. absurd (h lt)) (λ ge. ⊎_elim (λ lt. absurd (k lt)) (λ le. omega (arith, ge, le)) (cases_lt b a)) (cases_lt a b)
 
 numbered_alike : (n m a b : ℕ) → n ≡ a + 1 → m ≡ b + 1 → a ≡ b → n ≡ m

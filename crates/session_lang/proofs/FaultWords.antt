@@ -1,7 +1,7 @@
 -- The first fault of a line's words, said without the reader, is the one that the reader tells.
-use Rattle.std.proofs.Common.{◌≡◌, ℕ, ◌+◌, ◌<◌, ◌≤◌, Bool, true, false, not, ◌||◌, ◌==◌, cond, List, [], ◌∷◌, ◌++◌, length, slice_get, slice_index_or, nat_lt, Option, Some, None, Result, Ok, Err, codes, refl, sym, ap, subst, ◌∙◌, length-append, arith}
+use Rattle.std.proofs.Common.{◌≡◌, ℕ, ◌+◌, ◌<◌, ◌≤◌, Bool, true, false, not, ◌||◌, ◌==◌, cond, List, [], ◌∷◌, ◌++◌, length, slice_get, slice_index_or, nat_lt, nat_le, Option, Some, None, Result, Ok, Err, codes, refl, sym, ap, subst, ◌∙◌, length-append, arith}
 use Rattle.std.specs.Str.{bytes_eq}
-use Rattle.std.proofs.lemmas.Bool.{lt-ltb, ltb-true, ltb-false}
+use Rattle.std.proofs.lemmas.Bool.{lt-ltb, ltb-true, ltb-false, leb-false}
 use Rattle.std.proofs.lemmas.List.{append-nil, get_or_append_left}
 use Rattle.std.proofs.lemmas.Option.{slice_get_within, get_or_from_slice_get}
 use Rattle.desk_names.specs.Name.{is_name}
@@ -16,21 +16,21 @@ use Rattle.session_commands.specs.declared.table.Verb.TheVariants as verb
 use Rattle.session_commands.specs.declared.field.Field.{Field}
 use Rattle.session_commands.specs.declared.field.Field.TheVariants.{Nothing, Name, Value, Number, Day, Weight, Engine, Flag, Action}
 use Rattle.session_commands.specs.Field.{action_in}
-use Rattle.session_commands.specs.declared.command.Command.{Command}
-use Rattle.session_commands.specs.declared.command.Command.TheVariants as command
 use Rattle.session_commands.specs.Table.{row_of, verb_of, words_in}
-use Rattle.session_commands.specs.Parts.{command_of, the_command, together, parts_of}
+use Rattle.session_commands.specs.declared.parts.Parts.{Parts}
+use Rattle.session_commands.specs.Parts.{command_of, the_command, together}
 use Rattle.session_commands.specs.Sorts.{IsOf}
 use Rattle.script_words.specs.Given.{◌>>=◌, Grows}
 use Rattle.script_words.proofs.ReadFields.{bind_ok, ok_is, numbered_is, field_read}
 use Rattle.session_lang.proofs.RowLinks.{row_parts}
 use Rattle.session_lang.proofs.ReadLines.{grows_length}
 use Rattle.session_lang.specs.Reading.{action_of}
-use Rattle.script_words.specs.Word.{fault_of, names_one, numbered, named_field, plain_field, field_of}
+use Rattle.script_words.specs.Word.{fault_of, names_one, numbered, with_name, named_field, plain_field, field_of}
+use Rattle.script_words.proofs.NamedWords.{is_named, longer}
 use Rattle.script_words.proofs.Sorts.{field_sorted}
 use Rattle.session_lang.specs.declared.statement.Statement.{Statement}
 use Rattle.session_lang.specs.declared.statement.Statement.TheVariants.{Blank, Begin, End, Run}
-use Rattle.session_lang.specs.Statement.{Known, word, or_fault, words_fault, run, fields_meaning, unless_fault, command_meaning, begin_meaning, end_meaning, words_meaning}
+use Rattle.session_lang.specs.Statement.{Known, PlainOf, word, or_fault, words_fault, run, names_with, fields_meaning, unless_fault, command_meaning, begin_meaning, end_meaning, words_meaning}
 use Rattle.session_lang.specs.FirstFault.{First, blank, begin, end, command, by_verb, first_of, further, places, is_begin, is_mark, names_at, actions_at, with_texts, where_so, first_some, words_faults}
 
 -- whether there are more names than there may be
@@ -154,50 +154,23 @@ begin_is N B inside words few =
 
     by : (c i n t room small : Bool) → (t ≡ false → with_text B w ≡ B ++ w ∷ []) → Are (told_by false c i false (or_fault (cond n None (Some fault.Name)) None) t (not room || not small)) (with_text N w) (B ++ w ∷ []) begin words
         (cond (not c) (Err fault.Count) (cond i (Err fault.Nested) (cond (not n) (Err fault.Name) (cond t (Err fault.Twice)
-        (numbering n room N w >>= (λ m. numbering n (t || small) B w >>= (λ a.
+        (numbering n (t || small) B w >>= (λ a. numbering n room N w >>= (λ m.
         Ok (Begin m.0, record { names = m.1; begun = a.1 }))))))))
     by false i n t room small h = refl
     by true true n t room small h = refl
     by true false false t room small h = refl
     by true false true true room small h = refl
-    by true false true false false small h = refl
+    by true false true false false false h = refl
+    by true false true false false true h = refl
     by true false true false true false h = refl
     by true false true false true true h = record { fine = refl; names_are = refl; begun_are = h refl; shows = (refl, refl); acts = refl }
-
--- the names with the one in a word
-abbrev named : Kind → List ℕ → List (List ℕ) → List (List ℕ)
-named k w names = cond (names_one k w) (with_text names w) names
-
-none_named : (good : Bool) (e : ScriptKind) → cond good None (Some e) ≡ None → good ≡ true
-none_named true e h = refl
-none_named false e h = absurd (cc)
-
-engine_named : (none name : Bool) → cond (none || name) None (Some fault.Name) ≡ None → not none ≡ true → name ≡ true
-engine_named false true h n = refl
-engine_named false false h n = absurd (cc)
-engine_named true name h n = absurd (cc)
-
--- a word that stands for a name and has no fault is one
-is_named : (k : Kind) (w : List ℕ) → fault_of k w ≡ None → names_one k w ≡ true → is_name w ≡ true
-unfolding fault_of
-is_named kind.Name w h n = none_named (is_name w) fault.Name h
-is_named kind.Action w h n = none_named (is_name w) fault.Name h
-is_named kind.Engine w h n = engine_named (bytes_eq w (codes "none")) (is_name w) h n
-is_named kind.Nothing w h n = absurd (cc)
-is_named kind.Value w h n = absurd (cc)
-is_named kind.Number w h n = absurd (cc)
-is_named kind.Rate w h n = absurd (cc)
-is_named kind.Weight w h n = absurd (cc)
-is_named kind.Day w h n = absurd (cc)
-is_named kind.Target w h n = absurd (cc)
-is_named kind.Switch w h n = absurd (cc)
 
 -- the field of a word, where the names with it are not too many
 abbrev FieldIs : Bool → List (List ℕ) → Result (Field × List (List ℕ)) ScriptKind → Type 0
 FieldIs full names (Ok x) = (full ≡ false) × (x.1 ≡ names)
 FieldIs full names (Err e) = (full ≡ true) × (e ≡ fault.Names)
 
-field_is : (N : List (List ℕ)) (k : Kind) (w : List ℕ) → length N ≤ most_names → fault_of k w ≡ None → FieldIs (over (named k w N)) (named k w N) (field_of N k w)
+field_is : (N : List (List ℕ)) (k : Kind) (w : List ℕ) → length N ≤ most_names → fault_of k w ≡ None → FieldIs (over (with_name k w N)) (with_name k w N) (field_of N k w)
 unfolding field_of numbered
 field_is N k w few good =
     by (names_one k w) (is_name w) (has_text N w || nat_lt (length N) most_names) (is_named k w good) (room_is N w few) (few_over N few)
@@ -220,21 +193,11 @@ lacks_is : (full : Bool) (names : List (List ℕ)) (r : Result (Field × List (L
 lacks_is full names (Ok x) h many = absurd (let e : true ≡ false = sym many ∙ h.0 in cc)
 lacks_is full names (Err e) h many = ap (λ k. Err k) h.1
 
-longer_by : (one has : Bool) (N : List (List ℕ)) (w : List ℕ) → length N ≤ length (cond one (cond has N (N ++ w ∷ [])) N)
-longer_by false has N w = omega arith
-longer_by true true N w = omega arith
-longer_by true false N w = simp length-append (omega arith)
-
--- names are no fewer with one more
-longer : (k : Kind) (w : List ℕ) (N : List (List ℕ)) → length N ≤ length (named k w N)
-unfolding with_text
-longer k w N = longer_by (names_one k w) (has_text N w) N w
-
 few_is : (names : List (List ℕ)) → over names ≡ false → length names ≤ most_names
 few_is names h = ltb-false most_names (length names) h
 
-more_over : (k : Kind) (w : List ℕ) (N : List (List ℕ)) → over N ≡ true → over (named k w N) ≡ true
-more_over k w N h = lt-ltb most_names (length (named k w N)) (omega (arith, ltb-true most_names (length N) h, longer k w N))
+more_over : (k : Kind) (w : List ℕ) (N : List (List ℕ)) → over N ≡ true → over (with_name k w N) ≡ true
+more_over k w N h = lt-ltb most_names (length (with_name k w N)) (omega (arith, ltb-true most_names (length N) h, longer k w N))
 
 first_none : (a b : Option ScriptKind) → or_fault a b ≡ None → (a ≡ None) × (b ≡ None)
 first_none None b h = (refl, h)
@@ -250,37 +213,7 @@ none_last None (Some f) c = refl
 none_last None None (Some f) = refl
 none_last None None None = refl
 
--- the action that a command names stands in its second field
-action_is : (c : Command) → action_of c ≡ action_in (parts_of c).second
-unfolding parts_of
-action_is (command.Quote a b) = refl
-action_is (command.Sum a b c) = refl
-action_is (command.Difference a b c) = refl
-action_is (command.Handle a b) = refl
-action_is (command.Stock a b) = refl
-action_is (command.Composite a) = refl
-action_is (command.Member a b c) = refl
-action_is (command.Set a b) = refl
-action_is (command.Unset a) = refl
-action_is (command.Link a b) = refl
-action_is (command.Unlink a) = refl
-action_is (command.Engine a b) = refl
-action_is (command.Today a) = refl
-action_is (command.Fixing a b c) = refl
-action_is (command.Freeze a) = refl
-action_is (command.Thaw a) = refl
-action_is (command.Recalc a) = refl
-action_is (command.Forward a b) = refl
-action_is command.Defer = refl
-action_is command.Resume = refl
-action_is (command.Watch a b) = refl
-action_is (command.Register a b) = refl
-action_is (command.Unregister a b) = refl
-action_is (command.Drop a) = refl
-action_is (command.Ask a) = refl
-action_is (command.Df a b) = refl
-
--- and an action is asked for at no other place
+-- an action is asked for at the second place alone
 second_acts : (v : Verb) (words : List (List ℕ)) → actions_at ((row_of v).first ∷ (row_of v).second ∷ (row_of v).third ∷ []) 0 words ≡ actions_at ((row_of v).second ∷ []) 1 words
 unfolding row_of
 second_acts verb.Quote words = refl
@@ -355,13 +288,13 @@ module _ (N B : List (List ℕ)) (v : Verb) (words : List (List ℕ)) where
   k3 = (row_of v).third
 
   abbrev N1 : List (List ℕ)
-  N1 = named k1 (word words 0) N
+  N1 = with_name k1 (word words 0) N
 
   abbrev N2 : List (List ℕ)
-  N2 = named k2 (word words 1) N1
+  N2 = with_name k2 (word words 1) N1
 
   abbrev N3 : List (List ℕ)
-  N3 = named k3 (word words 2) N2
+  N3 = with_name k3 (word words 2) N2
 
   names_are : with_texts N (names_at (k1 ∷ k2 ∷ k3 ∷ []) 0 words) ≡ N3
   names_are =
@@ -404,7 +337,7 @@ module _ (N B : List (List ℕ)) (v : Verb) (words : List (List ℕ)) where
           let hc = field_sorted N2 k3 (word words 2) c.0 N3 good2.1 c.1 in
           let made = row_parts v a b c.0 ha hb hc in
           let acts : ActsIs N3 (action_of made.0) (actions_at (k1 ∷ k2 ∷ k3 ∷ []) 0 words) =
-          subst (λ o. ActsIs N3 o (actions_at (k1 ∷ k2 ∷ k3 ∷ []) 0 words)) (sym (action_is made.0 ∙ ap (λ p. action_in p.second) made.2))
+          subst (λ o. ActsIs N3 o (actions_at (k1 ∷ k2 ∷ k3 ∷ []) 0 words)) (sym (ap (λ p. action_in p.second) made.2))
           (subst (λ ws. ActsIs N3 (action_in b) ws) (sym (second_acts v words))
           (field_acts N1 N2 N3 k2 words b hb sound1 read (field_read N2 k3 (word words 2) c.0 N3 sound2 good2.1 c.1).grows)) in
           subst (λ r. Fits (r >>= third a b)) (sym c.1)
@@ -452,3 +385,27 @@ words_are N B inside (first ∷ words) sound = by (bytes_eq first (codes "action
     by true e = begin_is N B inside words sound.room
     by false true = end_is N B inside words sound.room
     by false false = command_is N B inside (verb_of first) words sound
+
+unlike_fault : (k : ScriptKind) → told_by false true false false None false true ≡ Some k → k ≡ fault.Names
+unlike_fault k h = cc
+
+many : (o : Bool) (names begun : List (List ℕ)) (f : First) (words : List (List ℕ)) (r : Result (Statement × Known) ScriptKind) → o ≡ true → Are (told_by false true false false None false (o || false)) names begun f words r → r ≡ Err fault.Names
+many o names begun f words (Ok x) h are = absurd (let e : told_by false true false false None false true ≡ None = ap (λ b. told_by false true false false None false (b || false)) (sym h) ∙ are.fine in cc)
+many o names begun f words (Err k) h are = ap (λ j. Err j) (unlike_fault k (ap (λ b. told_by false true false false None false (b || false)) (sym h) ∙ are))
+
+-- the words have no fault, and there is no room for the names that they name
+pub no_room : (N B : List (List ℕ)) (v : Verb) (words : List (List ℕ)) → IsNames N → words_fault (row_of v) words ≡ None → over (names_with (row_of v) words N) ≡ true → fields_meaning (known_of N B) v words ≡ Err fault.Names
+no_room N B v words sound good full =
+    many (over (names_with (row_of v) words N)) (names_with (row_of v) words N) (B ++ []) (command v) words (fields_meaning (known_of N B) v words) full (fields_are N B v words sound good false)
+
+-- a line of a row whose words have no fault, where there is no room for the names that they name
+pub no_room_line : (N B : List (List ℕ)) (o : Option Verb) (v : Verb) (words : List (List ℕ)) (p : Parts) → IsNames N → o ≡ Some v → (length words == words_in (row_of v)) ≡ true → PlainOf v words p
+    → nat_le (length (names_with (row_of v) words N)) most_names ≡ false → command_meaning (known_of N B) o words ≡ Err fault.Names
+unfolding command_meaning
+no_room_line N B o v words p sound verb counted plain full =
+    let good : words_fault (row_of v) words ≡ None = rw (plain.first_good, plain.second_good, plain.third_good) refl in
+    let many : over (names_with (row_of v) words N) ≡ true = lt-ltb most_names (length (names_with (row_of v) words N)) (leb-false (length (names_with (row_of v) words N)) most_names full) in
+    ap (λ x. command_meaning (known_of N B) x words) verb
+    ∙ ap (λ b. cond b (unless_fault (words_fault (row_of v) words) (fields_meaning (known_of N B) v words)) (Err fault.Count)) counted
+    ∙ ap (λ f. unless_fault f (fields_meaning (known_of N B) v words)) good
+    ∙ no_room N B v words sound good many

@@ -1,6 +1,8 @@
 pub mod Walk
 pub mod Blocks
 pub mod Rows
+pub mod NewNames
+pub mod LeftNames
 pub mod RowFacts
 pub mod PlainWords
 pub mod CommandLines

@@ -131,19 +131,19 @@ begin_read : (known next : Known) (inside : Bool) (words : List (List ℕ)) (st 
 unfolding begin_meaning begun_with
 begin_read known next inside words st sound begun h =
     let w = word words 0 in
-    let last : Result (Statement × Known) ScriptKind = numbered known.names (word words 0) >>= (λ n. numbered known.begun (word words 0) >>= (λ a. begun_with n a)) in
+    let last : Result (Statement × Known) ScriptKind = numbered known.begun (word words 0) >>= (λ a. numbered known.names (word words 0) >>= (λ n. begun_with n a)) in
     let c1 = went_on (not (length words == 1)) fault.Count (cond inside (Err fault.Nested) (cond (not (is_name w)) (Err fault.Name) (cond (has_text known.begun w) (Err fault.Twice) last))) (st, next) h in
     let c2 = went_on inside fault.Nested (cond (not (is_name w)) (Err fault.Name) (cond (has_text known.begun w) (Err fault.Twice) last)) (st, next) c1.1 in
     let c3 = went_on (not (is_name w)) fault.Name (cond (has_text known.begun w) (Err fault.Twice) last) (st, next) c2.1 in
     let c4 = went_on (has_text known.begun w) fault.Twice last (st, next) c3.1 in
-    let n = bind_ok (numbered known.names w) (λ n. numbered known.begun w >>= (λ a. begun_with n a)) (st, next) c4.1 in
-    let a = bind_ok (numbered known.begun w) (λ a. begun_with n.0 a) (st, next) n.2 in
+    let a = bind_ok (numbered known.begun w) (λ a. numbered known.names w >>= (λ n. begun_with n a)) (st, next) c4.1 in
+    let n = bind_ok (numbered known.names w) (λ n. begun_with n a.0) (st, next) a.2 in
     let named = numbered_is known.names w n.0.0 n.0.1 sound n.1 in
     let acted = numbered_is known.begun w a.0.0 a.0.1 begun a.1 in
     let kept : Known = record { names = n.0.1; begun = a.0.1 } in
     let said : Statement = Begin n.0.0 in
     let line : LineRead known kept said = record { names_kept = named.kept; begun_kept = acted.kept; grows = named.grows; says = (w, named.at, acted.whole ∙ new_goes_last known.begun w c4.0) } in
-    let same : (said, kept) ≡ (st, next) = ok_is (said, kept) (st, next) a.2 in
+    let same : (said, kept) ≡ (st, next) = ok_is (said, kept) (st, next) n.2 in
     subst (λ z. LineRead known z.1 z.0) same line
 
 words_read : (known next : Known) (inside : Bool) (words : List (List ℕ)) (st : Statement) → IsNames known.names → IsNames known.begun → words_meaning known inside words ≡ Ok (st, next) → LineRead known next st

@@ -17,12 +17,12 @@ use Rattle.session_lang.specs.Printing.{command_text}
 
 -- one command, among blanks and before a comment
 reads_a_set : script_meaning [] (codes "  set q  1.50  # x") ≡ Ok (record { actions = []; commands = Set 0 (pos 1_500_000_000) ∷ []; action_names = [] }, codes "q" ∷ [])
-unfolding script_meaning lines_meaning line_meaning words_meaning words_of command_meaning fields_meaning field_of plain_field numbered fault_of verb_of row_of command_of decimal_value has_text with_text place_of is_name has_form is_name_byte is_reserved block_of actions_of action_names_of commands_of
+unfolding script_meaning lines_meaning line_meaning words_meaning words_of command_meaning fields_meaning field_of plain_field numbered fault_of verb_of row_of command_of parts_of decimal_value has_text with_text place_of is_name has_form is_name_byte is_reserved block_of actions_of action_names_of commands_of
 reads_a_set = refl
 
 -- an action named before its block
 reads_a_watch : script_meaning [] (codes "watch w b" ++ 10 ∷ codes "action b" ++ 10 ∷ codes "ask w" ++ 10 ∷ codes "end") ≡ Ok (record { actions = (Ask 0 ∷ []) ∷ []; commands = Watch 0 0 ∷ []; action_names = 1 ∷ [] }, codes "w" ∷ codes "b" ∷ [])
-unfolding script_meaning lines_meaning line_meaning words_meaning words_of begin_meaning command_meaning fields_meaning field_of plain_field numbered fault_of verb_of row_of command_of has_text with_text place_of is_name has_form is_name_byte is_reserved block_of actions_of action_names_of commands_of
+unfolding script_meaning lines_meaning line_meaning words_meaning words_of begin_meaning command_meaning fields_meaning field_of plain_field numbered fault_of verb_of row_of command_of parts_of has_text with_text place_of is_name has_form is_name_byte is_reserved block_of actions_of action_names_of commands_of
 reads_a_watch = refl
 
 -- the first faulty line, a return that ends no line, an open block, an action that no block defines
@@ -30,7 +30,7 @@ tells_faults : (script_meaning [] (codes "ask q" ++ 13 ∷ 10 ∷ codes "sell q"
     × (script_meaning [] (codes "ask q" ++ 13 ∷ []) ≡ Err (1, fault.Byte))
     × (script_meaning [] (codes "ask q" ++ 10 ∷ codes "action a" ++ 10 ∷ codes "ask q") ≡ Err (2, fault.Unclosed))
     × (script_meaning [] (codes "ask q" ++ 10 ∷ codes "watch w a") ≡ Err (2, fault.NoAction))
-unfolding script_meaning lines_meaning line_meaning words_meaning words_of begin_meaning command_meaning fields_meaning field_of plain_field numbered fault_of verb_of row_of command_of has_text with_text place_of is_name has_form is_name_byte is_reserved block_of actions_of action_names_of commands_of
+unfolding script_meaning lines_meaning line_meaning words_meaning words_of begin_meaning command_meaning fields_meaning field_of plain_field numbered fault_of verb_of row_of command_of parts_of has_text with_text place_of is_name has_form is_name_byte is_reserved block_of actions_of action_names_of commands_of
 tells_faults = (refl, refl, refl, refl)
 
 -- a weight keeps its sign

@@ -58,7 +58,7 @@ new_numbered front back text sound named =
 begin_said : (names front back : List (List ℕ)) (name : ℕ) (text : List ℕ) → IsNames names → slice_get names name ≡ Some text → is_name text ≡ true → IsNames (front ++ text ∷ back) → begin_meaning (record { names = names; begun = front }) false (text ∷ []) ≡ Ok (Begin name, record { names = names; begun = front ++ text ∷ [] })
 unfolding begin_meaning
 begin_said names front back name text sound at named behind =
-    rw (named, fresh front back text behind, name_again names name text sound at, new_numbered front back text behind named) refl
+    rw (named, fresh front back text behind, new_numbered front back text behind named, name_again names name text sound at) refl
 
 -- the line of a block's name
 begin_line : (names front back : List (List ℕ)) (name : ℕ) (text : List ℕ) → IsNames names → slice_get names name ≡ Some text → is_name text ≡ true → IsNames (front ++ text ∷ back) → line_meaning (record { names = names; begun = front }) false (codes "action" ++ spaced (text ∷ [])) ≡ Ok (Begin name, record { names = names; begun = front ++ text ∷ [] })

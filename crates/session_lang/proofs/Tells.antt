@@ -124,6 +124,7 @@ pub record LinkBack (names : List (List ℕ)) (an : List ℕ) (c : Command) : Ty
   pub there : lacks (all_known names an) (Run (command_as_read names an c)) ≡ false
 
 watch_back : (names : List (List ℕ)) (an : List ℕ) (watcher action : ℕ) → IsNames (map (name_text names) an) → action < length an → LinkBack names an (command.Watch watcher action)
+unfolding parts_of
 watch_back names an watcher action sound lt =
     let at : slice_get (map (name_text names) an) action ≡ Some (name_text names (slice_index_or an action (length names))) = slice_get-map (name_text names) an action ∙ ap (option_map (name_text names)) (slice_get-get_or an action (length names) lt) in
     record {

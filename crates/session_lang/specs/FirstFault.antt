@@ -224,3 +224,16 @@ abbrev pub ToldFirst : List (List ℕ) → List ℕ → Result Script ScriptFaul
 ToldFirst names text (Ok script) = Unit {0}
 ToldFirst names text (Err script.NoMemory) = Unit {0}
 ToldFirst names text (Err (script.At line k)) = IsFirstFault names text line k
+
+-- the names behind a fault in line n: a line with a fault adds none, so they are those after the lines above it; a text
+-- that is too long adds none, and where no line has a fault each has added its own (this project's profile)
+pub record KeepsNames (names : List (List ℕ)) (text : List ℕ) (n : ℕ) (k : ScriptKind) (new : List (List ℕ)) : Type 0 where
+  pub too_long : most_bytes < length text → new ≡ names
+  pub in_line : length text ≤ most_bytes → IsFirstFaulty names (lines text) n k → new ≡ names_after names (take (n - 1) (lines text))
+  pub whole : length text ≤ most_bytes → AreFaultless names (lines text) → new ≡ names_after names (lines text)
+
+-- the names behind a fault that is answered
+abbrev pub FaultKeeps : List (List ℕ) → List ℕ → List (List ℕ) → Result Script ScriptFault → Type 0
+FaultKeeps names text new (Ok script) = Unit {0}
+FaultKeeps names text new (Err script.NoMemory) = Unit {0}
+FaultKeeps names text new (Err (script.At line k)) = KeepsNames names text line k new

@@ -6,8 +6,11 @@ use Rattle.desk_names.specs.Names.{has_text, place_of}
 use Rattle.session_commands.specs.declared.script_kind.ScriptKind.{ScriptKind}
 use Rattle.session_commands.specs.declared.script_kind.ScriptKind.TheVariants as fault
 use Rattle.session_lang.specs.declared.fault.ScriptFault.{ScriptFault}
+use Rattle.session_lang.specs.declared.fault.ScriptFault.TheVariants as script
 use Rattle.session_commands.specs.declared.command.Command.{Command}
-use Rattle.session_commands.specs.declared.command.Command.TheVariants.{Watch}
+use Rattle.session_commands.specs.declared.command.Command.TheVariants as command
+use Rattle.session_commands.specs.Field.{action_in}
+use Rattle.session_commands.specs.Parts.{parts_of}
 use Rattle.session_lang.specs.declared.statement.Statement.{Statement}
 use Rattle.session_lang.specs.declared.statement.Statement.TheVariants.{Blank, Begin, End, Run}
 use Rattle.session_lang.specs.declared.steps.Step.{Step}
@@ -57,6 +60,30 @@ lines_meaning known open_at number (line ∷ rest) =
     lines_meaning said.1 (opened said.0 number open_at) (number + 1) rest >>= (λ others.
     Ok (said_before number said.0 others)))
 
+-- what a line leaves to those behind it, or the names as they were where it has a fault
+abbrev pub after_line : List (List ℕ) → (Statement × Known → List (List ℕ)) → Result (Statement × Known) ScriptKind → List (List ℕ)
+after_line names go (Ok said) = go said
+after_line names go (Err k) = names
+
+-- the names that the lines from this number on leave, up to the first that has a fault
+unfoldable pub names_left : Known → Option ℕ → ℕ → List (List ℕ) → List (List ℕ)
+names_left known open_at number [] = known.names
+names_left known open_at number (line ∷ rest) =
+    after_line known.names (λ said. names_left said.1 (opened said.0 number open_at) (number + 1) rest)
+    (line_meaning known (is_some open_at) line)
+
+-- one line was taken: the names that the lines leave are those that the lines behind it leave, or these after its fault
+abbrev pub Leaves : Result (Option ℕ) ScriptFault → List (List ℕ) → (Option ℕ → List (List ℕ)) → List (List ℕ) → Type 0
+Leaves (Ok open_at) names next left = left ≡ next open_at
+Leaves (Err script.NoMemory) names next left = Unit {0}
+Leaves (Err (script.At line k)) names next left = left ≡ names
+
+-- the names are those, unless memory ran out
+abbrev pub AreLeft : {X : Type 0} → Result X ScriptFault → List (List ℕ) → List (List ℕ) → Type 0
+AreLeft (Ok x) names left = names ≡ left
+AreLeft (Err script.NoMemory) names left = Unit {0}
+AreLeft (Err (script.At line k)) names left = names ≡ left
+
 -- statements in front of what was said
 abbrev pub onto : List Step → Result Said (ℕ × ScriptKind) → Result Said (ℕ × ScriptKind)
 onto front (Ok said) = Ok (record { steps = front ++ said.steps; known = said.known; open_at = said.open_at })
@@ -73,8 +100,7 @@ text_of known name = slice_index_or known.names name []
 
 -- the name of the action that a watch names
 abbrev pub action_of : Command → Option ℕ
-action_of (Watch watcher action) = Some action
-action_of _ = None
+action_of command = action_in (parts_of command).second
 
 -- whether no block defines the action that a command names
 abbrev pub lacks_action : Known → Option ℕ → Bool
@@ -95,8 +121,32 @@ line_of None = None
 
 -- a watch names its action by the place of its block among the blocks
 abbrev pub linked : Known → Command → Command
-linked known (Watch watcher action) = Watch watcher (place_of known.begun (text_of known action))
-linked known command = command
+linked known (command.Watch watcher action) = command.Watch watcher (place_of known.begun (text_of known action))
+linked known (command.Quote a b) = command.Quote a b
+linked known (command.Sum a b c) = command.Sum a b c
+linked known (command.Difference a b c) = command.Difference a b c
+linked known (command.Handle a b) = command.Handle a b
+linked known (command.Stock a b) = command.Stock a b
+linked known (command.Composite a) = command.Composite a
+linked known (command.Member a b c) = command.Member a b c
+linked known (command.Set a b) = command.Set a b
+linked known (command.Unset a) = command.Unset a
+linked known (command.Link a b) = command.Link a b
+linked known (command.Unlink a) = command.Unlink a
+linked known (command.Engine a b) = command.Engine a b
+linked known (command.Today a) = command.Today a
+linked known (command.Fixing a b c) = command.Fixing a b c
+linked known (command.Freeze a) = command.Freeze a
+linked known (command.Thaw a) = command.Thaw a
+linked known (command.Recalc a) = command.Recalc a
+linked known (command.Forward a b) = command.Forward a b
+linked known command.Defer = command.Defer
+linked known command.Resume = command.Resume
+linked known (command.Register a b) = command.Register a b
+linked known (command.Unregister a b) = command.Unregister a b
+linked known (command.Drop a) = command.Drop a
+linked known (command.Ask a) = command.Ask a
+linked known (command.Df a b) = command.Df a b
 
 -- the commands of a block, up to its `end`
 abbrev pub block_with : Known → Statement → List Command → List Command
@@ -174,3 +224,9 @@ script_meaning names text =
     if nat_lt most_bytes (length text) then Err (0, fault.TooLong)
     else (lines_meaning (record { names = names; begun = [] }) None 1 (lines text) >>= (λ said.
     together_of said.known said.steps said.open_at))
+
+-- the names that a text leaves: those of its lines up to the first that has a fault
+abbrev pub script_left : List (List ℕ) → List ℕ → List (List ℕ)
+script_left names text =
+    if nat_lt most_bytes (length text) then names
+    else names_left (record { names = names; begun = [] }) None 1 (lines text)

@@ -14,7 +14,7 @@ use Rattle.session_lang.specs.declared.statement.Statement.TheVariants.{Blank, B
 use Rattle.script_words.specs.Given.{◌>>=◌}
 use Rattle.script_words.specs.Line.{is_good, words_of}
 use Rattle.session_commands.specs.Table.{Row, row_of, verb_of, words_in}
-use Rattle.script_words.specs.Word.{fault_of, numbered, plain_field, field_of}
+use Rattle.script_words.specs.Word.{fault_of, numbered, plain_field, with_name, field_of}
 use Rattle.session_commands.specs.Parts.{command_of, the_command, together}
 
 -- what the lines above a line leave to it: the session's names, and the names of the actions that were begun
@@ -49,6 +49,11 @@ abbrev pub ArePlain : Verb → List (List ℕ) → Result Parts ScriptKind → T
 ArePlain v words (Ok p) = PlainOf v words p
 ArePlain v words (Err f) = words_fault (row_of v) words ≡ Some f
 
+-- the names with those in the words behind the first
+abbrev pub names_with : Row → List (List ℕ) → List (List ℕ) → List (List ℕ)
+names_with r words names =
+    with_name r.third (word words 2) (with_name r.second (word words 1) (with_name r.first (word words 0) names))
+
 -- a command as a statement
 abbrev pub run : Known → List (List ℕ) → Command → Result (Statement × Known) ScriptKind
 run known names command = Ok (Run command, record { names = names; begun = known.begun })
@@ -81,7 +86,7 @@ begin_meaning known inside words =
     else (if inside then Err fault.Nested
     else (if not (is_name (word words 0)) then Err fault.Name
     else (if has_text known.begun (word words 0) then Err fault.Twice
-    else numbered known.names (word words 0) >>= (λ n. numbered known.begun (word words 0) >>= (λ a.
+    else numbered known.begun (word words 0) >>= (λ a. numbered known.names (word words 0) >>= (λ n.
     Ok (Begin n.0, record { names = n.1; begun = a.1 }))))))
 
 -- `end`: ends a block

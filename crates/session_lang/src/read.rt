@@ -5,8 +5,8 @@ ghost use Rattle.session_lang.specs.Given.{GivesAt, at_number};
 ghost use Rattle.script_words.specs.Given.{Grows};
 ghost use Rattle.desk_names.specs.Names.{IsNames};
 ghost use Rattle.session_commands.specs.Whole.{IsScript};
-ghost use Rattle.session_lang.specs.FirstFault.{ToldFirst, names_after};
-ghost use Rattle.session_lang.specs.Reading.{onto, Takes, lines_meaning, together_of, script_meaning};
+ghost use Rattle.session_lang.specs.FirstFault.{ToldFirst, FaultKeeps, names_after};
+ghost use Rattle.session_lang.specs.Reading.{onto, Takes, Leaves, AreLeft, lines_meaning, names_left, together_of, script_meaning, script_left};
 
 use crate::ScriptFault;
 use crate::statement::read_line;
@@ -49,6 +49,9 @@ fn take_line(
     ensures takes { (rest : List (List ℕ)) → Takes result
         (λ o. onto steps.new.items (lines_meaning (record { names = names.new; begun = begun.new }) o (number + 1) rest))
         (onto steps.old.items (lines_meaning (record { names = names.old; begun = begun.old }) open_at number (line.now ∷ rest))) }
+    ensures leaves { (rest : List (List ℕ)) → Leaves result names.new
+        (λ o. names_left (record { names = names.new; begun = begun.new }) o (number + 1) rest)
+        (names_left (record { names = names.old; begun = begun.old }) open_at number (line.now ∷ rest)) }
     ensures grows { Grows names.old names.new }
 {
     match read_line(alloc, line, names, begun, is_open(open_at)) {
@@ -67,6 +70,7 @@ fn read_lines(
     requires { length text.now < 2 ^ 31 }
     ensures gives { GivesAt (λ read. record { steps = read.steps.items; known = record { names = names.new; begun = begun.new }; open_at = read.open_at }) result
         (lines_meaning (record { names = names.old; begun = begun.old }) None 1 (lines text.now)) }
+    ensures left { AreLeft result names.new (names_left (record { names = names.old; begun = begun.old }) None 1 (lines text.now)) }
     ensures grows { Grows names.old names.new }
 {
     let mut steps = Vec::new(alloc);
@@ -128,6 +132,7 @@ fn finished(alloc: Global, names: &Names, begun: &Names, read: &Read) -> Result<
 #[tactic(auto, unfolding(crate::specs::Reading::script_meaning), using(script_words::proofs::Interning::grows_same))]
 fn read_text(alloc: Global, text: &[u8], names: &mut Names) -> Result<Script, ScriptFault>
     ensures gives { GivesAt (λ s. (s, names.new)) result (script_meaning names.old text.now) }
+    ensures left { AreLeft result names.new (script_left names.old text.now) }
     ensures paired { IfOk result (λ s. length s.actions ≡ length s.action_names) }
     ensures grows { Grows names.old names.new }
 {
@@ -144,15 +149,16 @@ fn read_text(alloc: Global, text: &[u8], names: &mut Names) -> Result<Script, Sc
 
 /// The script that a text says, or its first fault with the line, counted from 1 (this project's profile).
 ///
-/// The names of its lines get numbers in order of first use, those of actions too. After a fault the names may have
-/// grown, and the old ones keep their numbers. The numbers in a script that is read
-/// stand for names and actions that are there. It takes time in proportion to the text, with one look-up of a name for
-/// each word.
+/// The names of its lines get numbers in order of first use, those of actions too. A line with a fault adds no name:
+/// behind it the names are those after the lines above it. After want of memory the names may have grown; the old ones
+/// keep their numbers however it ends. The numbers in a script that is read stand for names and actions that are there.
+/// It takes time in proportion to the text, with a few look-ups of a name for each word.
 pub fn read_script(alloc: Global, text: &[u8], names: &mut Names) -> Result<Script, ScriptFault>
     ensures gives { GivesAt (λ s. (s, names.new)) result (script_meaning names.old text.now) }
     ensures whole { IsNames names.old → IfOk result (λ s. IsScript names.new s) }
     ensures paired { IfOk result (λ s. length s.actions ≡ length s.action_names) }
     ensures fault { IsNames names.old → ToldFirst names.old text.now result }
+    ensures kept { IsNames names.old → FaultKeeps names.old text.now names.new result }
     ensures names { IsNames names.old → IfOk result (λ s. names.new ≡ names_after names.old (lines text.now)) }
     ensures grows { Grows names.old names.new }
 {

@@ -1,11 +1,15 @@
 // What one line of a script says.
-ghost use Rattle.std.specs.Prelude.{◌≡◌, ◌≤◌, ℕ, List, map};
-ghost use Rattle.script_words.specs.Given.{Gives, Grows};
+ghost use Rattle.std.specs.Prelude.{◌≡◌, ◌+◌, ◌≤◌, ◌&&◌, not, cond, ℕ, List, length, map, nat_le};
+ghost use Rattle.std.specs.Str.{bytes_eq};
+ghost use Rattle.desk_names.specs.Names.{most_names, IsNames};
+ghost use Rattle.script_words.specs.Given.{Gives, Grows, Keeps};
 ghost use Rattle.session_commands.specs.Table.{row_of, verb_of, words_at, words_in};
-ghost use Rattle.session_lang.specs.Statement.{Known, ArePlain, PlainOf, fields_meaning, command_meaning, begin_meaning, end_meaning, words_meaning, line_meaning};
+ghost use Rattle.session_lang.specs.Statement.{Known, ArePlain, PlainOf, names_with, fields_meaning, command_meaning, begin_meaning, end_meaning, words_meaning, line_meaning};
 
-use desk_names::{NameId, Names, is_name};
-use script_words::{LineFault, field_of, has_good_bytes, number_of, word_at, word_said, words_of};
+use desk_names::{MOST_NAMES, NameId, Names, is_name};
+use script_words::{
+    LineFault, field_of, has_good_bytes, names_new, number_of, word_at, word_said, words_of,
+};
 use session_commands::{Command, Kind, Parts, ScriptKind, Verb};
 use std::alloc::Global;
 
@@ -35,6 +39,42 @@ fn words_said(verb: Verb, words: &[&[u8]]) -> Result<Parts, ScriptKind>
     })
 }
 
+// Whether a new name is new behind another word: it is not the other, where that is a new name too.
+fn new_behind(is_new: bool, other_new: bool, other: &[u8], word: &[u8]) -> bool
+    ensures { result ≡ (is_new && not (other_new && bytes_eq word.now other.now)) }
+{
+    is_new && !(other_new && word == other)
+}
+
+// How many of three are so.
+fn count_of(first: bool, second: bool, third: bool) -> u32
+    ensures count { result ≡ cond first 1 0 + cond second 1 0 + cond third 1 0 }
+    ensures few { result ≤ 3 }
+{
+    u32::from(first) + u32::from(second) + u32::from(third)
+}
+
+// How many new names the words behind the first name.
+fn new_names(verb: Verb, words: &[&[u8]], names: &Names) -> u32
+    ensures count { length (names_with (row_of verb) (map (λ word. word.now) words.now) names.now) ≡ length names.now + result }
+    ensures few { result ≤ 3 }
+{
+    let (_, kind1, kind2, kind3) = verb.row();
+    let (one, two, three) = (word_at(words, 0), word_at(words, 1), word_at(words, 2));
+    let first = names_new(names, kind1, one);
+    let second = new_behind(names_new(names, kind2, two), first, one, two);
+    let third = new_behind(names_new(names, kind3, three), first, one, three);
+    count_of(first, second, new_behind(third, second, two, three))
+}
+
+// Whether there is room for the names that the words behind the first name.
+fn has_room(verb: Verb, words: &[&[u8]], names: &Names) -> bool
+    ensures room { result ≡ nat_le (length (names_with (row_of verb) (map (λ word. word.now) words.now) names.now)) most_names }
+    ensures names { IsNames names.now }
+{
+    names.len() + new_names(verb, words, names) <= MOST_NAMES
+}
+
 // The command of a row whose words have no fault; `plain` is what they say apart from the names in them.
 #[tactic(auto, unfolding(crate::specs::Statement::fields_meaning), using(script_words::proofs::Interning::grows_on))]
 fn run_fields(
@@ -44,10 +84,12 @@ fn run_fields(
     names: &mut Names,
     begun: &mut Names,
 ) -> Result<Statement, LineFault>
-    requires { PlainOf verb (map (λ word. word.now) words.now) plain }
+    requires plain { PlainOf verb (map (λ word. word.now) words.now) plain }
+    requires room { length (names_with (row_of verb) (map (λ word. word.now) words.now) names.old) ≤ most_names }
     ensures gives { Gives (λ s. (s, record { names = names.new; begun = begun.new })) result
         (fields_meaning (record { names = names.old; begun = begun.old }) verb (map (λ word. word.now) words.now)) }
     ensures grows { Grows names.old names.new }
+    ensures kept { Keeps result names.old names.new }
 {
     let (_, kind1, kind2, kind3) = verb.row();
     let first = field_of(names, kind1, word_at(words, 0), plain.first)?;
@@ -73,6 +115,7 @@ fn run_line(
     ensures gives { Gives (λ s. (s, record { names = names.new; begun = begun.new })) result
         (command_meaning (record { names = names.old; begun = begun.old }) (verb_of first.now) (map (λ word. word.now) words.now)) }
     ensures grows { Grows names.old names.new }
+    ensures kept { Keeps result names.old names.new }
 {
     let Some(verb) = Verb::of_word(first) else {
         return Err(LineFault::Kind(ScriptKind::Word));
@@ -81,7 +124,8 @@ fn run_line(
         return Err(LineFault::Kind(ScriptKind::Count));
     }
     match words_said(verb, words) {
-        Ok(plain) => run_fields(verb, plain, words, names, begun),
+        Ok(plain) if has_room(verb, words, names) => run_fields(verb, plain, words, names, begun),
+        Ok(_) => Err(LineFault::Kind(ScriptKind::Names)),
         Err(fault) => Err(LineFault::Kind(fault)),
     }
 }
@@ -92,7 +136,16 @@ fn words_at(kind: Kind) -> usize
 {
     match kind {
         Kind::Nothing => 0,
-        _ => 1,
+        Kind::Name
+        | Kind::Value
+        | Kind::Number
+        | Kind::Rate
+        | Kind::Day
+        | Kind::Weight
+        | Kind::Engine
+        | Kind::Target
+        | Kind::Switch
+        | Kind::Action => 1,
     }
 }
 
@@ -115,6 +168,7 @@ fn begin_line(
     ensures gives { Gives (λ s. (s, record { names = names.new; begun = begun.new })) result
         (begin_meaning (record { names = names.old; begun = begun.old }) inside (map (λ word. word.now) words.now)) }
     ensures grows { Grows names.old names.new }
+    ensures kept { Keeps result names.old names.new }
 {
     if words.len() != 1 {
         return Err(LineFault::Kind(ScriptKind::Count));
@@ -129,8 +183,8 @@ fn begin_line(
     if begun.find(word).is_some() {
         return Err(LineFault::Kind(ScriptKind::Twice));
     }
-    let name = number_of(names, word)?;
     number_of(begun, word)?;
+    let name = number_of(names, word)?;
     Ok(Statement::Begin(name))
 }
 
@@ -158,6 +212,7 @@ fn words_line(
     ensures gives { Gives (λ s. (s, record { names = names.new; begun = begun.new })) result
         (words_meaning (record { names = names.old; begun = begun.old }) inside (map (λ word. word.now) words.now)) }
     ensures grows { Grows names.old names.new }
+    ensures kept { Keeps result names.old names.new }
 {
     let [first, rest @ ..] = words else {
         return Ok(Statement::Blank);
@@ -171,7 +226,8 @@ fn words_line(
     run_line(first, rest, names, begun)
 }
 
-/// What a line says, or its first fault. The names of a line without a fault get numbers, in order.
+/// What a line says, or its first fault. The names of a line without a fault get numbers, in order; one with a fault
+/// adds none.
 #[tactic(auto, unfolding(crate::specs::Statement::line_meaning), using(script_words::proofs::Interning::grows_same))]
 pub(crate) fn read_line(
     alloc: Global,
@@ -183,6 +239,7 @@ pub(crate) fn read_line(
     ensures gives { Gives (λ s. (s, record { names = names.new; begun = begun.new })) result
         (line_meaning (record { names = names.old; begun = begun.old }) inside line.now) }
     ensures grows { Grows names.old names.new }
+    ensures kept { Keeps result names.old names.new }
 {
     if !has_good_bytes(line) {
         return Err(LineFault::Kind(ScriptKind::Byte));

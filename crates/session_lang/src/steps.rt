@@ -9,7 +9,7 @@ ghost use Rattle.session_commands.specs.declared.command.Command.{Command};
 use crate::statement::Statement;
 use desk_names::{NameId, NameList, Names};
 use script_words::text_at;
-use session_commands::{ActionId, Actions, Command, CommandList};
+use session_commands::{ActionId, Actions, Command, CommandList, Parts};
 use std::alloc::{AllocError, Global};
 
 /// A statement with the number of its line.
@@ -45,7 +45,7 @@ fn is_blank(statement: &Statement) -> bool
 {
     match statement {
         Statement::Blank => true,
-        _ => false,
+        Statement::Begin(_) | Statement::End | Statement::Run(_) => false,
     }
 }
 
@@ -87,10 +87,7 @@ pub(crate) fn add(
 fn action_of(command: Command) -> Option<ActionId>
     ensures { result ≡ action_of command }
 {
-    match command {
-        Command::Watch(_, action) => Some(action),
-        _ => None,
-    }
+    Parts::of(command).second.action()
 }
 
 /// Whether a statement names an action that no block defines.
@@ -102,7 +99,7 @@ pub(crate) fn lacks(names: &Names, begun: &Names, statement: Statement) -> bool
             Some(action) => begun.find(text_at(names, NameId(action.0))).is_none(),
             None => false,
         },
-        _ => false,
+        Statement::Blank | Statement::Begin(_) | Statement::End => false,
     }
 }
 
@@ -125,7 +122,31 @@ fn linked(names: &Names, begun: &Names, command: Command) -> Command
             watcher,
             linked_action(names, begun, action),
         ),
-        other => other,
+        Command::Quote(_, _)
+        | Command::Sum(_, _, _)
+        | Command::Difference(_, _, _)
+        | Command::Handle(_, _)
+        | Command::Stock(_, _)
+        | Command::Composite(_)
+        | Command::Member(_, _, _)
+        | Command::Set(_, _)
+        | Command::Unset(_)
+        | Command::Link(_, _)
+        | Command::Unlink(_)
+        | Command::Engine(_, _)
+        | Command::Today(_)
+        | Command::Fixing(_, _, _)
+        | Command::Freeze(_)
+        | Command::Thaw(_)
+        | Command::Recalc(_)
+        | Command::Forward(_, _)
+        | Command::Defer
+        | Command::Resume
+        | Command::Register(_, _)
+        | Command::Unregister(_, _)
+        | Command::Drop(_)
+        | Command::Ask(_)
+        | Command::Df(_, _) => command,
     }
 }
 
@@ -167,7 +188,7 @@ fn begins(statement: Statement) -> bool
 {
     match statement {
         Statement::Begin(_) => true,
-        _ => false,
+        Statement::Blank | Statement::End | Statement::Run(_) => false,
     }
 }
 

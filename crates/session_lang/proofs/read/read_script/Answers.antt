@@ -1,5 +1,6 @@
 use Rattle.session_lang.proofs.ReadScript.{whole_answer}
 use Rattle.session_lang.proofs.FaultScript.{fault_answer, names_answer}
+use Rattle.session_lang.proofs.LeftNames.{kept_answer}
 use Rattle.session_lang.proofs.read.read_script.Goals as goal
 
 pub returns-clause-whole : goal.returns-clause-whole
@@ -10,3 +11,6 @@ returns-clause-fault c = λ sound. fault_answer c.args.names.now c.read_text.new
 
 pub returns-clause-names : goal.returns-clause-names
 returns-clause-names c = λ sound. names_answer c.args.names.now c.read_text.new.names c.args.text.now c.read_text.result sound c.read_text.ensures.gives
+
+pub returns-clause-kept : goal.returns-clause-kept
+returns-clause-kept c = λ sound. kept_answer c.args.names.now c.read_text.new.names c.args.text.now c.read_text.result sound c.read_text.ensures.left

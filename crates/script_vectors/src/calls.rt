@@ -6,32 +6,54 @@ use desk_top::{Status, run};
 use std::alloc::{AllocError, Global};
 use std::{fs, io};
 
-const SCRIPT: &[u8] = b"quote q 1.5\nstock s q\nask s\nask s\n";
+// A script, and the lines that a whole run of it writes.
+#[derive(Clone, Copy)]
+struct Play {
+    script: &'static [u8],
+    lines: &'static [u8],
+}
 
-const LINES: &[u8] = b"s 1.500000 fresh 1\ns 1.500000 fresh 0\n";
+// A stock that is asked for twice: the second answer computes nothing.
+const STOCK: Play = Play {
+    script: b"quote q 1.5\nstock s q\nask s\nask s\n",
+    lines: b"s 1.500000 fresh 1\ns 1.500000 fresh 0\n",
+};
 
-// Compares the rows of `calls` and prints how many agree.
+// A composite of two stocks, asked for again once one of its quotes moved.
+const COMPOSITE: Play = Play {
+    script: b"quote a 1.5\nquote b 0.5\nstock s a\nstock t b\ncomposite k\nmember k s 2\nmember k t -1\n\
+        ask k\nset a 2\nask k\n",
+    lines: b"k 2.500000 fresh 3\nk 3.500000 fresh 2\n",
+};
+
+// Compares the rows of each script and prints how many agree.
 pub(crate) fn compare(rt: &HostRuntime) -> io::Result<()> {
-    let text = fs::read_to_string(rt, "calls")?;
+    compare_rows(rt, "calls", STOCK)?;
+    compare_rows(rt, "composite_calls", COMPOSITE)
+}
+
+// Compares the rows of a file.
+fn compare_rows(rt: &HostRuntime, file: &str, play: Play) -> io::Result<()> {
+    let text = fs::read_to_string(rt, file)?;
     let mut agree = 0u32;
     let mut differ = 0u32;
     for row in text.lines() {
-        if agrees(rt.alloc(), row)? {
+        if agrees(rt.alloc(), play, row)? {
             agree = agree.saturating_add(1);
         } else {
             differ = differ.saturating_add(1);
-            println!(rt; "calls: this differs: {row}")?;
+            println!(rt; "{file}: this differs: {row}")?;
         }
     }
-    println!(rt; "calls: {agree} agree, {differ} differ")
+    println!(rt; "{file}: {agree} agree, {differ} differ")
 }
 
 // Whether a row agrees: before the arrow what is given, behind it what is seen.
-fn agrees(alloc: Global, row: &str) -> Result<bool, AllocError> {
+fn agrees(alloc: Global, play: Play, row: &str) -> Result<bool, AllocError> {
     let Some((given, wanted)) = row.split_once(" -> ") else {
         return Ok(false);
     };
-    match seen(alloc, given)? {
+    match seen(alloc, play, given)? {
         Some(text) => Ok(text.as_str() == wanted),
         None => Ok(false),
     }
@@ -40,7 +62,7 @@ fn agrees(alloc: Global, row: &str) -> Result<bool, AllocError> {
 // What is seen of a run of the words: the shelf's calls, faults and misses, the sink's calls and faults, how many bytes
 // were written, and the line of the status. Given are, before the words, the most bytes of a read and which call of the
 // shelf fails, the room of the sink, the most bytes of a put and which fails, 0 for none.
-fn seen(alloc: Global, given: &str) -> Result<Option<String>, AllocError> {
+fn seen(alloc: Global, play: Play, given: &str) -> Result<Option<String>, AllocError> {
     let parts: Vec<&str> = given.split(' ').collect(alloc)?;
     match parts.as_slice() {
         [read_most, read_fails, room, put_most, put_fails, words @ ..] => {
@@ -52,7 +74,14 @@ fn seen(alloc: Global, given: &str) -> Result<Option<String>, AllocError> {
                 most: number(put_most),
                 call: number(put_fails),
             };
-            played(alloc, &texts(alloc, words)?, reads, number(room), puts)
+            played(
+                alloc,
+                play,
+                &texts(alloc, words)?,
+                reads,
+                number(room),
+                puts,
+            )
         }
         _ => Ok(None),
     }
@@ -68,6 +97,7 @@ struct Limits {
 // What is seen of a run over this shelf and this sink; none where a call takes nothing, or other bytes were written.
 fn played(
     alloc: Global,
+    play: Play,
     words: &[String],
     reads: Limits,
     room: usize,
@@ -76,10 +106,14 @@ fn played(
     if reads.most == 0 || puts.most == 0 {
         return Ok(None);
     }
-    let mut shelf = MemoryShelf::new(files(alloc)?, reads.most, failing(alloc, reads.call)?);
+    let mut shelf = MemoryShelf::new(
+        files(alloc, play.script)?,
+        reads.most,
+        failing(alloc, reads.call)?,
+    );
     let mut out = MemorySink::new(alloc, room, puts.most, failing(alloc, puts.call)?)?;
     let status = run(alloc, words, &mut shelf, &mut out, &mut DeskBench::new());
-    if LINES.starts_with(out.bytes()) {
+    if play.lines.starts_with(out.bytes()) {
         Ok(Some(counts(alloc, &shelf, &out, status)?))
     } else {
         Ok(None)
@@ -116,11 +150,11 @@ fn number(text: &str) -> usize {
     text.parse().unwrap_or(0)
 }
 
-// The market `m` and the script `s`.
-fn files(alloc: Global) -> Result<FileList, AllocError> {
+// The market `m` and this script `s`.
+fn files(alloc: Global, script: &[u8]) -> Result<FileList, AllocError> {
     let mut files = FileList::new(alloc);
     files.push(file(alloc, "m", MARKET)?)?;
-    files.push(file(alloc, "s", SCRIPT)?)?;
+    files.push(file(alloc, "s", script)?)?;
     Ok(files)
 }
 

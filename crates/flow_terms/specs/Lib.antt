@@ -1,0 +1,4 @@
+pub mod Fixings
+pub mod Flows
+pub mod Laws
+pub mod Ranges

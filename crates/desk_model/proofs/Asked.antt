@@ -18,6 +18,7 @@ use Rattle.desk_model.specs.Fresh.{inputs_by, reading_over, priced}
 use Rattle.desk_model.specs.State.{State, kept_at, unpriced, last_of, last_answer, is_frozen, is_source, is_late, held, seen, now}
 use Rattle.desk_model.specs.Sound.{has_source, is_ready, IsPriced, AreSound, HasNoSourceWhereOff, IsSound}
 use Rattle.desk_model.specs.Links.{is_lazy_at, IsWhole}
+use Rattle.desk_model.specs.Laws.{AreValues}
 use Rattle.desk_model.specs.Visit.{value_among, has_value, is_idle, runs, with_value, stored, asked}
 use Rattle.desk_model.proofs.Stores.{each_at, each_past, length-each}
 use Rattle.desk_model.proofs.Bounds.{same_price}
@@ -63,6 +64,12 @@ idle_current s calls y idle free none = elim (or_cases (kept_at s y).current (ha
   | inl current ↦ current
   | inr has ↦ absurd (false≢true (sym none ∙ has))
 ]
+
+abbrev as_outcome : Value → Outcome
+as_outcome v = Ok v
+
+some_is : (v w : Value) → Some v ≡ Some w → v ≡ w
+some_is v w e = cc
 
 module _ (calc : Calc) (s : State) (whole : IsWhole s) (calls : List (ℕ × Outcome)) (closed : IsClosed calc s calls) where
   -- an object that got a value is among the objects
@@ -180,9 +187,10 @@ module _ (calc : Calc) (s : State) (whole : IsWhole s) (calls : List (ℕ × Out
     unfolding stored is_source
     sources_stored none off o = (same_flags o).1 ∙ none off o
 
-    pub whole_stored : ((x : ℕ) → has_value calls x ≡ true → is_lazy_at s.market x ≡ true) → IsWhole (stored s calls)
+    pub whole_stored : ((x : ℕ) → has_value calls x ≡ true → is_lazy_at s.market x ≡ true)
+        → AreValues s.market (seen calc s) → IsWhole (stored s calls)
     unfolding stored
-    whole_stored lazy = record {
+    whole_stored lazy values = record {
       length = stored_length s calls ∙ whole.length;
       today = whole.today;
       links = whole.links;
@@ -192,6 +200,10 @@ module _ (calc : Calc) (s : State) (whole : IsWhole s) (calls : List (ℕ × Out
       ];
       frozen = λ o is. whole.frozen o (sym (same_flags o).0 ∙ is);
       forward = λ o is. whole.forward o (sym (same_forward o) ∙ is);
+      valued = λ o value is. elim (cases_Bool (has_value calls o)) [
+        | inl has ↦ values o value (lazy o has) ((closed o has).seen ∙ ap as_outcome (some_is (closed o has).value value (sym (ap (λ (k : Kept). k.last) (got o has)) ∙ is)))
+        | inr none ↦ whole.valued o value (ap (λ (k : Kept). k.last) (sym (stored_not s calls o none)) ∙ is)
+      ];
       registered = whole.registered;
       noticed = whole.noticed;
     }
@@ -212,9 +224,6 @@ sound_stored calc s calls whole closed fit sound = record {
   sources = sources_stored calc s whole calls closed fit sound.current sound.sources;
   current = current_stored calc s whole calls closed fit sound.current;
 }
-
-abbrev as_outcome : Value → Outcome
-as_outcome v = Ok v
 
 -- an object that is asked for and seen with a value, and that is not held, has that value as its last one after the ask
 pub asked_last : (calc : Calc) (s : State) (o : ℕ) (value : Value) → IsWhole s → HoldsFit s → AreSound calc s

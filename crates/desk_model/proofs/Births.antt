@@ -1,18 +1,19 @@
 -- An object that is made, and one that is dropped: the shape of a state and all that is current are kept.
-use Rattle.std.proofs.Common.{◌≡◌, ◌≢◌, inl, inr, ℕ, suc, ◌<◌, ◌≤◌, Bool, true, false, List, [], ◌∷◌, ◌++◌, length, refl, sym, ◌∙◌, ap, subst, arith}
+use Rattle.std.proofs.Common.{◌≡◌, ◌≢◌, inl, inr, ℕ, suc, ◌<◌, ◌≤◌, Bool, true, false, List, [], ◌∷◌, ◌++◌, length, Some, None, refl, sym, ◌∙◌, ap, subst, arith}
 use Rattle.std.specs.Prelude.{◌||◌, ◌==◌, if◌then◌else◌, slice_set}
 use Rattle.std.proofs.lemmas.List.{get_or-set_same, get_or-set_other, get_or_append_left, get_or_past, get_or_push, length-append, length-set}
 use Rattle.std.proofs.lemmas.Bool.{cases_eq, cases_lt, false≢true, eqb-false, eqb-true}
 use Rattle.walks.specs.Walk.{Among, IsWithin}
 use Rattle.walks.proofs.Ranks.{meets_edge}
 use Rattle.walks.proofs.Lifted.{acyclic_fewer, acyclic_added}
+use Rattle.desk_terms.specs.declared.value.Value.{Value}
 use Rattle.desk_model.specs.declared.kept.Kept.{Kept}
 use Rattle.desk_model.specs.declared.slot.Slot.{Slot}
 use Rattle.desk_model.specs.declared.slot.Slot.TheVariants.{Free}
-use Rattle.desk_model.specs.Market.{Market, slot_at, terms_in, is_observable, is_watcher, role_of, is_lazy, is_forwarder, edges_of, edges}
+use Rattle.desk_model.specs.Market.{Market, slot_at, terms_in, terms_at, is_observable, is_watcher, role_of, is_lazy, is_forwarder, edges_of, edges}
 use Rattle.desk_model.specs.State.{State, kept_at, unpriced, is_frozen, is_source}
 use Rattle.desk_model.specs.Told.{registered}
-use Rattle.desk_model.specs.Links.{is_lazy_at, IsLinked, IsWhole}
+use Rattle.desk_model.specs.Links.{is_lazy_at, IsLinked, IsValued, IsWhole}
 use Rattle.desk_model.specs.Laws.{Keeps, MayBeMade}
 use Rattle.desk_model.specs.Effect.{added, without_pairs, dropped}
 use Rattle.desk_model.proofs.Edges.{without_fewer, without_gone}
@@ -89,6 +90,13 @@ module _ (s : State) (slot : Slot) where
         → is_watcher (slot_at (added slot s).market w) ≡ true
     watcher_then w is = ap is_watcher (old_within w (watcher_within s.market w is)) ∙ is
 
+    valued_then : (o : ℕ) (value : Value) → IsValued (terms_at s.market o) o value
+        → IsValued (terms_at (added slot s).market o) o value
+    valued_then o value is = elim (cases_eq o (length s.market.objects)) [
+      | inl same ↦ absurd (subst (λ (t : Slot). IsValued (terms_in t) o value) (get_or_past s.market.objects o Free (omega arith)) is)
+      | inr other ↦ subst (λ (t : Slot). IsValued (terms_in t) o value) (sym (old_slot o other)) is
+    ]
+
     whole_added : IsWhole (added slot s)
     whole_added = record {
       length = let a = length-append s.kept (unpriced ∷ []) in let b = length-append s.market.objects (slot ∷ []) in let c = whole.length in omega arith;
@@ -97,6 +105,7 @@ module _ (s : State) (slot : Slot) where
       lazy = λ o is. lazy_then o (whole.lazy o (ap (λ (k : Kept). k.current) (sym (added_kept o)) ∙ is));
       frozen = λ o is. lazy_then o (whole.frozen o (ap (λ (k : Kept). k.frozen) (sym (added_kept o)) ∙ is));
       forward = λ o is. lazy_then o (whole.forward o (ap (λ (k : Kept). k.forward) (sym (added_kept o)) ∙ is));
+      valued = λ o value is. valued_then o value (whole.valued o value (ap (λ (k : Kept). k.last) (sym (added_kept o)) ∙ is));
       registered = λ w o among. let r = whole.registered w o among in record { watcher = watcher_then w r.watcher; observed = observed_then o r.observed };
       noticed = λ w among. watcher_then w (whole.noticed w among);
     }
@@ -213,6 +222,17 @@ module _ (s : State) (x : ℕ) (whole : IsWhole s) (not_today : x ≢ 0) (unused
     | inr other ↦ ap (λ (t : Slot). is_lazy (role_of (terms_in t))) (left o other) ∙ was o (ap flag (sym (left_kept o other)) ∙ is)
   ]
 
+  -- a last value is one of another object
+  valued_left : (o : ℕ) (value : Value) → (kept_at (dropped x s) o).last ≡ Some value
+      → IsValued (terms_at (dropped x s).market o) o value
+  valued_left o value is = elim (cases_eq o x) [
+    | inl same ↦ absurd (none_some value (sym (ap (λ (k : Kept). k.last) gone_kept) ∙ (ap (λ (z : ℕ). (kept_at (dropped x s) z).last) (sym same) ∙ is)))
+    | inr other ↦ subst (λ (t : Slot). IsValued (terms_in t) o value) (sym (left o other)) (whole.valued o value (ap (λ (k : Kept). k.last) (sym (left_kept o other)) ∙ is))
+  ]
+    where
+      none_some : (value : Value) → None ≡ Some value → ⊥
+      none_some value e = cc
+
   registered_left : (w o : ℕ) → Among o (registered (dropped x s).registrations w)
       → (w ≢ x) × (o ≢ x) × Among o (registered s.registrations w)
   unfolding dropped
@@ -230,6 +250,7 @@ module _ (s : State) (x : ℕ) (whole : IsWhole s) (not_today : x ≢ 0) (unused
     lazy = lazy_left (λ k. k.current) refl whole.lazy;
     frozen = lazy_left (λ k. k.frozen) refl whole.frozen;
     forward = lazy_left (λ k. k.forward) refl whole.forward;
+    valued = valued_left;
     registered = λ w o among.
         let l = registered_left w o among in
         let r = whole.registered w o l.2 in

@@ -2,6 +2,7 @@
 use Rattle.std.proofs.Common.{◌≡◌, inl, inr, ℕ, zero, suc, ◌<◌, List, [], ◌∷◌, length, Option, None, refl, ◌∙◌, ap, arith}
 use Rattle.walks.specs.Walk.{Among, Falls}
 use Rattle.walks.proofs.Small.{small_ranks}
+use Rattle.desk_terms.specs.declared.value.Input as input
 use Rattle.desk_terms.specs.Reading.{Outcome, Calc}
 use Rattle.desk_model.specs.declared.entry.Entry.{Entry}
 use Rattle.desk_model.specs.Market.{Market, terms_at, edges}
@@ -16,7 +17,7 @@ use Rattle.desk_model.proofs.Locality.{needs_fall}
 pub same_inputs : (f g : ℕ → Outcome) (entries : List Entry) → ((x : ℕ) → Among x (needed entries) → f x ≡ g x)
     → inputs_by f entries ≡ inputs_by g entries
 same_inputs f g [] same = refl
-same_inputs f g (Gives i ∷ entries) same = ap (and_inputs i) (same_inputs f g entries same)
+same_inputs f g (Gives i ∷ entries) same = ap (and_inputs (input.TheVariants.Rate i)) (same_inputs f g entries same)
 same_inputs f g (Needs y ∷ entries) same = ap (λ (p : Outcome). and_value p (inputs_by f entries)) (same y (inl refl))
     ∙ ap (and_value (g y)) (same_inputs f g entries (λ x among. same x (inr among)))
 same_inputs f g (Refuses cause ∷ entries) same = refl

@@ -12,12 +12,14 @@ use Rattle.desk_terms.specs.declared.terms.HandleKind as handle
 use Rattle.desk_terms.specs.declared.kind.Kind as kind
 use Rattle.desk_terms.specs.Kind.{role}
 use Rattle.desk_terms.specs.Terms.{kind_of}
+use Rattle.desk_terms.specs.Reading.{IsValueOf}
+use Rattle.desk_terms.specs.declared.value.Value.{Value}
 use Rattle.desk_model.specs.declared.kept.Kept.{Kept}
 use Rattle.desk_model.specs.declared.slot.Slot.{Slot}
 use Rattle.desk_model.specs.declared.slot.Slot.TheVariants.{Free, Today, Watcher, Live}
-use Rattle.desk_model.specs.Market.{Market, slot_at, terms_in, kind_in, kind_at, is_observable, is_watcher, role_of, is_lazy, edges_of, edges}
+use Rattle.desk_model.specs.Market.{Market, slot_at, terms_in, terms_at, kind_in, kind_at, is_observable, is_watcher, role_of, is_lazy, edges_of, edges}
 use Rattle.desk_model.specs.State.{State, kept_at, unpriced, is_frozen, is_source}
-use Rattle.desk_model.specs.Links.{is_lazy_at, IsLinked, IsWhole, reaches, MayStand}
+use Rattle.desk_model.specs.Links.{is_lazy_at, IsLinked, IsValued, IsWhole, reaches, MayStand}
 use Rattle.desk_model.specs.Links.MayStand.{keeps, joins}
 use Rattle.desk_model.specs.Effect.{notified, with_terms, revised, with_today, today_set}
 use Rattle.desk_model.specs.Laws.{Keeps}
@@ -196,6 +198,17 @@ module _ (s : State) (x : ℕ) (terms : Terms) where
     not_zero : 0 ≢ x
     not_zero same = today_live (live_in (slot_at s.market x) terms same_kind).0 (sym whole.today ∙ ap (slot_at s.market) same ∙ (live_in (slot_at s.market x) terms same_kind).1)
 
+    valued_then : (o : ℕ) (value : Value) → IsValued (terms_at s.market o) o value
+        → IsValued (terms_at (with_terms x terms s).market o) o value
+    valued_then o value is = elim (cases_eq o x) [
+      | inr other ↦ subst (λ (t : Slot). IsValued (terms_in t) o value) (sym (slot_there o other)) is
+      | inl same ↦
+          let l = live_in (slot_at s.market x) terms same_kind in
+          let old : IsValueOf (kind_of l.0) o value = subst (λ (t : Slot). IsValued (terms_in t) o value) (ap (slot_at s.market) same ∙ l.1) is in
+          subst (λ (t : Slot). IsValued (terms_in t) o value) (sym (ap (slot_at (with_terms x terms s).market) same ∙ slot_here within_here))
+          (subst (λ (k : kind.Kind). IsValueOf k o value) (sym l.2) old)
+    ]
+
     pub whole_with_terms : IsLinked (with_terms x terms s).market → IsWhole (with_terms x terms s)
     whole_with_terms links = record {
       length = kept_long ∙ (whole.length ∙ sym (length-set s.market.objects x (Live terms)));
@@ -204,6 +217,7 @@ module _ (s : State) (x : ℕ) (terms : Terms) where
       lazy = λ o current. lazy_then o (whole.lazy o (kept_with s x (record (kept_at s x) { current = false }) (λ a b. a.current ≡ true → b.current ≡ true) (λ j e. e) (λ e. absurd (cc)) o current));
       frozen = λ o is. lazy_then o (whole.frozen o (kept_with s x (record (kept_at s x) { current = false }) (λ a b. a.frozen ≡ true → b.frozen ≡ true) (λ j e. e) (λ e. e) o is));
       forward = λ o is. lazy_then o (whole.forward o (kept_with s x (record (kept_at s x) { current = false }) (λ a b. a.forward ≡ true → b.forward ≡ true) (λ j e. e) (λ e. e) o is));
+      valued = λ o value is. valued_then o value (whole.valued o value (kept_with s x (record (kept_at s x) { current = false }) (λ a b. a.last ≡ Some value → b.last ≡ Some value) (λ j e. e) (λ e. e) o is));
       registered = λ w o among. let r = whole.registered w o among in record { watcher = watcher_then w r.watcher; observed = observed_then o r.observed };
       noticed = λ w among. watcher_then w (whole.noticed w among);
     }
@@ -237,6 +251,7 @@ module _ (s : State) (day : ℤ) (whole : IsWhole s) where
     lazy = whole.lazy;
     frozen = whole.frozen;
     forward = whole.forward;
+    valued = whole.valued;
     registered = λ w o among. let r = whole.registered w o among in record { watcher = r.watcher; observed = r.observed };
     noticed = whole.noticed;
   }

@@ -4,12 +4,12 @@ use Rattle.std.specs.Prelude.{◌==◌, if◌then◌else◌, pos}
 use Rattle.std.specs.Option.{option_eq}
 use Rattle.std.specs.Ordering.{int_eq}
 use Rattle.walks.specs.Walk.{Among}
+use Rattle.flow_terms.specs.Fixings.{with_fixing}
 use Rattle.desk_terms.specs.declared.terms.Terms.{Terms}
 use Rattle.desk_terms.specs.declared.terms.Terms.TheVariants.{Quote, Derived, Handle, Curve, Implied, Index, Engine, Stock, Composite, Flows}
 use Rattle.desk_terms.specs.declared.terms.HandleKind as handle
 use Rattle.desk_terms.specs.declared.terms.Part.{Part}
-use Rattle.desk_terms.specs.declared.terms.Fixing.{Fixing}
-use Rattle.desk_terms.specs.declared.flow.FlowTerms.{FlowTerms}
+use Rattle.flow_terms.specs.declared.flows.FlowTerms.{FlowTerms}
 use Rattle.desk_terms.specs.declared.kind.Wanted as wanted
 use Rattle.desk_terms.specs.Terms.{kind_of, optional_reference, part_references}
 use Rattle.desk_model.specs.declared.slot.Slot.{Slot}
@@ -234,14 +234,14 @@ module _ (s : State) (whole : IsWhole s) where
       by_held HasNone is = keeps_itself s whole
 
   -- a rate is stored for an index
-  pub fixing_keeps : (x : ℕ) (fixing : Fixing) → Keeps s (fixing_added x fixing s)
+  pub fixing_keeps : (x : ℕ) (day rate : ℤ) → Keeps s (fixing_added x day rate s)
   unfolding fixing_added
-  fixing_keeps x fixing = by_held (changeable (terms_at s.market x)) (terms_hold (terms_at s.market x))
+  fixing_keeps x day rate = by_held (changeable (terms_at s.market x)) (terms_hold (terms_at s.market x))
     where
-      by_held : (c : Changeable) → TermsOf c (terms_at s.market x) → Keeps s (fixing_stored c x fixing s)
+      by_held : (c : Changeable) → TermsOf c (terms_at s.market x) → Keeps s (fixing_stored c x day rate s)
       by_held (HasValue held) is = keeps_itself s whole
       by_held (HasTarget kind held) is = keeps_itself s whole
-      by_held (HasFixings terms fixings) is = revised_keeps s x (Index terms (fixings ++ fixing ∷ [])) whole (kind_there s.market x (Index terms fixings) is) (keeps (λ y among. edges_here s.market x y (Index terms fixings) is among))
+      by_held (HasFixings terms fixings) is = revised_keeps s x (Index terms (with_fixing fixings day rate)) whole (kind_there s.market x (Index terms fixings) is) (keeps (λ y among. edges_here s.market x y (Index terms fixings) is among))
       by_held (HasParts parts) is = keeps_itself s whole
       by_held (HasEngine flows held) is = keeps_itself s whole
       by_held HasNone is = keeps_itself s whole

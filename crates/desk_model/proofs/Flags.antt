@@ -65,7 +65,7 @@ frozen_flags s x = record {
 pub freeze_keeps : (s : State) (x : ℕ) → is_lazy_at s.market x ≡ true → IsWhole s → Keeps s (frozen_set x s)
 unfolding frozen_set is_source
 freeze_keeps s x lazy whole = record {
-  whole = whole_with x (record (kept_at s x) { frozen = true }) s whole (λ e. lazy) (λ e. lazy) (λ e. lazy);
+  whole = whole_with x (record (kept_at s x) { frozen = true }) s whole (λ e. lazy) (λ e. lazy) (λ e. lazy) (whole.valued x);
   current = keeps_flagged s (slice_set s.kept x (record (kept_at s x) { frozen = true })) s.deferring whole.links (frozen_flags s x)
       (λ none off y. kept_with s x (record (kept_at s x) { frozen = true }) (λ a b. a.source ≡ b.source) (λ j. refl) refl y ∙ none off y);
 }
@@ -85,7 +85,7 @@ pub forward_keeps : (s : State) (x : ℕ) (forward : Bool) → is_lazy_at s.mark
     → Keeps s (forward_set x forward s)
 unfolding forward_set is_source
 forward_keeps s x forward lazy whole = record {
-  whole = whole_with x (record (kept_at s x) { forward = forward }) s whole (λ e. lazy) (λ e. lazy) (λ e. lazy);
+  whole = whole_with x (record (kept_at s x) { forward = forward }) s whole (λ e. lazy) (λ e. lazy) (λ e. lazy) (whole.valued x);
   current = keeps_flagged s (slice_set s.kept x (record (kept_at s x) { forward = forward })) s.deferring whole.links (forward_flags s x forward)
       (λ none off y. kept_with s x (record (kept_at s x) { forward = forward }) (λ a b. a.source ≡ b.source) (λ j. refl) refl y ∙ none off y);
 }
@@ -94,7 +94,7 @@ forward_keeps s x forward lazy whole = record {
 pub defer_keeps : (s : State) → IsWhole s → Keeps s (deferred s)
 unfolding deferred
 defer_keeps s whole = record {
-  whole = record { length = whole.length; today = whole.today; links = whole.links; lazy = whole.lazy; frozen = whole.frozen; forward = whole.forward; registered = whole.registered; noticed = whole.noticed };
+  whole = record { length = whole.length; today = whole.today; links = whole.links; lazy = whole.lazy; frozen = whole.frozen; forward = whole.forward; valued = whole.valued; registered = whole.registered; noticed = whole.noticed };
   current = keeps_flagged s s.kept true whole.links (record { last = λ o. refl; current = λ o e. e; ready = λ o e. e; source = λ o e. e }) (λ none off y. absurd (cc));
 }
 
@@ -153,6 +153,7 @@ module _ (s : State) (whole : IsWhole s) where
         lazy = λ o current. whole.lazy o (current_before o current).1;
         frozen = λ o is. whole.frozen o (sym (ap (λ (k : Kept). k.frozen) (resumed_kept s o) ∙ (unsettled_flags (told s (is_source s) o) (kept_at s o)).0) ∙ is);
         forward = λ o is. whole.forward o (sym (ap (λ (k : Kept). k.forward) (resumed_kept s o) ∙ unsettled_forward (told s (is_source s) o) (kept_at s o)) ∙ is);
+        valued = λ o value is. whole.valued o value (sym (ap (λ (k : Kept). k.last) (resumed_kept s o) ∙ unsettled_last (told s (is_source s) o) (kept_at s o)) ∙ is);
         registered = whole.registered;
         noticed = w.noticed;
       }

@@ -5,10 +5,10 @@ use Rattle.std.specs.Ordering.{int_eq}
 use Rattle.std.proofs.lemmas.List.{get_or_past}
 use Rattle.std.proofs.lemmas.Bool.{cases_eq, cases_lt, false≢true}
 use Rattle.std.specs.Option.{option_eq}
+use Rattle.flow_terms.specs.Fixings.{with_fixing}
 use Rattle.desk_terms.specs.declared.terms.Terms.TheVariants.{Quote, Handle, Index, Composite, Flows}
 use Rattle.desk_terms.specs.declared.terms.Part.{Part}
-use Rattle.desk_terms.specs.declared.terms.Fixing.{Fixing}
-use Rattle.desk_terms.specs.declared.flow.FlowTerms.{FlowTerms}
+use Rattle.flow_terms.specs.declared.flows.FlowTerms.{FlowTerms}
 use Rattle.desk_model.specs.Held.{Changeable, changeable, weight_of, has_member, without_member, reweighted, with_member}
 use Rattle.desk_model.specs.Held.Changeable.{HasValue, HasTarget, HasFixings, HasParts, HasEngine, HasNone}
 use Rattle.desk_model.proofs.Commands.{TermsOf, terms_hold, kind_there, same_handle}
@@ -270,14 +270,14 @@ module _ (s : State) (whole : IsWhole s) (kinds : IsKinded s.market) where
       by_held (HasEngine flows held) is = kinds
       by_held HasNone is = kinds
 
-  pub fixing_kinded : (x : ℕ) (fixing : Fixing) → IsKinded (fixing_added x fixing s).market
+  pub fixing_kinded : (x : ℕ) (day rate : ℤ) → IsKinded (fixing_added x day rate s).market
   unfolding fixing_added
-  fixing_kinded x fixing = by_held (changeable (terms_at s.market x)) (terms_hold (terms_at s.market x))
+  fixing_kinded x day rate = by_held (changeable (terms_at s.market x)) (terms_hold (terms_at s.market x))
     where
-      by_held : (c : Changeable) → TermsOf c (terms_at s.market x) → IsKinded (fixing_stored c x fixing s).market
+      by_held : (c : Changeable) → TermsOf c (terms_at s.market x) → IsKinded (fixing_stored c x day rate s).market
       by_held (HasValue held) is = kinds
       by_held (HasTarget kind held) is = kinds
-      by_held (HasFixings terms fixings) is = revised_kinded s x (Index terms (fixings ++ fixing ∷ [])) whole (kind_there s.market x (Index terms fixings) is) (own x (Index terms fixings) is) kinds
+      by_held (HasFixings terms fixings) is = revised_kinded s x (Index terms (with_fixing fixings day rate)) whole (kind_there s.market x (Index terms fixings) is) (own x (Index terms fixings) is) kinds
       by_held (HasParts parts) is = kinds
       by_held (HasEngine flows held) is = kinds
       by_held HasNone is = kinds

@@ -11,6 +11,7 @@ use Rattle.desk_model.specs.Market.{terms_at, role_of, is_lazy}
 use Rattle.desk_model.specs.Uses.{uses, needed, needs}
 use Rattle.desk_model.specs.State.{State, seen, now}
 use Rattle.desk_model.specs.Links.{IsWhole}
+use Rattle.desk_model.specs.Laws.{AreValues}
 use Rattle.desk_model.specs.Visit.{Visit, has_value, after_visit, settle_all, settle, settle_walk, is_idle, visit_by, runs, asked}
 use Rattle.desk_model.specs.Recalc.{inputs_walk}
 use Rattle.desk_model.proofs.Visits.{has_more, runs_closed}
@@ -65,9 +66,9 @@ module _ (calc : Calc) (s : State) (kinds : (o x : ℕ) → Among x (needs s.mar
   runs_lazy o lazy x e = elim (visit_gets (suc (length s.market.objects)) o lazy [] x e) [ inl none ↦ absurd (false≢true none) | inr is ↦ is ]
 
   pub whole_asked : (o : ℕ) → is_lazy (role_of (terms_at s.market o)) ≡ true → IsWhole s → HoldsFit s → AreSound calc s
-      → IsWhole (asked calc o s)
+      → AreValues s.market (seen calc s) → IsWhole (asked calc o s)
   unfolding asked
-  whole_asked o lazy whole fit sound = whole_stored calc s whole (runs calc s o) (runs_closed calc s whole.links o) fit sound (runs_lazy o lazy)
+  whole_asked o lazy whole fit sound values = whole_stored calc s whole (runs calc s o) (runs_closed calc s whole.links o) fit sound (runs_lazy o lazy) values
 
   -- the inputs of a recalculation are lazy
   pub inputs_lazy : (o x : ℕ) → has_value (inputs_walk calc s o).calls x ≡ true

@@ -21,6 +21,7 @@ pub mod Stores
 pub mod Tells
 pub mod Thaw
 pub mod Users
+pub mod Valued
 pub mod Visits
 pub mod Wants
 pub mod Watchers

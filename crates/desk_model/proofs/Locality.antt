@@ -7,15 +7,15 @@ use Rattle.walks.specs.Walk.Below.{beyond}
 use Rattle.walks.proofs.Ranks.{Meets, meets_next, below_falls}
 use Rattle.desk_terms.specs.declared.terms.Terms.{Terms}
 use Rattle.desk_terms.specs.declared.terms.Part.{Part}
-use Rattle.desk_terms.specs.declared.terms.Helper.{Helper}
+use Rattle.curve_terms.specs.declared.terms.Helper.{Helper}
 use Rattle.desk_terms.specs.declared.terms.Terms.TheVariants.{Quote, Derived, Handle, Curve, Implied, Index, Engine, Stock, Composite, Flows}
 use Rattle.desk_terms.specs.declared.terms.HandleKind as handle
-use Rattle.desk_terms.specs.declared.flow.FlowTerms.{FlowTerms}
+use Rattle.flow_terms.specs.declared.flows.FlowTerms.{FlowTerms}
 use Rattle.desk_terms.specs.declared.value.Input as input
 use Rattle.desk_terms.specs.declared.cause.Cause.{Cause}
 use Rattle.desk_terms.specs.declared.cause.Cause.TheVariants.{TooLarge}
 use Rattle.desk_terms.specs.Terms.{inputs_of, helper_references, part_references}
-use Rattle.desk_terms.specs.Flows.{is_expired, needs_forecast}
+use Rattle.flow_terms.specs.Flows.{is_expired, needs_forecast}
 use Rattle.desk_terms.specs.Reading.{Reading, IndexReading}
 use Rattle.desk_model.specs.declared.entry.Entry.{Entry}
 use Rattle.desk_model.specs.declared.entry.Entry.TheVariants.{Gives, Needs, Refuses}
@@ -187,7 +187,7 @@ over_same m n o here near r = ap (λ (t : Option Terms). reading_over n o t r) h
 -- entries with one more in front
 pub needed_cons : (y : ℕ) (e : Entry) (entries : List Entry) → Among y (needed (e ∷ entries))
     → (e ≡ Needs y) ⊎ Among y (needed entries)
-needed_cons y (Gives i) entries among = inr among
+needed_cons y (Gives rate) entries among = inr among
 needed_cons y (Needs x) entries (inl same) = inl (ap Needs (sym same))
 needed_cons y (Needs x) entries (inr among) = inr among
 needed_cons y (Refuses cause) entries among = inr among
@@ -257,14 +257,12 @@ needed_comes read market o y (Some (Flows flows engine)) among = by_day (is_expi
 derived_no_need : (o : ℕ) (minus : Bool) (y : ℕ) (e f : Entry) → derived_entry o minus e f ≡ Needs y → ⊥
 derived_no_need o minus y (Refuses cause) f is = cc
 derived_no_need o minus y (Needs x) f is = cc
-derived_no_need o minus y (Gives i) (Refuses cause) is = cc
-derived_no_need o minus y (Gives i) (Needs x) is = cc
-derived_no_need o minus y (Gives (input.TheVariants.Money a)) (Gives i) is = cc
-derived_no_need o minus y (Gives (input.TheVariants.Rate a)) (Gives (input.TheVariants.Money b)) is = cc
-derived_no_need o minus y (Gives (input.TheVariants.Rate a)) (Gives (input.TheVariants.Rate b)) is = by_range _ _ is
+derived_no_need o minus y (Gives a) (Refuses cause) is = cc
+derived_no_need o minus y (Gives a) (Needs x) is = cc
+derived_no_need o minus y (Gives a) (Gives b) is = by_range _ _ is
   where
     by_range : (b : Bool) (rate : ℤ)
-        → (if b then Gives (input.TheVariants.Rate rate) else Refuses (TooLarge o)) ≡ Needs y → ⊥
+        → (if b then Gives rate else Refuses (TooLarge o)) ≡ Needs y → ⊥
     by_range true rate is = cc
     by_range false rate is = cc
 

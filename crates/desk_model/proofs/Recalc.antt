@@ -16,7 +16,8 @@ use Rattle.desk_model.specs.Fresh.{inputs_by, reading_over, priced, priced_by}
 use Rattle.desk_model.specs.State.{State, kept_at, unpriced, last_of, last_answer, is_frozen, is_source, is_late, seen, now}
 use Rattle.desk_model.specs.Told.{tell}
 use Rattle.desk_model.specs.Sound.{has_source, is_ready, IsSoundAt, AreSound, HasNoSourceWhereOff, IsSound, IsAsBefore}
-use Rattle.desk_model.specs.Links.{is_lazy_at, IsWhole, IsKinded}
+use Rattle.desk_model.specs.Laws.{AreValues}
+use Rattle.desk_model.specs.Links.{is_lazy_at, IsValued, IsWhole, IsKinded}
 use Rattle.desk_model.specs.Visit.{visit_by, stored}
 use Rattle.desk_model.specs.Effect.{sourced, notified_as, notified}
 use Rattle.desk_model.specs.Recalc.{inputs_walk, recalced_kept, recalced_bare, recalced}
@@ -49,7 +50,13 @@ cases_of : (r : Outcome) → ((v : Value) × (r ≡ Ok v)) ⊎ ((c : Cause) × (
 cases_of (Ok v) = inl (v, refl)
 cases_of (Err c) = inr (c, refl)
 
-module _ (calc : Calc) (s : State) (x : ℕ) (whole : IsWhole s) (kinds : IsKinded s.market) (lazy : is_lazy_at s.market x ≡ true) (fit : HoldsFit s) (sound : IsSound calc s) (early : is_late s x ≡ false) where
+abbrev as_outcome : Value → Outcome
+as_outcome v = Ok v
+
+some_is : (v w : Value) → Some v ≡ Some w → v ≡ w
+some_is v w e = cc
+
+module _ (calc : Calc) (s : State) (x : ℕ) (whole : IsWhole s) (kinds : IsKinded s.market) (lazy : is_lazy_at s.market x ≡ true) (fit : HoldsFit s) (sound : IsSound calc s) (early : is_late s x ≡ false) (values : AreValues s.market (seen calc s)) (own : (value : Value) → now calc s x ≡ Ok value → IsValued (terms_at s.market x) x value) where
   -- the inputs
   walk_on : WalksOn calc s [] (inputs_walk calc s x) (uses s.market x)
   unfolding inputs_walk
@@ -60,7 +67,7 @@ module _ (calc : Calc) (s : State) (x : ℕ) (whole : IsWhole s) (kinds : IsKind
   inputs_sound = current_stored calc s whole (inputs_walk calc s x).calls walk_on.closed fit sound.current
 
   inputs_whole : IsWhole (with_inputs calc s x)
-  inputs_whole = whole_stored calc s whole (inputs_walk calc s x).calls walk_on.closed fit sound.current (λ y has. inputs_lazy calc s (λ o y among. needs_lazy s.market kinds o y among) x y has)
+  inputs_whole = whole_stored calc s whole (inputs_walk calc s x).calls walk_on.closed fit sound.current (λ y has. inputs_lazy calc s (λ o y among. needs_lazy s.market kinds o y among) x y has) values
 
   -- where it is priced, no input refused
   no_refusal : (value : Value) → now calc s x ≡ Ok value → (inputs_walk calc s x).refusal ≡ None
@@ -99,7 +106,11 @@ module _ (calc : Calc) (s : State) (x : ℕ) (whole : IsWhole s) (kinds : IsKind
 
   bare_whole : IsWhole (with_itself calc s x)
   unfolding stored
-  bare_whole = whole_with x (recalced_kept (kept_at (with_inputs calc s x) x) (now calc s x)) (with_inputs calc s x) inputs_whole (λ e. lazy) (λ e. lazy) (λ e. lazy)
+  bare_whole = whole_with x (recalced_kept (kept_at (with_inputs calc s x) x) (now calc s x)) (with_inputs calc s x) inputs_whole (λ e. lazy) (λ e. lazy) (λ e. lazy) (λ value is. valued_then (now calc s x) refl value is)
+    where
+      valued_then : (r : Outcome) → now calc s x ≡ r → (value : Value) → (recalced_kept (kept_at (with_inputs calc s x) x) r).last ≡ Some value → IsValued (terms_at s.market x) x value
+      valued_then (Ok v) e value is = own value (e ∙ ap (λ (w : Value). as_outcome w) (some_is v value is))
+      valued_then (Err c) e value is = inputs_whole.valued x value is
 
   -- what is beneath x stays as it was with the inputs stored
   stays_beneath : (b : Bool) (y : ℕ) → Near s.market y x

@@ -76,6 +76,7 @@ module _ (s : State) (whole : IsWhole s) where
     lazy = whole.lazy;
     frozen = whole.frozen;
     forward = whole.forward;
+    valued = whole.valued;
     registered = each;
     noticed = λ w among. whole.noticed w (fewer w among);
   }

@@ -1,9 +1,10 @@
 -- A new session is whole, and sound for every bench.
-use Rattle.std.proofs.Common.{◌≡◌, ℕ, zero, suc, Bool, true, false, Option, None, ℤ, refl, sym, ◌∙◌, ap, subst}
+use Rattle.std.proofs.Common.{◌≡◌, ℕ, zero, suc, Bool, true, false, Option, Some, None, ℤ, refl, sym, ◌∙◌, ap, subst}
 use Rattle.std.proofs.lemmas.Bool.{false≢true}
 use Rattle.walks.specs.Walk.{Among}
 use Rattle.desk_terms.specs.declared.terms.Terms.{Terms}
 use Rattle.desk_terms.specs.Reading.{Calc}
+use Rattle.desk_terms.specs.declared.value.Value.{Value}
 use Rattle.desk_model.specs.declared.kept.Kept.{Kept}
 use Rattle.desk_model.specs.Market.{terms_at, edges_of, edges}
 use Rattle.desk_model.specs.State.{kept_at, unpriced, is_source}
@@ -26,6 +27,12 @@ flag_off : {P : Type 0} (flag : Kept → Bool) (today : ℤ) (o : ℕ) → flag 
     → flag (kept_at (start today) o) ≡ true → P
 flag_off flag today o off is = absurd (false≢true (sym off ∙ (ap flag (sym (start_kept today o)) ∙ is)))
 
+no_last : {P : Type 0} (today : ℤ) (o : ℕ) (value : Value) → (kept_at (start today) o).last ≡ Some value → P
+no_last today o value is = absurd (none_some (sym (ap (λ (k : Kept). k.last) (start_kept today o)) ∙ is))
+  where
+    none_some : None ≡ Some value → ⊥
+    none_some e = cc
+
 pub whole_start : (today : ℤ) → IsWhole (start today)
 whole_start today = record {
   length = refl;
@@ -38,6 +45,7 @@ whole_start today = record {
   lazy = λ o is. flag_off (λ k. k.current) today o refl is;
   frozen = λ o is. flag_off (λ k. k.frozen) today o refl is;
   forward = λ o is. flag_off (λ k. k.forward) today o refl is;
+  valued = λ o value is. no_last today o value is;
   registered = λ w o among. absurd among;
   noticed = λ w among. absurd among;
 }

@@ -88,7 +88,7 @@ module _ (calc : Calc) (s : State) (n : ℕ) where
       → ((value : Value) → (visit_by calc s n calls y).outcome ≡ Ok value → ((x : ℕ) → is_idle s calls x ≡ true → is_idle s (visit_by calc s n calls y).calls x ≡ true) × (is_idle s (visit_by calc s n calls y).calls y ≡ true) × (seen calc s y ≡ Ok value))
       → settle_all (visit_by calc s n) calls entries ≡ after_visit (visit_by calc s n calls y).calls (visit_by calc s n calls y).outcome (λ later. settle_all (visit_by calc s n) later entries)
   walk_first calls answer y [] answers is after = absurd (cc)
-  walk_first calls answer y (Gives i ∷ entries) answers is after = walk_first calls answer y entries answers (first_of i y (next_of (is_idle s calls) answer entries) is) after
+  walk_first calls answer y (Gives i ∷ entries) answers is after = walk_first calls answer y entries answers (first_of (input.TheVariants.Rate i) y (next_of (is_idle s calls) answer entries) is) after
   walk_first calls answer y (Refuses cause ∷ entries) answers is after = absurd (cc)
   walk_first calls answer y (Needs x ∷ entries) answers is after = by_idle (is_idle s calls x) refl is (λ next. walk_first calls answer y entries (λ z among. answers z (inr among)) next after)
     where
@@ -131,9 +131,9 @@ module _ (calc : Calc) (s : State) (n : ℕ) where
       none_is : Ready [] ≡ Ready inputs → [] ≡ inputs
       none_is e = cc
   walk_ready calls answer inputs (Gives i ∷ entries) answers is =
-      let r = ready_of i (next_of (is_idle s calls) answer entries) inputs is in
+      let r = ready_of (input.TheVariants.Rate i) (next_of (is_idle s calls) answer entries) inputs is in
       let w = walk_ready calls answer r.0 entries answers r.1 in
-      (w.0, ap (and_inputs i) w.1 ∙ ap Ok (sym r.2))
+      (w.0, ap (and_inputs (input.TheVariants.Rate i)) w.1 ∙ ap Ok (sym r.2))
   walk_ready calls answer inputs (Refuses cause ∷ entries) answers is = absurd (cc)
   walk_ready calls answer inputs (Needs x ∷ entries) answers is = by_idle (is_idle s calls x) refl is (λ rest next. walk_ready calls answer rest entries (λ z among. answers z (inr among)) next)
     where
@@ -170,7 +170,7 @@ module _ (calc : Calc) (s : State) (n : ℕ) where
       → Answers calls answer entries → next_of (is_idle s calls) answer entries ≡ Stops cause
       → settle_all (visit_by calc s n) calls entries ≡ record { calls = calls; refusal = Some cause }
   walk_stops calls answer cause [] answers is = absurd (cc)
-  walk_stops calls answer cause (Gives i ∷ entries) answers is = walk_stops calls answer cause entries answers (stops_of i (next_of (is_idle s calls) answer entries) cause is)
+  walk_stops calls answer cause (Gives i ∷ entries) answers is = walk_stops calls answer cause entries answers (stops_of (input.TheVariants.Rate i) (next_of (is_idle s calls) answer entries) cause is)
   walk_stops calls answer cause (Refuses c ∷ entries) answers is = ap (λ (k : Cause). record { calls = calls; refusal = Some k }) (cause_is is)
     where
       cause_is : Stops c ≡ Stops cause → c ≡ cause
@@ -193,7 +193,7 @@ module _ (calc : Calc) (s : State) (n : ℕ) where
   pub first_busy : (calls : List (ℕ × Outcome)) (answer : ℕ → Outcome) (y : ℕ) (entries : List Entry)
       → next_of (is_idle s calls) answer entries ≡ First y → (is_idle s calls y ≡ false) × Among y (needed entries)
   first_busy calls answer y [] is = absurd (cc)
-  first_busy calls answer y (Gives i ∷ entries) is = first_busy calls answer y entries (first_of i y (next_of (is_idle s calls) answer entries) is)
+  first_busy calls answer y (Gives i ∷ entries) is = first_busy calls answer y entries (first_of (input.TheVariants.Rate i) y (next_of (is_idle s calls) answer entries) is)
   first_busy calls answer y (Refuses c ∷ entries) is = absurd (cc)
   first_busy calls answer y (Needs x ∷ entries) is = by_idle (is_idle s calls x) refl is (λ next. first_busy calls answer y entries next)
     where

@@ -1,5 +1,5 @@
 -- A notice from x is a change at x: what x is near to is told, through forwarders and current objects.
-use Rattle.std.proofs.Common.{◌≡◌, ◌≢◌, inl, inr, ℕ, suc, ◌+◌, ◌<◌, ◌≤◌, Bool, true, false, List, [], ◌∷◌, length, Option, refl, sym, ◌∙◌, ap, subst, arith}
+use Rattle.std.proofs.Common.{◌≡◌, ◌≢◌, inl, inr, ℕ, suc, ◌+◌, ◌<◌, ◌≤◌, Bool, true, false, List, [], ◌∷◌, length, Option, Some, refl, sym, ◌∙◌, ap, subst, arith}
 use Rattle.std.specs.Prelude.{◌==◌, ◌||◌, ◌&&◌, not, if◌then◌else◌, slice_index_or, slice_set}
 use Rattle.std.proofs.lemmas.Bool.{cases_eq, cases_lt, cases_Bool, eqb-true, false≢true, or_left, or_right, and_from, false_from_ne_true}
 use Rattle.std.specs.List.{list_any}
@@ -7,13 +7,14 @@ use Rattle.walks.specs.Walk.{Among, Below}
 use Rattle.walks.proofs.Walks.{only_below}
 use Rattle.walks.proofs.Ranks.{below_wider, below_true, below_falls, meets_on, meets_edge, meets_not_itself}
 use Rattle.desk_terms.specs.declared.terms.Terms.{Terms}
+use Rattle.desk_terms.specs.declared.value.Value.{Value}
 use Rattle.desk_model.specs.declared.kept.Kept.{Kept}
 use Rattle.desk_model.specs.Market.{Market, slot_at, is_watcher, terms_at, IsSame, role_of, is_forwarding, is_lazy, edges, is_forwarder}
 use Rattle.desk_terms.specs.Kind.{Role}
 use Rattle.desk_terms.specs.Kind.Role.{Source, Forwarder, Lazy, Watching}
 use Rattle.desk_model.specs.State.{State, kept_at, unpriced, is_frozen, is_source}
 use Rattle.desk_model.specs.Told.{forwards_as, forwards, told, unsettled, watchers_where, tell}
-use Rattle.desk_model.specs.Links.{is_lazy_at, IsLinked, IsWhole}
+use Rattle.desk_model.specs.Links.{is_lazy_at, IsLinked, IsValued, IsWhole}
 use Rattle.desk_model.proofs.Stores.{told_kept, told_length, unsettled_last, still_current, unsettled_current, unsettled_stale, kept_with}
 use Rattle.desk_model.proofs.Locality.{Near}
 use Rattle.desk_model.proofs.Bounds.{ranks_of}
@@ -258,38 +259,40 @@ whole_told from u whole = record {
   lazy = λ o current. whole.lazy o (still_current _ (kept_at u o) (sym (ap (λ (k : Kept). k.current) (told_kept from u o)) ∙ current)).1;
   frozen = λ o is. whole.frozen o (sym (ap (λ (k : Kept). k.frozen) (told_kept from u o) ∙ (unsettled_flags (told u from o) (kept_at u o)).0) ∙ is);
   forward = λ o is. whole.forward o (sym (ap (λ (k : Kept). k.forward) (told_kept from u o) ∙ unsettled_forward (told u from o) (kept_at u o)) ∙ is);
+  valued = λ o value is. whole.valued o value (sym (ap (λ (k : Kept). k.last) (told_kept from u o) ∙ unsettled_last (told u from o) (kept_at u o)) ∙ is);
   registered = whole.registered;
   noticed = told_watcher from u;
 }
 
--- other flags of one object, as long as they are set of lazy objects alone
+-- other flags of one object, as long as they are set of lazy objects alone and a value is one that it may have
 pub whole_with : (x : ℕ) (k : Kept) (u : State) → IsWhole u → (k.current ≡ true → is_lazy_at u.market x ≡ true)
     → (k.frozen ≡ true → is_lazy_at u.market x ≡ true) → (k.forward ≡ true → is_lazy_at u.market x ≡ true)
+    → ((value : Value) → k.last ≡ Some value → IsValued (terms_at u.market x) x value)
     → IsWhole (with_kept x k u)
-whole_with x k u whole current frozen forward = record {
+whole_with x k u whole current frozen forward valued = record {
   length = length-set u.kept x k ∙ whole.length;
   today = whole.today;
   links = whole.links;
-  lazy = λ o is. kept_is x k u (λ (j : Kept). j.current ≡ true) o is (λ is. current is) (λ is. whole.lazy o is);
-  frozen = λ o is. kept_is x k u (λ (j : Kept). j.frozen ≡ true) o is (λ is. frozen is) (λ is. whole.frozen o is);
-  forward = λ o is. kept_is x k u (λ (j : Kept). j.forward ≡ true) o is (λ is. forward is) (λ is. whole.forward o is);
+  lazy = λ o is. kept_is x k u (λ (z : ℕ). is_lazy_at u.market z ≡ true) (λ (j : Kept). j.current ≡ true) o is (λ is. current is) (λ is. whole.lazy o is);
+  frozen = λ o is. kept_is x k u (λ (z : ℕ). is_lazy_at u.market z ≡ true) (λ (j : Kept). j.frozen ≡ true) o is (λ is. frozen is) (λ is. whole.frozen o is);
+  forward = λ o is. kept_is x k u (λ (z : ℕ). is_lazy_at u.market z ≡ true) (λ (j : Kept). j.forward ≡ true) o is (λ is. forward is) (λ is. whole.forward o is);
+  valued = λ o value is. kept_is x k u (λ (z : ℕ). IsValued (terms_at u.market z) z value) (λ (j : Kept). j.last ≡ Some value) o is (λ is. valued value is) (λ is. whole.valued o value is);
   registered = whole.registered;
   noticed = whole.noticed;
 }
   where
-    kept_is : (x : ℕ) (k : Kept) (u : State) (P : Kept → Type 0) (o : ℕ) → P (kept_at (with_kept x k u) o)
-        → (P k → is_lazy_at u.market x ≡ true) → (P (kept_at u o) → is_lazy_at u.market o ≡ true)
-        → is_lazy_at u.market o ≡ true
-    kept_is x k u P o is new old = elim (cases_eq o x) [
+    kept_is : (x : ℕ) (k : Kept) (u : State) (Q : ℕ → Type 0) (P : Kept → Type 0) (o : ℕ)
+        → P (kept_at (with_kept x k u) o) → (P k → Q x) → (P (kept_at u o) → Q o) → Q o
+    kept_is x k u Q P o is new old = elim (cases_eq o x) [
       | inr other ↦ old (subst P (get_or-set_other u.kept x o k unpriced other) is)
       | inl same ↦ elim (cases_lt x (length u.kept)) [
-        | inl within ↦ subst (λ (z : ℕ). is_lazy_at u.market z ≡ true) (sym same) (new (subst P (ap (kept_at (with_kept x k u)) same ∙ get_or-set_same u.kept x k unpriced within) is))
+        | inl within ↦ subst Q (sym same) (new (subst P (ap (kept_at (with_kept x k u)) same ∙ get_or-set_same u.kept x k unpriced within) is))
         | inr past ↦ old (subst P (ap (kept_at (with_kept x k u)) same ∙ (get_or_past (slice_set u.kept x k) x unpriced (let e = length-set u.kept x k in omega arith) ∙ sym (ap (kept_at u) same ∙ get_or_past u.kept x unpriced past))) is)
       ]
     ]
 
 pub whole_sourced : (x : ℕ) (u : State) → IsWhole u → IsWhole (sourced x u)
-whole_sourced x u whole = whole_with x (record (kept_at u x) { source = true }) u whole (whole.lazy x) (whole.frozen x) (whole.forward x)
+whole_sourced x u whole = whole_with x (record (kept_at u x) { source = true }) u whole (whole.lazy x) (whole.frozen x) (whole.forward x) (whole.valued x)
 
 pub whole_notified : (x : ℕ) (u : State) → IsWhole u → (b : Bool) → IsWhole (notified_as b x u)
 whole_notified x u whole true = whole_sourced x u whole

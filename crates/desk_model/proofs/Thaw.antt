@@ -38,7 +38,7 @@ module _ (s : State) (x : ℕ) (whole : IsWhole s) (lazy : is_lazy_at s.market x
   }
 
   whole_unfrozen : IsWhole (unfrozen x s)
-  whole_unfrozen = whole_with x (record (kept_at s x) { frozen = false }) s whole (λ e. lazy) (λ e. lazy) (λ e. lazy)
+  whole_unfrozen = whole_with x (record (kept_at s x) { frozen = false }) s whole (λ e. lazy) (λ e. lazy) (λ e. lazy) (whole.valued x)
 
   long : x < length (unfrozen x s).kept
   long = let e = length-set s.kept x (record (kept_at s x) { frozen = false }) in let w = within_thaw in omega arith

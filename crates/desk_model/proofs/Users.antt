@@ -8,7 +8,7 @@ use Rattle.walks.specs.Walk.{Among}
 use Rattle.walks.proofs.Walks.{member_any}
 use Rattle.desk_model.specs.declared.slot.Slot.{Slot}
 use Rattle.desk_model.specs.declared.slot.Slot.TheVariants.{Free}
-use Rattle.desk_model.specs.Market.{Market, slot_at, terms_in, edges_of, edges, or_number, least_where, least_user}
+use Rattle.desk_model.specs.Market.{Market, terms_in, edges_of, edges, or_number, least_where, least_user}
 use Rattle.desk_model.proofs.Paths.{least_none}
 
 -- the first that passes is the least

@@ -40,7 +40,7 @@ module _ (visit : List (ℕ × Outcome) → ℕ → Visit) (f : ℕ → Outcome)
   pub walk_refusal : (calls : List (ℕ × Outcome)) (entries : List Entry)
       → (settle_all visit calls entries).refusal ≡ refusal_of (inputs_by f entries)
   walk_refusal calls [] = refl
-  walk_refusal calls (Gives i ∷ entries) = walk_refusal calls entries ∙ sym (refusal_and i (inputs_by f entries))
+  walk_refusal calls (Gives i ∷ entries) = walk_refusal calls entries ∙ sym (refusal_and (input.TheVariants.Rate i) (inputs_by f entries))
   walk_refusal calls (Needs x ∷ entries) =
       ap (λ (r : Outcome). (after_visit (visit calls x).calls r (λ later. settle_all visit later entries)).refusal) (ends calls x)
       ∙ by_outcome (f x) (visit calls x).calls (walk_refusal (visit calls x).calls entries)

@@ -4,7 +4,7 @@ use Rattle.std.specs.Option.{option_eq}
 use Rattle.std.specs.Ordering.{int_eq}
 use Rattle.desk_terms.specs.declared.terms.Terms.{Terms}
 use Rattle.desk_terms.specs.declared.terms.Terms.TheVariants.{Quote, Handle, Index, Composite, Flows}
-use Rattle.desk_terms.specs.declared.terms.Fixing.{Fixing}
+use Rattle.flow_terms.specs.Fixings.{with_fixing}
 use Rattle.desk_model.specs.declared.kept.Kept.{Kept}
 use Rattle.desk_model.specs.declared.slot.Slot.{Slot}
 use Rattle.desk_model.specs.declared.slot.Slot.TheVariants.{Free, Today, Watcher, Live}
@@ -121,16 +121,16 @@ unfoldable pub member_set : ℕ → ℕ → ℤ → State → State
 member_set k member weight state = weight_set (changeable (terms_at state.market k)) k member weight state
 
 -- a rate is stored for a day on which an index has none (QuantLib's `Index::addFixing`)
-abbrev pub fixing_stored : Changeable → ℕ → Fixing → State → State
-fixing_stored (HasValue held) x fixing state = state
-fixing_stored (HasTarget kind held) x fixing state = state
-fixing_stored (HasFixings terms fixings) x fixing state = revised x (Index terms (fixings ++ fixing ∷ [])) state
-fixing_stored (HasParts parts) x fixing state = state
-fixing_stored (HasEngine flows held) x fixing state = state
-fixing_stored HasNone x fixing state = state
+abbrev pub fixing_stored : Changeable → ℕ → ℤ → ℤ → State → State
+fixing_stored (HasValue held) x day rate state = state
+fixing_stored (HasTarget kind held) x day rate state = state
+fixing_stored (HasFixings terms fixings) x day rate state = revised x (Index terms (with_fixing fixings day rate)) state
+fixing_stored (HasParts parts) x day rate state = state
+fixing_stored (HasEngine flows held) x day rate state = state
+fixing_stored HasNone x day rate state = state
 
-unfoldable pub fixing_added : ℕ → Fixing → State → State
-fixing_added x fixing state = fixing_stored (changeable (terms_at state.market x)) x fixing state
+unfoldable pub fixing_added : ℕ → ℤ → ℤ → State → State
+fixing_added x day rate state = fixing_stored (changeable (terms_at state.market x)) x day rate state
 
 -- another evaluation date: nothing where it is the one held
 abbrev pub with_today : ℤ → State → State

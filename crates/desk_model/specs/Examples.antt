@@ -5,7 +5,14 @@ use Rattle.desk_terms.specs.declared.terms.Terms.{Terms}
 use Rattle.desk_terms.specs.declared.terms.Terms.TheVariants.{Quote, Derived, Handle, Curve, Implied, Index, Engine, Stock, Composite, Flows}
 use Rattle.desk_terms.specs.declared.terms.Part.{Part}
 use Rattle.desk_terms.specs.declared.terms.HandleKind as handle
-use Rattle.desk_terms.specs.declared.flow.FlowTerm.TheVariants.{Known}
+use Rattle.curve_terms.specs.declared.terms.Helper.{Helper}
+use Rattle.curve_terms.specs.declared.terms.CurveTerms.{CurveTerms}
+use Rattle.holiday_calendars.specs.declared.bases.Base.TheVariants.{Null}
+use Rattle.holiday_calendars.specs.declared.calendars.Calendar.TheVariants.{One}
+use Rattle.day_number.specs.declared.tenors.Unit.TheVariants.{Days}
+use Rattle.day_number.specs.declared.conventions.Convention.TheVariants.{Following}
+use Rattle.year_parts.specs.declared.counters.Counter.TheVariants.{Act360}
+use Rattle.flow_terms.specs.declared.flows.FlowTerm.TheVariants.{Known}
 use Rattle.desk_terms.specs.declared.asked.Mark.{Mark}
 use Rattle.desk_terms.specs.declared.asked.Mark.TheVariants.{Fresh, Frozen}
 use Rattle.desk_terms.specs.declared.value.Value.TheVariants.{Money}
@@ -25,11 +32,13 @@ weighted [] inputs = pos 0
 weighted (part ∷ parts) [] = pos 0
 weighted (part ∷ parts) (input.TheVariants.Money amount ∷ inputs) = part.weight *ℤ amount +ℤ weighted parts inputs
 weighted (part ∷ parts) (input.TheVariants.Rate rate ∷ inputs) = pos 0
+weighted (part ∷ parts) (input.TheVariants.Curve curve ∷ inputs) = pos 0
 
 abbrev pub first_of : List input.Input → ℤ
 first_of [] = pos 0
 first_of (input.TheVariants.Rate rate ∷ inputs) = rate
 first_of (input.TheVariants.Money amount ∷ inputs) = amount
+first_of (input.TheVariants.Curve curve ∷ inputs) = pos 0
 
 abbrev pub plain_price : ℕ → Terms → List input.Input → Outcome
 plain_price o (Quote value) inputs = Err (TooLarge o)
@@ -141,11 +150,18 @@ pub record AreShared : Type 0 where
   pub too_large : line plain 4 (diamond (Some (neg_ℤ (pos (10 ^ 18))))) ≡ record { answer = Err (TooLarge 3); mark = Fresh; number = 0 }
   pub through_the_difference : log_of (runs plain (quote_set 2 (Some (pos 500)) (ask 7 (diamond (Some (pos 400))))) 7) ≡ (4, true) ∷ (6, true) ∷ (7, true) ∷ []
 
+-- a deposit of 30 days on the quote 1, and a curve over helpers
+abbrev pub deposit : Helper
+deposit = record { quote = 1; tenor = record { count = pos 30; unit = Days }; every = None; conv = Following; eom = false; counter = Act360 }
+
+abbrev pub curve_of : List Helper → CurveTerms
+curve_of helpers = record { cal = One Null; settlement = 0; helpers = helpers }
+
 -- A quote, 1, a curve with two helpers on it, 2, an engine on the curve, 3, and a bond that is paid on day 100, 4.
 abbrev pub bond : State
 bond =
     made (Flows (record { flows = Known (pos 100) (pos 7) ∷ []; index = None }) (Some 3))
-    (made (Engine 2) (made (Curve (record { helpers = record { quote = 1 } ∷ record { quote = 1 } ∷ [] })) (quote (pos 9) day_0)))
+    (made (Engine 2) (made (Curve (curve_of (deposit ∷ deposit ∷ []))) (quote (pos 9) day_0)))
 
 abbrev pub without_engine : State
 without_engine = engine_set 4 None (ask 4 bond)

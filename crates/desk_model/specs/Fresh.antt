@@ -2,7 +2,7 @@
 use Rattle.std.specs.Prelude.{ℕ, zero, suc, List, [], ◌∷◌, length, Option, Some, None, Result, Ok, Err}
 use Rattle.desk_terms.specs.declared.terms.Terms.{Terms}
 use Rattle.desk_terms.specs.declared.value.Value.{Value}
-use Rattle.desk_terms.specs.declared.value.Value.TheVariants.{Money}
+use Rattle.desk_terms.specs.declared.value.Value.TheVariants.{Money, Curve}
 use Rattle.desk_terms.specs.declared.value.Input as input
 use Rattle.desk_terms.specs.declared.cause.Cause.{Cause}
 use Rattle.desk_terms.specs.declared.cause.Cause.TheVariants.{Unset}
@@ -15,6 +15,7 @@ use Rattle.desk_model.specs.Uses.{uses, reading_at}
 -- a value as the input of another price
 abbrev pub input_of : Value → input.Input
 input_of (Money amount) = input.TheVariants.Money amount
+input_of (Curve curve) = input.TheVariants.Curve curve
 
 -- an input before those that follow it; a refusal among them is the answer
 abbrev pub and_inputs : input.Input → Result (List input.Input) Cause → Result (List input.Input) Cause
@@ -28,7 +29,7 @@ and_value (Err cause) inputs = Err cause
 -- the inputs that the entries give, `answer` being that of the objects needed; the first refusal in order wins
 abbrev pub inputs_by : (ℕ → Outcome) → List Entry → Result (List input.Input) Cause
 inputs_by answer [] = Ok []
-inputs_by answer (Gives i ∷ entries) = and_inputs i (inputs_by answer entries)
+inputs_by answer (Gives rate ∷ entries) = and_inputs (input.TheVariants.Rate rate) (inputs_by answer entries)
 inputs_by answer (Needs x ∷ entries) = and_value (answer x) (inputs_by answer entries)
 inputs_by answer (Refuses cause ∷ entries) = Err cause
 

@@ -6,16 +6,16 @@ use Rattle.desk_terms.specs.declared.terms.Terms.{Terms}
 use Rattle.desk_terms.specs.declared.terms.Terms.TheVariants.{Quote, Derived, Handle, Curve, Implied, Index, Engine, Stock, Composite, Flows}
 use Rattle.desk_terms.specs.declared.terms.HandleKind.{HandleKind}
 use Rattle.desk_terms.specs.declared.terms.Part.{Part}
-use Rattle.desk_terms.specs.declared.terms.IndexTerms.{IndexTerms}
-use Rattle.desk_terms.specs.declared.terms.Fixing.{Fixing}
-use Rattle.desk_terms.specs.declared.flow.FlowTerms.{FlowTerms}
+use Rattle.flow_terms.specs.declared.indexes.IndexTerms.{IndexTerms}
+use Rattle.flow_terms.specs.Fixings.{Stored}
+use Rattle.flow_terms.specs.declared.flows.FlowTerms.{FlowTerms}
 
 -- What a command may change of an object: a quote's value, a handle's target, an index's fixings, a composite's parts,
 -- an instrument's engine.
 pub data Changeable : Type 0 where
   HasValue : Option ℤ → Changeable
   HasTarget : HandleKind → Option ℕ → Changeable
-  HasFixings : IndexTerms → List Fixing → Changeable
+  HasFixings : IndexTerms → Stored → Changeable
   HasParts : List Part → Changeable
   HasEngine : FlowTerms → Option ℕ → Changeable
   HasNone : Changeable

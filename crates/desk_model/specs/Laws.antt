@@ -5,11 +5,10 @@ use Rattle.walks.specs.Walk.{below_by, Below, Among}
 use Rattle.desk_terms.specs.declared.terms.Terms.{Terms}
 use Rattle.desk_terms.specs.declared.terms.Terms.TheVariants.{Handle}
 use Rattle.desk_terms.specs.declared.terms.HandleKind.{HandleKind}
-use Rattle.desk_terms.specs.declared.terms.Fixing.{Fixing}
 use Rattle.desk_terms.specs.declared.kind.Wanted as wanted
 use Rattle.desk_terms.specs.declared.value.Value.{Value}
 use Rattle.desk_terms.specs.declared.value.Input as input
-use Rattle.desk_terms.specs.Reading.{Outcome, Calc, IsWellFormed}
+use Rattle.desk_terms.specs.Reading.{Outcome, Calc, IsWellFormed, IsFitting}
 use Rattle.desk_terms.specs.Terms.{kind_of, optional_reference}
 use Rattle.desk_model.specs.declared.slot.Slot.{Slot}
 use Rattle.desk_model.specs.Market.{Market, IsSame, slot_at, terms_in, terms_at, kind_at, is_observable, is_forwarder, edges_of, edges}
@@ -17,7 +16,7 @@ use Rattle.desk_model.specs.Uses.{input_by, input_at, uses, needs, reading_at}
 use Rattle.desk_model.specs.Fresh.{inputs_by, priced_by, answer_by, fresh}
 use Rattle.desk_model.specs.State.{State, kept_at, last_answer, is_frozen, is_source, is_late, is_held_back, is_clear, least_source, held, seen, now, shows}
 use Rattle.desk_model.specs.Told.{subjects, forwards, told}
-use Rattle.desk_model.specs.Links.{is_lazy_at, IsLinked, IsRegistration, IsWhole, reaches, MayStand, serves_as, Serve, AreOfKind, IsKinded}
+use Rattle.desk_model.specs.Links.{is_lazy_at, IsLinked, IsRegistration, IsWhole, reaches, MayStand, serves_as, Serve, AreOfKind, IsKinded, IsValued, IsRanged, AreRanged}
 use Rattle.desk_model.specs.Sound.{has_source, IsSound, KeepsCurrent}
 use Rattle.desk_model.specs.Visit.{visit_by, runs, asked}
 use Rattle.desk_model.specs.Effect.{start, made, watching, revised, quote_set, relinked, engine_set, member_set, fixing_added, today_set, dropped, registered_with, unregistered, handed_out, frozen_set, forward_set, thawed, deferred, resumed}
@@ -70,15 +69,26 @@ abbrev pub UsesAreLocal : Type 0
 UsesAreLocal = (m n : Market) → IsLinked m → length m.objects ≤ length n.objects → (o : ℕ) → IsSame m n o
     → ((x : ℕ) → Below (edges m) (λ y. y == x) (is_forwarder m) o → IsSame m n x) → IsLocal m n o
 
+-- each value that an object that is priced answers is one that it may have
+abbrev pub AreValues : Market → (ℕ → Outcome) → Type 0
+AreValues market answer = (o : ℕ) (value : Value) → is_lazy_at market o ≡ true → answer o ≡ Ok value
+    → IsValued (terms_at market o) o value
+
 -- THE INPUTS of a price are those that its terms ask for, and what it needs is priced by the bench.
 abbrev pub ReadingsAreWellFormed : Type 0
 ReadingsAreWellFormed = (market : Market) → IsKinded market
-    → (answer : ℕ → Outcome) (o : ℕ) (terms : Terms) (inputs : List input.Input) → terms_at market o ≡ Some terms
-    → is_lazy_at market o ≡ true
+    → (answer : ℕ → Outcome) → AreValues market answer
+    → (o : ℕ) (terms : Terms) (inputs : List input.Input) → terms_at market o ≡ Some terms
+    → is_lazy_at market o ≡ true → IsRanged (Some terms)
     → inputs_by answer (uses market o) ≡ Ok inputs → IsWellFormed (reading_at market o terms inputs)
 
 abbrev pub NeedsAreLazy : Type 0
 NeedsAreLazy = (market : Market) → IsKinded market → (o x : ℕ) → Among x (needs market o) → is_lazy_at market x ≡ true
+
+-- A BENCH THAT FITS shows of each object a value that it may have.
+abbrev pub SeenIsValued : Type 0
+SeenIsValued = (calc : Calc) → IsFitting calc → (state : State) → IsWhole state → IsKinded state.market
+    → AreRanged state.market → AreValues state.market (seen calc state)
 
 -- A CHANGE keeps the shape of a state, and, over data alone, all that is current.
 pub record Keeps (s t : State) : Type 0 where
@@ -109,7 +119,7 @@ pub record CommandsKeep (s : State) : Type 0 where
   pub engine : (i : ℕ) (engine : Option ℕ) → MayLink s.market i engine → Keeps s (engine_set i engine s)
   pub member : (k member : ℕ) (weight : ℤ) → (int_eq weight (pos 0) ≡ false → MayLink s.market k (Some member))
       → Keeps s (member_set k member weight s)
-  pub fixing : (x : ℕ) (fixing : Fixing) → Keeps s (fixing_added x fixing s)
+  pub fixing : (x : ℕ) (day rate : ℤ) → Keeps s (fixing_added x day rate s)
   pub today : (day : ℤ) → Keeps s (today_set day s)
   pub make : (terms : Terms) → AreOfKind s.market (Some terms) → Keeps s (made terms s)
   pub watch : (action : ℕ) → Keeps s (watching action s)
@@ -138,7 +148,7 @@ pub record CommandsKeepKinds (s : State) : Type 0 where
   pub member : (k member : ℕ) (weight : ℤ)
       → (int_eq weight (pos 0) ≡ false → serves_as (kind_at s.market member) wanted.TheVariants.Member ≡ true)
       → IsKinded (member_set k member weight s).market
-  pub fixing : (x : ℕ) (fixing : Fixing) → IsKinded (fixing_added x fixing s).market
+  pub fixing : (x : ℕ) (day rate : ℤ) → IsKinded (fixing_added x day rate s).market
   pub today : (day : ℤ) → IsKinded (today_set day s).market
   pub make : (terms : Terms) → AreOfKind s.market (Some terms) → IsKinded (made terms s).market
   pub watch : (action : ℕ) → IsKinded (watching action s).market
@@ -147,17 +157,19 @@ pub record CommandsKeepKinds (s : State) : Type 0 where
 abbrev pub ChangesKeepKinds : Type 0
 ChangesKeepKinds = (s : State) → IsWhole s → IsKinded s.market → CommandsKeepKinds s
 
--- A BENCH THAT IS ASKED leaves a state whole, and sound for its calc.
+-- A BENCH THAT IS ASKED, and whose prices fit, leaves a state whole, and sound for its calc.
 pub record IsKept (calc : Calc) (t : State) : Type 0 where
   pub whole : IsWhole t
   pub sound : IsSound calc t
 
 abbrev pub AsksKeep : Type 0
-AsksKeep = (calc : Calc) (s : State) (o : ℕ) → IsWhole s → IsKinded s.market → is_lazy_at s.market o ≡ true
+AsksKeep = (calc : Calc) → IsFitting calc → (s : State) (o : ℕ) → IsWhole s → IsKinded s.market → AreRanged s.market
+    → is_lazy_at s.market o ≡ true
     → IsSound calc s → IsKept calc (asked calc o s)
 
 abbrev pub RecalcsKeep : Type 0
-RecalcsKeep = (calc : Calc) (s : State) (o : ℕ) → IsWhole s → IsKinded s.market → is_lazy_at s.market o ≡ true
+RecalcsKeep = (calc : Calc) → IsFitting calc → (s : State) (o : ℕ) → IsWhole s → IsKinded s.market
+    → AreRanged s.market → is_lazy_at s.market o ≡ true
     → is_late s o ≡ false → IsSound calc s → IsKept calc (recalced calc o s)
 
 -- a new session is whole, and sound for every bench

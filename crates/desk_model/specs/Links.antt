@@ -6,7 +6,9 @@ use Rattle.desk_terms.specs.declared.kind.Kind.{Kind}
 use Rattle.desk_terms.specs.declared.reference.Reference.{Reference}
 use Rattle.desk_terms.specs.declared.kind.Wanted.{Wanted}
 use Rattle.desk_terms.specs.Kind.{serves}
-use Rattle.desk_terms.specs.Terms.{inputs_of}
+use Rattle.desk_terms.specs.declared.value.Value.{Value}
+use Rattle.desk_terms.specs.Terms.{kind_of, inputs_of}
+use Rattle.desk_terms.specs.Reading.{AreInRange, IsValueOf}
 use Rattle.desk_model.specs.declared.slot.Slot.TheVariants.{Today}
 use Rattle.desk_model.specs.Market.{Market, slot_at, terms_at, kind_at, is_observable, is_watcher, edges_of, edges, is_lazy, role_of}
 use Rattle.desk_model.specs.State.{State, kept_at}
@@ -27,8 +29,13 @@ pub record IsRegistration (market : Market) (w o : ℕ) : Type 0 where
   pub watcher : is_watcher (slot_at market w) ≡ true
   pub observed : is_observable (slot_at market o) ≡ true
 
--- THE SHAPE OF A STATE: object 0 is `today`, edges lead downwards, only lazy objects have flags, and watchers watch
--- live objects.
+-- what an object with these terms may be worth
+abbrev pub IsValued : Option Terms → ℕ → Value → Type 0
+IsValued None o value = ⊥
+IsValued (Some terms) o value = IsValueOf (kind_of terms) o value
+
+-- THE SHAPE OF A STATE: object 0 is `today`, edges lead downwards, only lazy objects have flags, a last value is one
+-- that its object may have, and watchers watch live objects.
 pub record IsWhole (state : State) : Type 0 where
   pub length : length state.kept ≡ length state.market.objects
   pub today : slot_at state.market 0 ≡ Today
@@ -36,6 +43,7 @@ pub record IsWhole (state : State) : Type 0 where
   pub lazy : (o : ℕ) → (kept_at state o).current ≡ true → is_lazy_at state.market o ≡ true
   pub frozen : (o : ℕ) → (kept_at state o).frozen ≡ true → is_lazy_at state.market o ≡ true
   pub forward : (o : ℕ) → (kept_at state o).forward ≡ true → is_lazy_at state.market o ≡ true
+  pub valued : (o : ℕ) (value : Value) → (kept_at state o).last ≡ Some value → IsValued (terms_at state.market o) o value
   pub registered : (w o : ℕ) → Among o (registered state.registrations w) → IsRegistration state.market w o
   pub noticed : (w : ℕ) → Among w state.noticed → is_watcher (slot_at state.market w) ≡ true
 
@@ -68,3 +76,11 @@ AreOfKind market (Some terms) = Serve market (inputs_of terms)
 -- each object names others of the right kinds
 abbrev pub IsKinded : Market → Type 0
 IsKinded market = (o : ℕ) → AreOfKind market (terms_at market o)
+
+-- the terms of each object are in range
+abbrev pub IsRanged : Option Terms → Type 0
+IsRanged None = Unit {0}
+IsRanged (Some terms) = AreInRange terms
+
+abbrev pub AreRanged : Market → Type 0
+AreRanged market = (o : ℕ) → IsRanged (terms_at market o)

@@ -20,7 +20,7 @@ and_answer (Err cause) next = Stops cause
 -- `idle` says which objects answer without a computation, and `answer` what
 abbrev pub next_of : (ℕ → Bool) → (ℕ → Outcome) → List Entry → Next
 next_of idle answer [] = Ready []
-next_of idle answer (Gives i ∷ entries) = and_next i (next_of idle answer entries)
+next_of idle answer (Gives rate ∷ entries) = and_next (input.TheVariants.Rate rate) (next_of idle answer entries)
 next_of idle answer (Needs x ∷ entries) =
     if idle x
     then and_answer (answer x) (next_of idle answer entries)

@@ -2,14 +2,14 @@
 use Rattle.std.specs.Prelude.{ℕ, zero, suc, Bool, ◌&&◌, List, [], ◌∷◌, length, Option, Some, None, ℤ, pos, neg_ℤ, int_le, if◌then◌else◌, ◌^◌, ◌+ℤ◌, ◌-ℤ◌}
 use Rattle.desk_terms.specs.declared.terms.Terms.{Terms}
 use Rattle.desk_terms.specs.declared.terms.Part.{Part}
-use Rattle.desk_terms.specs.declared.terms.Helper.{Helper}
-use Rattle.desk_terms.specs.declared.terms.Fixing.{Fixing}
+use Rattle.curve_terms.specs.declared.terms.Helper.{Helper}
+use Rattle.flow_terms.specs.Fixings.{Stored}
 use Rattle.desk_terms.specs.declared.terms.Terms.TheVariants.{Quote, Derived, Handle, Curve, Implied, Index, Engine, Stock, Composite, Flows}
-use Rattle.desk_terms.specs.declared.flow.FlowTerm.{FlowTerm}
+use Rattle.flow_terms.specs.declared.flows.FlowTerm.{FlowTerm}
 use Rattle.desk_terms.specs.declared.value.Input as input
 use Rattle.desk_terms.specs.declared.cause.Cause.TheVariants.{Unset, Empty, NoEngine, TooLarge}
 use Rattle.desk_terms.specs.Reading.{Reading, IndexReading, day_read, named_index}
-use Rattle.desk_terms.specs.Flows.{is_expired, needs_forecast}
+use Rattle.flow_terms.specs.Flows.{is_expired, needs_forecast}
 use Rattle.desk_model.specs.declared.entry.Entry.{Entry}
 use Rattle.desk_model.specs.declared.entry.Entry.TheVariants.{Gives, Needs, Refuses}
 use Rattle.desk_model.specs.Market.{Market, terms_at}
@@ -18,20 +18,17 @@ use Rattle.desk_model.specs.Market.{Market, terms_at}
 abbrev pub rate_entry : ℕ → ℤ → Entry
 rate_entry o rate =
     if int_le (neg_ℤ (pos (10 ^ 18))) rate && int_le rate (pos (10 ^ 18))
-    then Gives (input.TheVariants.Rate rate)
+    then Gives rate
     else Refuses (TooLarge o)
 
 -- the sum or difference of what two inputs give; the refusal of the first comes before that of the second. (Inputs of
--- the right kinds give no curve and no money.)
+-- the right kinds need no computation.)
 abbrev pub derived_entry : ℕ → Bool → Entry → Entry → Entry
 derived_entry o minus (Refuses cause) second = Refuses cause
 derived_entry o minus (Needs x) second = Refuses (Unset o)
-derived_entry o minus (Gives i) (Refuses cause) = Refuses cause
-derived_entry o minus (Gives i) (Needs x) = Refuses (Unset o)
-derived_entry o minus (Gives (input.TheVariants.Rate a)) (Gives (input.TheVariants.Rate b)) =
-    rate_entry o (if minus then a -ℤ b else a +ℤ b)
-derived_entry o minus (Gives (input.TheVariants.Money a)) (Gives i) = Refuses (Unset o)
-derived_entry o minus (Gives (input.TheVariants.Rate a)) (Gives (input.TheVariants.Money b)) = Refuses (Unset o)
+derived_entry o minus (Gives a) (Refuses cause) = Refuses cause
+derived_entry o minus (Gives a) (Needs x) = Refuses (Unset o)
+derived_entry o minus (Gives a) (Gives b) = rate_entry o (if minus then a -ℤ b else a +ℤ b)
 
 -- What o gives where another object names it: a quote its rate, a sum or difference its rate, a handle what its target
 -- gives, an index and an engine what their curve gives, a lazy object itself (QuantLib's `Quote::value`,
@@ -39,7 +36,7 @@ derived_entry o minus (Gives (input.TheVariants.Rate a)) (Gives (input.TheVarian
 abbrev pub given : (ℕ → Entry) → ℕ → Option Terms → Entry
 given read o None = Refuses (Unset o)
 given read o (Some (Quote None)) = Refuses (Unset o)
-given read o (Some (Quote (Some rate))) = Gives (input.TheVariants.Rate rate)
+given read o (Some (Quote (Some rate))) = Gives rate
 given read o (Some (Derived minus first second)) = derived_entry o minus (read first) (read second)
 given read o (Some (Handle kind None)) = Refuses (Empty o)
 given read o (Some (Handle kind (Some target))) = read target
@@ -77,7 +74,7 @@ abbrev pub index_at : Market → Option ℕ → Option IndexReading
 index_at market None = None
 index_at market (Some x) = index_in x (terms_at market x)
 
-abbrev pub fixings_in : Option IndexReading → List Fixing
+abbrev pub fixings_in : Option IndexReading → Stored
 fixings_in None = []
 fixings_in (Some index) = index.fixings
 
@@ -125,7 +122,7 @@ uses market o = uses_of (input_at market) market o (terms_at market o)
 -- the objects among these entries
 abbrev pub needed : List Entry → List ℕ
 needed [] = []
-needed (Gives i ∷ entries) = needed entries
+needed (Gives rate ∷ entries) = needed entries
 needed (Needs x ∷ entries) = x ∷ needed entries
 needed (Refuses cause ∷ entries) = needed entries
 

@@ -53,7 +53,7 @@ after_visit calls (Err cause) rest = record { calls = calls; refusal = Some caus
 -- the entries in order: a value at hand computes nothing, a needed object is visited
 abbrev pub settle_all : (List (ℕ × Outcome) → ℕ → Visit) → List (ℕ × Outcome) → List Entry → Walk
 settle_all visit calls [] = record { calls = calls; refusal = None }
-settle_all visit calls (Gives i ∷ entries) = settle_all visit calls entries
+settle_all visit calls (Gives rate ∷ entries) = settle_all visit calls entries
 settle_all visit calls (Needs x ∷ entries) =
     after_visit (visit calls x).calls (visit calls x).outcome (λ later. settle_all visit later entries)
 settle_all visit calls (Refuses cause ∷ entries) = record { calls = calls; refusal = Some cause }

@@ -18,6 +18,7 @@ ghost use Rattle.desk_model.specs.Laws.{
   RunsHaveNoBound,
   SeenHasNoBound,
   SeenIsPriced,
+  SeenIsValued,
   ShownIsSeen,
   StartsAreSound,
   UsesAreLocal,
@@ -48,10 +49,11 @@ pub fn uses_are_local()
     ensures { UsesAreLocal }
 {}
 
-/// Where each object names others of the right kinds, a bench is asked for well-formed readings alone, and what a price
-/// needs is priced by the bench.
+/// Where each object names others of the right kinds, a bench is asked for well-formed readings alone, what an ask shows
+/// of an object is a value that it may have, and what a price needs is priced by the bench.
 pub fn readings_are_well_formed()
     ensures readings { ReadingsAreWellFormed }
+    ensures values { SeenIsValued }
     ensures needs { NeedsAreLazy }
 {}
 

@@ -4,7 +4,7 @@ use Rattle.desk_terms.specs.declared.terms.Terms.{Terms}
 use Rattle.desk_terms.specs.declared.terms.Terms.TheVariants.{Quote, Derived, Handle, Curve, Implied, Index, Engine, Stock, Composite, Flows}
 use Rattle.desk_terms.specs.declared.terms.HandleKind as handle
 use Rattle.desk_terms.specs.declared.terms.Part.{Part}
-use Rattle.desk_terms.specs.declared.terms.Helper.{Helper}
+use Rattle.curve_terms.specs.declared.terms.Helper.{Helper}
 use Rattle.desk_terms.specs.declared.kind.Kind as kind
 use Rattle.desk_terms.specs.declared.kind.Wanted as wanted
 use Rattle.desk_terms.specs.declared.reference.Reference.{Reference}

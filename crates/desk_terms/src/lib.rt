@@ -2,15 +2,15 @@
 //! price of the session goes through one trait, `Bench`, whose meaning is a function of the job alone.
 //!
 //! `Terms` and its parts, `Kind`, `Wanted`, `Reference`; `Value`, `Input`, `InputList`; `Cause`; `Job`, `IndexUse`,
-//! `Bench`, `BenchFault`; `Asked`, `Mark`.
+//! `Bench`, `BenchFault`; `Asked`, `Mark`; `discount_of`, `point_cause`.
 #![tactic(auto)]
 
 mod asked;
 mod bench;
 mod cause;
-mod flow;
 mod job;
 mod kind;
+mod point;
 mod reference;
 mod terms;
 mod value;
@@ -18,11 +18,14 @@ mod value;
 pub use asked::{Asked, Mark};
 pub use bench::{Bench, BenchFault};
 pub use cause::Cause;
-pub use flow::{FlowTerm, FlowTermList, FlowTerms, expired, fixing_on, needs_forecast};
-pub use job::{IndexUse, Job};
-pub use kind::{Kind, Wanted};
-pub use reference::{Reference, ReferenceList};
-pub use terms::{
-    CurveTerms, Fixing, Fixings, HandleKind, Helper, HelperList, IndexTerms, Part, PartList, Terms,
+pub use curve_terms::{CurveTerms, Helper, HelperList};
+pub use flow_terms::{
+    FixFault, Fixings, FlowTerm, FlowTermList, FlowTerms, IndexTerms, IndexUse, expired,
+    needs_forecast,
 };
+pub use job::Job;
+pub use kind::{Kind, Wanted};
+pub use point::{discount_of, point_cause};
+pub use reference::{Reference, ReferenceList};
+pub use terms::{HandleKind, Part, PartList, Terms};
 pub use value::{Input, InputList, Value};

@@ -2,10 +2,12 @@
 ghost use Rattle.std.specs.Prelude.{◌≡◌};
 ghost use Rattle.desk_terms.specs.Terms.{kind_of};
 
-use crate::{FlowTerms, Kind};
+use crate::Kind;
+use curve_terms::CurveTerms;
 use day_number::Day;
 use desk_names::ObjId;
 use fixed_amount::Rate;
+use flow_terms::{Fixings, FlowTerms, IndexTerms};
 use item_lists::Items;
 
 /// A member of a composite, with its weight.
@@ -17,37 +19,6 @@ pub struct Part {
 
 /// The parts of a composite, in order.
 pub type PartList = Items<Part>;
-
-/// A helper of a curve (QuantLib's `RateHelper`), by the quote that it reads.
-#[derive(Clone, Copy, Debug, PartialEq, Eq)]
-pub struct Helper {
-    pub quote: ObjId,
-}
-
-/// The helpers of a curve, in order.
-pub type HelperList = Items<Helper>;
-
-/// The terms of a curve over its helpers (QuantLib's `PiecewiseYieldCurve`).
-#[derive(Drop)]
-pub struct CurveTerms {
-    pub helpers: HelperList,
-}
-
-/// The terms of an index (QuantLib's `IborIndex`), by the curve that it forecasts from.
-#[derive(Clone, Copy, Debug, PartialEq, Eq)]
-pub struct IndexTerms {
-    pub curve: ObjId,
-}
-
-/// The rate of an index that is stored for one day.
-#[derive(Clone, Copy, Debug, PartialEq, Eq)]
-pub struct Fixing {
-    pub day: Day,
-    pub rate: Rate,
-}
-
-/// The stored rates of an index (QuantLib's `TimeSeries`): of those of one day the first counts.
-pub type Fixings = Items<Fixing>;
 
 /// What a handle stands for.
 #[derive(Clone, Copy, Debug, PartialEq, Eq)]
@@ -72,7 +43,7 @@ pub enum Terms {
         target_kind: HandleKind,
         target: Option<ObjId>,
     },
-    /// A curve over the quotes of its helpers (QuantLib's `PiecewiseYieldCurve`).
+    /// A curve that is built from the rates of its helpers (QuantLib's `PiecewiseYieldCurve`).
     Curve(CurveTerms),
     /// A curve seen from a later day (QuantLib's `ImpliedTermStructure`).
     Implied {

@@ -1,0 +1,2 @@
+pub mod FactorLemmas
+pub mod FixingLemmas

@@ -1,0 +1,5 @@
+pub mod Examples
+pub mod Fixing
+pub mod Forecast
+pub mod Laws
+pub mod Period

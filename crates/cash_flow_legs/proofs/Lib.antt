@@ -1,0 +1,4 @@
+pub mod AppendLemmas
+pub mod LiveLemmas
+pub mod PartsLemmas
+pub mod PeriodLemmas

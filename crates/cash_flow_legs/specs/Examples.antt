@@ -1,0 +1,115 @@
+-- Flows that are worked out by hand: of a swap and a forward rate agreement on an index of 50 days without holidays,
+-- by Actual/360, over a curve from 2024-01-02 with the one node 0.990099009901 on 2024-04-11, and of a bond on TARGET.
+use Rattle.std.specs.Prelude.{◌≡◌, ◌^◌, ℕ, Bool, false, List, [], ◌∷◌, Some, None, Ok, Err, ℤ, pos, neg_ℤ}
+use Rattle.std.specs.Borrow.{Bor}
+use Rattle.day_number.specs.declared.conventions.Convention.TheVariants.{ModifiedFollowing}
+use Rattle.day_number.specs.declared.tenors.Unit.TheVariants.{Years}
+use Rattle.year_parts.specs.declared.counters.Counter.TheVariants.{Act360, Thirty360}
+use Rattle.holiday_calendars.specs.declared.bases.Base.TheVariants.{Null, Target}
+use Rattle.holiday_calendars.specs.declared.calendars.Calendar.{Calendar}
+use Rattle.holiday_calendars.specs.declared.calendars.Calendar.TheVariants.{One}
+use Rattle.holiday_calendars.specs.Calendar.{is_business_day}
+use Rattle.schedule_rules.specs.declared.plans.Plan.{Plan}
+use Rattle.schedule_rules.specs.declared.plans.Rule.TheVariants.{Backward}
+use Rattle.schedule_rules.specs.Schedule.{schedule}
+use Rattle.desk_terms.specs.declared.cause.Cause.TheVariants.{NoFixing, DateRange, TooLarge}
+use Rattle.flow_terms.specs.declared.indexes.IndexTerms.{IndexTerms}
+use Rattle.flow_terms.specs.declared.flows.FlowTerm.{FlowTerm}
+use Rattle.flow_terms.specs.declared.flows.FlowTerm.TheVariants.{Known, Float, Forward}
+use Rattle.rate_indexes.specs.Examples.{fifty_days, one_node}
+use Rattle.cash_flow_legs.specs.declared.live_flows.Flow.{Flow}
+use Rattle.cash_flow_legs.specs.Days.{fixing_day}
+use Rattle.cash_flow_legs.specs.Legs.{each_period, fixed_flow, float_flow}
+use Rattle.cash_flow_legs.specs.Singles.{redemption_flow, settlement_flow}
+use Rattle.cash_flow_legs.specs.Amount.{IndexView, amount_of, settlement}
+use Rattle.cash_flow_legs.specs.Live.{live_flows}
+
+-- 1,000,000
+abbrev pub million : ℤ
+million = pos (10 ^ 12)
+
+-- days without holidays
+abbrev pub every_day : ℤ → Bool
+every_day = is_business_day (One Null)
+
+abbrev pub target : ℤ → Bool
+target = is_business_day (One Target)
+
+-- the index without stored rates
+abbrev pub plain_index : IndexView
+plain_index = record { object = 2; terms = fifty_days; fixings = [] }
+
+-- the swap's one period
+abbrev pub fifty_day_period : List ℤ
+fifty_day_period = pos 19_774 ∷ pos 19_824 ∷ []
+
+-- the swap pays 3 %, so that leg's notional is below zero
+abbrev pub paid_leg : List FlowTerm
+paid_leg = Known (pos 19_824) (neg_ℤ (pos 4_166_666_667)) ∷ []
+
+abbrev pub received_leg : List FlowTerm
+received_leg = Float (pos 19_824) million (pos 0) (pos 222_650) (pos 19_774) ∷ []
+
+abbrev pub swap_flows : List FlowTerm
+swap_flows =
+    Known (pos 19_824) (neg_ℤ (pos 4_166_666_667)) ∷ Float (pos 19_824) million (pos 0) (pos 222_650) (pos 19_774) ∷ []
+
+-- the plan of the bond: 2024-01-04 to 2026-01-04 every year
+abbrev pub bond_plan : Bor Calendar → Plan
+bond_plan cal = record {
+  start = pos 19_726;
+  end = pos 20_457;
+  tenor = record { count = pos 1; unit = Years };
+  cal = cal;
+  conv = ModifiedFollowing;
+  end_conv = ModifiedFollowing;
+  rule = Backward;
+  eom = false;
+  first = None;
+  last = None;
+}
+
+-- a flow as it is paid
+abbrev pub paid : ℤ → ℤ → Flow
+paid day amount = record { paid = day; amount = amount }
+
+-- an agreement of 3 % on 2024-02-21
+abbrev pub three_percent : FlowTerm
+three_percent = Forward (pos 19_774) million (pos 30_000_000) (pos 19_774)
+
+-- an agreement whose period would end after the last day
+abbrev pub too_late : FlowTerm
+too_late = Forward (pos 84_005) million (pos 0) (pos 84_004)
+
+abbrev pub stored_late : IndexView
+stored_late = record plain_index { fixings = (pos 84_004, pos 0) ∷ [] }
+
+-- the index on TARGET
+abbrev pub target_index : ℕ → IndexTerms
+target_index days = record fifty_days { cal = One Target; fixing_days = days }
+
+-- the days are 2024-01-02 (19,724), 2024-02-21 (19,774), 2024-03-28 to 2024-04-03 (19,810 to 19,816),
+-- 2024-04-11 (19,824), 2025-01-06 (20,094), 2026-01-05 (20,458) and 2199-12-31 (84,005)
+pub record AreWorked : Type 0 where
+  pub fixed : each_period (fixed_flow every_day (neg_ℤ million) (pos 30_000_000) Act360) fifty_day_period
+      ≡ Some paid_leg
+  pub floating : each_period (float_flow every_day million (pos 0) Act360 fifty_days) fifty_day_period
+      ≡ Some received_leg
+  pub swap : live_flows (Some plain_index) (pos 19_724) (pos 19_724) (Some one_node) 7 swap_flows
+      ≡ Ok (paid (pos 19_824) (neg_ℤ (pos 4_166_666_667)) ∷ paid (pos 19_824) (pos 5_000_000_000) ∷ [])
+  pub swap_paid : live_flows (Some plain_index) (pos 19_824) (pos 19_724) None 7 swap_flows ≡ Ok []
+  pub swap_settled : live_flows (Some plain_index) (pos 19_724) (pos 19_824) None 7 swap_flows ≡ Ok []
+  pub agreement : settlement_flow fifty_days (pos 19_774) million (pos 30_000_000) ≡ Some three_percent
+  pub settled : amount_of (Some plain_index) (pos 19_724) (Some one_node) 7 three_percent ≡ Ok (pos 829_187_396)
+  pub days : (cal : Bor Calendar) → schedule target (bond_plan cal) ≡ Ok (pos 19_726 ∷ pos 20_094 ∷ pos 20_458 ∷ [])
+  pub coupons : each_period
+      (fixed_flow target million (pos 40_000_000) Thirty360)
+      (pos 19_726 ∷ pos 20_094 ∷ pos 20_458 ∷ [])
+      ≡ Some (Known (pos 20_094) (pos 40_222_222_222) ∷ Known (pos 20_458) (pos 39_888_888_889) ∷ [])
+  pub redeemed : redemption_flow target (pos 20_457) million ≡ Some (Known (pos 20_458) million)
+  pub redeemed_late : redemption_flow target (pos 19_812) million ≡ Some (Known (pos 19_815) million)
+  pub fixed_before : fixing_day (target_index 0) (pos 19_811) ≡ Some (pos 19_810)
+  pub fixed_two_before : fixing_day (target_index 2) (pos 19_816) ≡ Some (pos 19_810)
+  pub fixing_first : amount_of (Some plain_index) (pos 84_005) None 7 too_late ≡ Err (NoFixing 2 (pos 84_004))
+  pub then_period : amount_of (Some stored_late) (pos 84_005) None 7 too_late ≡ Err (DateRange 2)
+  pub no_divisor : settlement 7 million (pos 0) (pos 222_650) (neg_ℤ (pos 10_000_000_000)) ≡ Err (TooLarge 7)

@@ -1,0 +1,97 @@
+// The flows that are still to be paid, with their amounts.
+ghost use Rattle.std.specs.Prelude.{◌≡◌, true, IsSome, IfOk, option_copied};
+ghost use Rattle.std.specs.List.{All};
+ghost use Rattle.flow_terms.specs.Flows.{fixed_on};
+ghost use Rattle.flow_terms.specs.Ranges.{IsFlow, AreFlowsInRange};
+ghost use Rattle.cash_flow_legs.specs.Amount.{views_of};
+ghost use Rattle.cash_flow_legs.specs.Live as live;
+
+use crate::FlowFault;
+use crate::amounts::amount_of;
+use curve_points::CurveValue;
+use day_number::Day;
+use desk_names::ObjId;
+use fixed_amount::Amount;
+use flow_terms::{FlowTerm, FlowTerms, IndexUse};
+use item_lists::Items;
+use std::alloc::Global;
+
+/// An amount that is paid on a day (QuantLib's `CashFlow`).
+#[derive(Clone, Copy, Debug, PartialEq, Eq)]
+pub struct Flow {
+    pub paid: Day,
+    /// At most 10^22 units either way.
+    pub amount: Amount,
+}
+
+/// Amounts with their days, in the order of an instrument's flows.
+pub type FlowList = Items<Flow>;
+
+/// The flows of an instrument, the owner, that are paid after today and after another day, in their order and with
+/// their amounts (QuantLib's `CashFlows` and `Coupon::amount`). The first of these flows that is refused decides, by the
+/// causes of its index's fixing, for a settlement then those of its period, and then `TooLarge` of the owner. The index
+/// is given where the terms name one, and the curve that it is forecast from where a flow that is paid after today needs
+/// a forecast.
+pub fn flows(
+    alloc: Global,
+    terms: &FlowTerms,
+    today: Day,
+    after: Day,
+    index: Option<&IndexUse<'_>>,
+    curve: Option<&CurveValue>,
+    owner: ObjId,
+) -> Result<FlowList, FlowFault>
+    requires range { AreFlowsInRange terms.now }
+    requires index { IsSome terms.now.index → IsSome index }
+    requires curve { live.needs_curve (views_of (option_copied index)) terms.now.flows today ≡ true → IsSome curve }
+    ensures given { let seen = views_of (option_copied index.entry) in
+        live.Gives (live.live_flows seen today after (option_copied curve.entry) owner terms.now.flows) result }
+    ensures range { IfOk result (live.AreInRange terms.now.flows) }
+{
+    amounts_of(
+        alloc,
+        terms.flows.items(),
+        today,
+        after,
+        index,
+        curve,
+        owner,
+    )
+}
+
+// The same of flows each in range.
+fn amounts_of(
+    alloc: Global,
+    terms: &[FlowTerm],
+    today: Day,
+    after: Day,
+    index: Option<&IndexUse<'_>>,
+    curve: Option<&CurveValue>,
+    owner: ObjId,
+) -> Result<FlowList, FlowFault>
+    requires range { All IsFlow terms.now }
+    requires index { All (λ flow. IsSome (fixed_on flow) → IsSome index) terms.now }
+    requires curve { live.needs_curve (views_of (option_copied index)) terms.now today ≡ true → IsSome curve }
+    ensures given { let seen = views_of (option_copied index.entry) in
+        live.Gives (live.live_flows seen today after (option_copied curve.entry) owner terms.now) result }
+    ensures range { IfOk result (live.AreInRange terms.now) }
+{
+    let mut flows = FlowList::new(alloc);
+    for flow in terms {
+        if is_live(flow, today, after) {
+            let amount = amount_of(flow, today, index, curve, owner)?;
+            flows.push(Flow {
+                paid: flow.paid(),
+                amount,
+            })?;
+        }
+    }
+    Ok(flows)
+}
+
+/// Whether a flow is paid after today and after another day (QuantLib's `CashFlow::hasOccurred`).
+pub fn is_live(flow: &FlowTerm, today: Day, after: Day) -> bool
+    ensures { result ≡ live.is_live today after flow.now }
+{
+    flow.paid() > today && flow.paid() > after
+}

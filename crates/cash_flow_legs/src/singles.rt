@@ -1,0 +1,99 @@
+// Flows that stand alone: a redemption, and the settlement of a forward rate agreement.
+ghost use Rattle.std.specs.Prelude.{◌≡◌, IfSome};
+ghost use Rattle.holiday_calendars.specs.Calendar.{is_business_day};
+ghost use Rattle.flow_terms.specs.Fixings.{IsRate};
+ghost use Rattle.flow_terms.specs.Ranges.{IsNotional, IsFlow};
+ghost use Rattle.cash_flow_legs.specs.Singles as single;
+ghost use Rattle.cash_flow_legs.specs.Appended.{Appends, AddsInRange, one_flow};
+
+use crate::LegFault;
+use crate::days::{fixing_day, payment_day};
+use day_number::Day;
+use day_shift::adjust;
+use fixed_amount::{Amount, Rate};
+use flow_terms::{FlowTerm, FlowTermList, IndexTerms};
+use holiday_calendars::Calendar;
+
+/// Appends the notional, at most 10^18 units either way, paid on the calendar's next business day at or after the end
+/// (QuantLib's `Redemption`). `DateRange` where there is none; a fault leaves the list as it was.
+pub fn redemption(
+    cal: &Calendar,
+    end: Day,
+    notional: Amount,
+    out: &mut FlowTermList,
+) -> Result<(), LegFault>
+    requires { IsNotional notional }
+    ensures flows { let flow = single.redemption_flow (is_business_day cal.now) end notional in
+        Appends (one_flow flow) out.old out.new result }
+    ensures range { AddsInRange out.old out.new }
+{
+    append_one(redemption_flow(cal, end, notional), out)
+}
+
+// The flow of a redemption, where there is a day for it.
+fn redemption_flow(cal: &Calendar, end: Day, notional: Amount) -> Option<FlowTerm>
+    requires { IsNotional notional }
+    ensures flow { result ≡ single.redemption_flow (is_business_day cal.now) end notional }
+    ensures range { IfSome result IsFlow }
+{
+    let paid = payment_day(cal, end)?;
+    Some(FlowTerm::Known {
+        paid,
+        amount: notional,
+    })
+}
+
+/// Appends the settlement of a forward rate agreement on an index from a start, at a strike, on a notional of at most
+/// 10^18 units either way (QuantLib's `ForwardRateAgreement`). It is paid on the start as the index's convention and
+/// calendar adjust it, and its rate is fixed the index's fixing days before that day. `DateRange` where a day is not
+/// there; a fault leaves the list as it was.
+pub fn forward_flow(
+    index: &IndexTerms,
+    start: Day,
+    notional: Amount,
+    strike: Rate,
+    out: &mut FlowTermList,
+) -> Result<(), LegFault>
+    requires notional { IsNotional notional }
+    requires strike { IsRate strike }
+    ensures flows { let flow = single.settlement_flow index.now start notional strike in
+        Appends (one_flow flow) out.old out.new result }
+    ensures range { AddsInRange out.old out.new }
+{
+    append_one(settlement_flow(index, start, notional, strike), out)
+}
+
+// The flow of a settlement, where there are days for it.
+fn settlement_flow(
+    index: &IndexTerms,
+    start: Day,
+    notional: Amount,
+    strike: Rate,
+) -> Option<FlowTerm>
+    requires notional { IsNotional notional }
+    requires strike { IsRate strike }
+    ensures flow { result ≡ single.settlement_flow index.now start notional strike }
+    ensures range { IfSome result IsFlow }
+{
+    let paid = adjust(&index.cal, start, index.conv).ok()?;
+    let fixing = fixing_day(index, paid)?;
+    Some(FlowTerm::Forward {
+        paid,
+        notional,
+        strike,
+        fixing,
+    })
+}
+
+// Appends a flow for which there are days, or leaves the list as it was.
+fn append_one(flow: Option<FlowTerm>, out: &mut FlowTermList) -> Result<(), LegFault>
+    requires { IfSome flow IsFlow }
+    ensures flows { Appends (one_flow flow) out.old out.new result }
+    ensures range { AddsInRange out.old out.new }
+{
+    let Some(flow) = flow else {
+        return Err(LegFault::DateRange);
+    };
+    out.push(flow)?;
+    Ok(())
+}

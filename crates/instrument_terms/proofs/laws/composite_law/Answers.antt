@@ -1,0 +1,8 @@
+use Rattle.instrument_terms.proofs.LawLemmas.{fault_is_the_first, faultless_parts_are_within}
+use Rattle.instrument_terms.proofs.laws.composite_law.Goals as goal
+
+pub returns-clause-first : goal.returns-clause-first
+returns-clause-first c = fault_is_the_first
+
+pub returns-clause-none : goal.returns-clause-none
+returns-clause-none c = faultless_parts_are_within

@@ -1,0 +1,17 @@
+//! The terms of stocks, composites and instruments by their flows, tested against this project's limits before an
+//! object is made of them.
+//!
+//! `stock`, `composite`, `flows_terms`; `LimitFault`; `MOST_WEIGHT`. Functions whose names end in `law` do
+//! nothing: their contracts are what is proved of the definitions.
+#![tactic(auto)]
+
+mod composites;
+mod faults;
+mod instruments;
+mod laws;
+mod marks;
+
+pub use composites::{MOST_WEIGHT, composite};
+pub use faults::LimitFault;
+pub use instruments::{flows_terms, stock};
+pub use laws::composite_law;

@@ -1,54 +1,88 @@
 -- The prices of this project are in the limits of a price.
-use Rattle.std.specs.Prelude.{◌≡◌, ◌^◌, ℕ, Bool, true, false, List, [], ◌∷◌, length, ℤ, pos, neg_ℤ, ◌≤ℤ◌, Option, Some, None, Ok, Err, int_le, nat_le, ◌&&◌, if◌then◌else◌, T}
-use Rattle.std.proofs.Common.{refl, sym, subst, inl}
-use Rattle.std.specs.Int.Signed.{le_z_yes}
-use Rattle.fixed_amount.specs.Rounding.{closest}
+use Rattle.std.specs.Prelude.{ℕ, List, [], ◌∷◌, ℤ, Option, Some, None, Result, Ok, Err}
+use Rattle.std.proofs.Common.{refl, inl, inr}
 use Rattle.desk_terms.specs.declared.terms.Terms.{Terms}
-use Rattle.desk_terms.specs.declared.terms.Part.{Part}
 use Rattle.desk_terms.specs.declared.terms.Terms.TheVariants.{Quote, Derived, Handle, Curve, Implied, Index, Engine, Stock, Composite, Flows}
-use Rattle.desk_terms.specs.declared.value.Value.TheVariants.{Money}
 use Rattle.desk_terms.specs.declared.value.Input as input
-use Rattle.desk_terms.specs.declared.cause.Cause.TheVariants.{TooLarge}
-use Rattle.desk_terms.specs.Reading.{Reading, Outcome, IsWellFormed, Fits}
-use Rattle.desk_bench.specs.Pricing.{money_of, money_or_none, weighted, composite_price, price_of, desk_calc}
+use Rattle.desk_terms.specs.Reading.{Reading, IndexReading, Fits, IsFitting}
+use Rattle.curve_terms.specs.declared.terms.CurveTerms.{CurveTerms}
+use Rattle.curve_points.specs.declared.curves.CurveNode.{CurveNode}
+use Rattle.curve_points.specs.Curve.{Curve as CurveView, origin}
+use Rattle.curve_points.specs.Point.{discount_at}
+use Rattle.curve_points.specs.Implied.{curve_of as implied_of, seen_at, implied_curve}
+use Rattle.curve_points.specs.declared.seen.ImpliedFault.{ImpliedFault}
+use Rattle.curve_points.specs.declared.seen.ImpliedFault.TheVariants as implied
+use Rattle.curve_bootstrap.specs.Built.{reference_day, built_curve}
+use Rattle.curve_bootstrap.specs.Built as due
+use Rattle.curve_bootstrap.specs.declared.faults.BuildFault.{BuildFault}
+use Rattle.curve_bootstrap.specs.declared.faults.BuildFault.TheVariants as build
+use Rattle.desk_bench.specs.Pricing.{rates_of, built, seen, curve_price, implied_price, desk_calc}
+use Rattle.discount_engines.specs.Fits.{price_fits}
 
-chosen : (reading : Reading) (units : ℤ) (low high : Bool) → (low ≡ true → neg_ℤ (pos (10 ^ 24)) ≤ℤ units) → (high ≡ true → units ≤ℤ pos (10 ^ 24))
-    → Fits reading (if low && high then Ok (Money units) else Err (TooLarge reading.object))
-chosen reading units true true low high = (low refl, high refl)
-chosen reading units true false low high = inl refl
-chosen reading units false high_test low high = inl refl
+abbrev reading_of : ℕ → Terms → Option ℤ → Option IndexReading → List input.Input → Reading
+reading_of o terms today index inputs = record { object = o; terms = terms; inputs = inputs; today = today; index = index }
 
-money_fits : (reading : Reading) (units : ℤ) → Fits reading (money_of reading.object units)
-money_fits reading units = chosen reading units (int_le (neg_ℤ (pos (10 ^ 24))) units) (int_le units (pos (10 ^ 24))) (λ e. le_z_yes (subst T (sym e) tt)) (λ e. le_z_yes (subst T (sym e) tt))
+-- what is built is a curve of o, and a cause names o
+built_fits : (o : ℕ) (terms : CurveTerms) (today : Option ℤ) (index : Option IndexReading) (inputs : List input.Input) (day : ℤ) (rates : List ℤ)
+    → Fits (reading_of o (Curve terms) today index inputs) (built o (built_curve o terms day rates))
+unfolding built_curve
+built_fits o terms today index inputs day rates = by_day (reference_day terms day)
+  where
+    by_nodes : (reference : ℤ) (r : Result (List CurveNode) BuildFault)
+        → Fits (reading_of o (Curve terms) today index inputs) (built o (due.curve_of o reference r))
+    by_nodes reference (Ok nodes) = refl
+    by_nodes reference (Err (build.Pillar k)) = inl refl
+    by_nodes reference (Err (build.Discount k)) = inl refl
+    by_nodes reference (Err (build.Negative k)) = inl refl
+    by_nodes reference (Err build.RateRange) = inl refl
+    by_nodes reference (Err build.DateRange) = inl refl
+    by_nodes reference (Err build.NoMemory) = inl refl
 
-sum_fits : (reading : Reading) (sum : Option ℤ) → Fits reading (money_or_none reading.object sum)
-sum_fits reading None = inl refl
-sum_fits reading (Some units) = money_fits reading units
+    by_day : (reference : Option ℤ)
+        → Fits (reading_of o (Curve terms) today index inputs) (built o (due.curve_from o terms rates reference))
+    by_day None = inl refl
+    by_day (Some reference) = by_nodes reference (due.nodes_of (due.coupons_of terms.cal reference) (origin reference) 1 [] terms.helpers rates)
 
-limited_fits : (reading : Reading) (outcome : Outcome) (is_limited : Bool) → Fits reading outcome → Fits reading (if is_limited then outcome else Err (TooLarge reading.object))
-limited_fits reading outcome true fits = fits
-limited_fits reading outcome false fits = inl refl
+curve_fits : (o : ℕ) (terms : CurveTerms) (today : Option ℤ) (index : Option IndexReading) (inputs : List input.Input)
+    → Fits (reading_of o (Curve terms) today index inputs) (curve_price o terms today inputs)
+curve_fits o terms None index inputs = inl refl
+curve_fits o terms (Some day) index inputs = built_fits o terms (Some day) index inputs day (rates_of inputs)
 
-composite_fits : (reading : Reading) (parts : List Part) (inputs : List input.Input) → Fits reading (composite_price reading.object parts inputs)
-composite_fits reading parts inputs = limited_fits reading (money_or_none reading.object (weighted parts inputs)) (nat_le (length parts) 4096) (sum_fits reading (weighted parts inputs))
+-- what is seen is a curve of o, and a cause names o or the owner of the base curve
+seen_fits : (o base : ℕ) (reference : ℤ) (today : Option ℤ) (index : Option IndexReading) (curve : CurveView)
+    → Fits (reading_of o (Implied base reference) today index (input.TheVariants.Curve curve ∷ [])) (seen o curve.owner reference (implied_curve curve o reference))
+unfolding implied_curve
+seen_fits o base reference today index curve = by_nodes (seen_at (discount_at curve reference) reference curve.nodes)
+  where
+    by_nodes : (r : Result (List CurveNode) ImpliedFault)
+        → Fits (reading_of o (Implied base reference) today index (input.TheVariants.Curve curve ∷ [])) (seen o curve.owner reference (implied_of o reference r))
+    by_nodes (Ok nodes) = refl
+    by_nodes (Err implied.Before) = inr (inr (inl refl))
+    by_nodes (Err implied.Past) = inr (inr (inl refl))
+    by_nodes (Err (implied.Node k)) = inl refl
+    by_nodes (Err implied.NoMemory) = inl refl
 
-stock_fits : (reading : Reading) (quote : ℕ) (inputs : List input.Input) → Fits reading (price_of reading.object (Stock quote) inputs)
-stock_fits reading quote [] = inl refl
-stock_fits reading quote (input.TheVariants.Money amount ∷ inputs) = inl refl
-stock_fits reading quote (input.TheVariants.Rate rate ∷ []) = money_fits reading (closest rate 1000)
-stock_fits reading quote (input.TheVariants.Rate rate ∷ i ∷ inputs) = inl refl
+implied_fits : (o base : ℕ) (reference : ℤ) (today : Option ℤ) (index : Option IndexReading) (inputs : List input.Input)
+    → Fits (reading_of o (Implied base reference) today index inputs) (implied_price o reference inputs)
+implied_fits o base reference today index [] = inl refl
+implied_fits o base reference today index (input.TheVariants.Money amount ∷ inputs) = inl refl
+implied_fits o base reference today index (input.TheVariants.Rate rate ∷ inputs) = inl refl
+implied_fits o base reference today index (input.TheVariants.Curve curve ∷ []) = seen_fits o base reference today index curve
+implied_fits o base reference today index (input.TheVariants.Curve curve ∷ i ∷ inputs) = inl refl
 
-price_fits : (reading : Reading) (terms : Terms) (inputs : List input.Input) → Fits reading (price_of reading.object terms inputs)
-price_fits reading (Quote value) inputs = inl refl
-price_fits reading (Derived minus first second) inputs = inl refl
-price_fits reading (Handle kind target) inputs = inl refl
-price_fits reading (Curve terms) inputs = inl refl
-price_fits reading (Implied curve reference) inputs = inl refl
-price_fits reading (Index terms fixings) inputs = inl refl
-price_fits reading (Engine curve) inputs = inl refl
-price_fits reading (Stock quote) inputs = stock_fits reading quote inputs
-price_fits reading (Composite parts) inputs = composite_fits reading parts inputs
-price_fits reading (Flows flows engine) inputs = inl refl
+kind_fits : (o : ℕ) (terms : Terms) (today : Option ℤ) (index : Option IndexReading) (inputs : List input.Input)
+    → Fits (reading_of o terms today index inputs) (desk_calc (reading_of o terms today index inputs))
+kind_fits o (Curve terms) today index inputs = curve_fits o terms today index inputs
+kind_fits o (Implied base reference) today index inputs = implied_fits o base reference today index inputs
+kind_fits o (Stock quote) today index inputs = price_fits (reading_of o (Stock quote) today index inputs)
+kind_fits o (Composite parts) today index inputs = price_fits (reading_of o (Composite parts) today index inputs)
+kind_fits o (Flows flows engine) today index inputs = price_fits (reading_of o (Flows flows engine) today index inputs)
+kind_fits o (Quote value) today index inputs = price_fits (reading_of o (Quote value) today index inputs)
+kind_fits o (Derived minus first second) today index inputs =
+    price_fits (reading_of o (Derived minus first second) today index inputs)
+kind_fits o (Handle kind target) today index inputs = price_fits (reading_of o (Handle kind target) today index inputs)
+kind_fits o (Index terms fixings) today index inputs = price_fits (reading_of o (Index terms fixings) today index inputs)
+kind_fits o (Engine curve) today index inputs = price_fits (reading_of o (Engine curve) today index inputs)
 
-pub desk_fits : (reading : Reading) → IsWellFormed reading → Fits reading (desk_calc reading)
-desk_fits reading formed = price_fits reading reading.terms reading.inputs
+pub desk_fits : IsFitting desk_calc
+desk_fits reading formed = kind_fits reading.object reading.terms reading.today reading.index reading.inputs

@@ -1,65 +1,111 @@
 -- The prices of this project.
-use Rattle.std.specs.Prelude.{ℕ, ◌^◌, ◌&&◌, Bool, List, [], ◌∷◌, length, ℤ, pos, neg_ℤ, ◌*ℤ◌, ◌+ℤ◌, int_le, nat_le, if◌then◌else◌, Option, Some, None, Ok, Err}
-use Rattle.std.specs.Int.RustNames.{unsigned_abs}
-use Rattle.fixed_amount.specs.Rounding.{closest}
+use Rattle.std.specs.Prelude.{ℕ, List, [], ◌∷◌, ℤ, Option, Some, None, Result, Ok, Err}
 use Rattle.desk_terms.specs.declared.terms.Terms.{Terms}
-use Rattle.desk_terms.specs.declared.terms.Part.{Part}
 use Rattle.desk_terms.specs.declared.terms.Terms.TheVariants.{Quote, Derived, Handle, Curve, Implied, Index, Engine, Stock, Composite, Flows}
-use Rattle.desk_terms.specs.declared.value.Value.TheVariants.{Money}
+use Rattle.desk_terms.specs.declared.bench.BenchFault.{BenchFault}
+use Rattle.desk_terms.specs.declared.bench.BenchFault.TheVariants.{Refused, NoMemory}
+use Rattle.desk_terms.specs.declared.value.Value.{Value}
+use Rattle.desk_terms.specs.declared.value.Value.TheVariants.{Curve as CurveValue}
 use Rattle.desk_terms.specs.declared.value.Input as input
-use Rattle.desk_terms.specs.declared.cause.Cause.TheVariants.{TooLarge}
-use Rattle.desk_terms.specs.Reading.{Outcome, Calc}
+use Rattle.curve_terms.specs.declared.terms.CurveTerms.{CurveTerms}
+use Rattle.curve_points.specs.Curve.{Curve as CurveView}
+use Rattle.curve_points.specs.Implied.{implied_curve}
+use Rattle.curve_points.specs.declared.seen.ImpliedFault.{ImpliedFault}
+use Rattle.curve_points.specs.declared.seen.ImpliedFault.TheVariants as implied
+use Rattle.curve_bootstrap.specs.Built.{built_curve}
+use Rattle.curve_bootstrap.specs.declared.faults.BuildFault.{BuildFault}
+use Rattle.curve_bootstrap.specs.declared.faults.BuildFault.TheVariants as build
+use Rattle.desk_terms.specs.declared.cause.Cause.{Cause}
+use Rattle.desk_terms.specs.declared.cause.Cause.TheVariants.{Before, Past, Pillar, Discount, Negative, RateRange, DateRange, TooLarge}
+use Rattle.desk_terms.specs.Reading.{Reading, Outcome, Calc}
+use Rattle.discount_engines.specs.declared.faults.PriceFault.{PriceFault}
+use Rattle.discount_engines.specs.declared.faults.PriceFault.TheVariants as engine
+use Rattle.discount_engines.specs.Price.{instrument_price}
 
--- money within 10^24 units either way; more is refused (this project's profile)
-abbrev pub money_of : ℕ → ℤ → Outcome
-money_of o units = if int_le (neg_ℤ (pos (10 ^ 24))) units && int_le units (pos (10 ^ 24)) then Ok (Money units) else Err (TooLarge o)
+-- the rates among the inputs, in order
+abbrev pub rates_of : List input.Input → List ℤ
+rates_of [] = []
+rates_of (input.TheVariants.Rate rate ∷ inputs) = rate ∷ rates_of inputs
+rates_of (input.TheVariants.Money amount ∷ inputs) = rates_of inputs
+rates_of (input.TheVariants.Curve curve ∷ inputs) = rates_of inputs
 
--- a weight is at most 1,000,000 either way (this project's profile)
-abbrev pub is_weight : ℤ → Bool
-is_weight weight = nat_le (unsigned_abs weight) 1000000
+-- why the curve o is not built; no cause stands for want of memory
+abbrev pub build_cause : ℕ → BuildFault → Option Cause
+build_cause o (build.Pillar k) = Some (Pillar o k)
+build_cause o (build.Discount k) = Some (Discount o k)
+build_cause o (build.Negative k) = Some (Negative o k)
+build_cause o build.RateRange = Some (RateRange o)
+build_cause o build.DateRange = Some (DateRange o)
+build_cause o build.NoMemory = None
 
--- a weight times the value of its member; none beyond the limit of a weight, nor for a member that is no money
-abbrev pub product : Part → input.Input → Option ℤ
-product part (input.TheVariants.Rate rate) = None
-product part (input.TheVariants.Money amount) = if is_weight part.weight then Some (part.weight *ℤ amount) else None
+-- why o is no curve seen from a day: the day is outside the base curve, which the cause names, or a node of o is out of
+-- range
+abbrev pub implied_cause : ℕ → ℕ → ℤ → ImpliedFault → Option Cause
+implied_cause o base day implied.Before = Some (Before base day)
+implied_cause o base day implied.Past = Some (Past base day)
+implied_cause o base day (implied.Node k) = Some (Discount o k)
+implied_cause o base day implied.NoMemory = None
 
-abbrev pub plus : Option ℤ → Option ℤ → Option ℤ
-plus None b = None
-plus (Some a) None = None
-plus (Some a) (Some b) = Some (a +ℤ b)
+-- a refusal by its cause (no definition gives want of memory)
+abbrev pub refused : ℕ → Option Cause → Outcome
+refused o (Some cause) = Err cause
+refused o None = Err (TooLarge o)
 
--- the sum over the parts, exact (QuantLib's `CompositeInstrument::performCalculations`)
-abbrev pub weighted : List Part → List input.Input → Option ℤ
-weighted [] inputs = Some (pos 0)
-weighted (part ∷ parts) [] = None
-weighted (part ∷ parts) (i ∷ inputs) = plus (product part i) (weighted parts inputs)
+-- the same as the answer of a bench
+abbrev pub fault_of : Option Cause → BenchFault
+fault_of (Some cause) = Refused cause
+fault_of None = NoMemory
 
-abbrev pub money_or_none : ℕ → Option ℤ → Outcome
-money_or_none o None = Err (TooLarge o)
-money_or_none o (Some units) = money_of o units
+-- what a bench answers where a curve is built, or is not
+abbrev pub built_answer : ℕ → Result CurveView BuildFault → Result Value BenchFault
+built_answer o (Ok curve) = Ok (CurveValue curve)
+built_answer o (Err fault) = Err (fault_of (build_cause o fault))
 
--- a composite of at most 4,096 parts, which is all that a session makes (this project's profile)
-abbrev pub composite_price : ℕ → List Part → List input.Input → Outcome
-composite_price o parts inputs = if nat_le (length parts) 4096 then money_or_none o (weighted parts inputs) else Err (TooLarge o)
+-- and where one is seen from a day, or is not
+abbrev pub seen_answer : ℕ → ℕ → ℤ → Result CurveView ImpliedFault → Result Value BenchFault
+seen_answer o base day (Ok curve) = Ok (CurveValue curve)
+seen_answer o base day (Err fault) = Err (fault_of (implied_cause o base day fault))
 
--- a stock is worth its quote, rounded from units of 10^-9 to units of 10^-6 (QuantLib's `Stock::performCalculations`)
-abbrev pub stock_price : ℕ → List input.Input → Outcome
-stock_price o (input.TheVariants.Rate rate ∷ []) = money_of o (closest rate 1000)
-stock_price o inputs = Err (TooLarge o)
+-- a curve that is built, and one that is seen from another day
+abbrev pub built : ℕ → Result CurveView BuildFault → Outcome
+built o (Ok curve) = Ok (CurveValue curve)
+built o (Err fault) = refused o (build_cause o fault)
 
--- The price by kind. A quote, a sum, a handle, an index and an engine are never priced; a curve and an instrument of
--- flows are not priced by this bench yet.
-abbrev pub price_of : ℕ → Terms → List input.Input → Outcome
-price_of o (Stock quote) inputs = stock_price o inputs
-price_of o (Composite parts) inputs = composite_price o parts inputs
-price_of o (Quote value) inputs = Err (TooLarge o)
-price_of o (Derived minus first second) inputs = Err (TooLarge o)
-price_of o (Handle kind target) inputs = Err (TooLarge o)
-price_of o (Curve terms) inputs = Err (TooLarge o)
-price_of o (Implied curve reference) inputs = Err (TooLarge o)
-price_of o (Index terms fixings) inputs = Err (TooLarge o)
-price_of o (Engine curve) inputs = Err (TooLarge o)
-price_of o (Flows flows engine) inputs = Err (TooLarge o)
+abbrev pub seen : ℕ → ℕ → ℤ → Result CurveView ImpliedFault → Outcome
+seen o base day (Ok curve) = Ok (CurveValue curve)
+seen o base day (Err fault) = refused o (implied_cause o base day fault)
 
+-- a curve of the rates of its helpers (QuantLib's `PiecewiseYieldCurve`)
+abbrev pub curve_price : ℕ → CurveTerms → Option ℤ → List input.Input → Outcome
+curve_price o terms None inputs = Err (TooLarge o)
+curve_price o terms (Some today) inputs = built o (built_curve o terms today (rates_of inputs))
+
+-- a curve seen from its own reference day (QuantLib's `ImpliedTermStructure`)
+abbrev pub implied_price : ℕ → ℤ → List input.Input → Outcome
+implied_price o reference (input.TheVariants.Curve curve ∷ []) =
+    seen o curve.owner reference (implied_curve curve o reference)
+implied_price o reference inputs = Err (TooLarge o)
+
+-- what a bench answers where an instrument is priced, or is not
+abbrev pub priced_answer : Result Value PriceFault → Result Value BenchFault
+priced_answer (Ok value) = Ok value
+priced_answer (Err (engine.Refused cause)) = Err (Refused cause)
+priced_answer (Err engine.NoMemory) = Err NoMemory
+
+-- THE PRICE by kind: a curve and an implied curve here, all others as instruments are priced, of which a quote, a sum, a
+-- handle, an index and an engine are none
+abbrev pub price_of : Terms → Reading → Outcome
+price_of (Curve terms) reading = curve_price reading.object terms reading.today reading.inputs
+price_of (Implied curve reference) reading = implied_price reading.object reference reading.inputs
+price_of (Stock quote) reading = instrument_price reading
+price_of (Composite parts) reading = instrument_price reading
+price_of (Flows flows engine) reading = instrument_price reading
+price_of (Quote value) reading = instrument_price reading
+price_of (Derived minus first second) reading = instrument_price reading
+price_of (Handle kind target) reading = instrument_price reading
+price_of (Index terms fixings) reading = instrument_price reading
+price_of (Engine curve) reading = instrument_price reading
+
+-- THE CALC of this project's benches
 abbrev pub desk_calc : Calc
-desk_calc reading = price_of reading.object reading.terms reading.inputs
+desk_calc reading = price_of reading.terms reading

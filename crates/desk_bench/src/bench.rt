@@ -36,9 +36,9 @@ impl Bench for DeskBench {
 
     ghost fits = { λ _ reading formed. desk_fits reading formed };
 
-    fn price(&mut self, _alloc: Global, job: &Job<'_>) -> Result<Value, BenchFault> {
+    fn price(&mut self, alloc: Global, job: &Job<'_>) -> Result<Value, BenchFault> {
         self.calls = next_count(self.calls);
-        price_of(job).map_err(BenchFault::Refused)
+        price_of(alloc, job)
     }
 }
 
@@ -93,15 +93,27 @@ impl Bench for ListBench {
 
     ghost fits = { λ _ reading formed. desk_fits reading formed };
 
-    fn price(&mut self, _alloc: Global, job: &Job<'_>) -> Result<Value, BenchFault> {
+    fn price(&mut self, alloc: Global, job: &Job<'_>) -> Result<Value, BenchFault> {
         self.calls = next_count(self.calls);
-        let outcome = price_of(job);
-        self.log.push(LogEntry {
-            object: job.object,
-            priced: outcome.is_ok(),
-        })?;
-        outcome.map_err(BenchFault::Refused)
+        match price_of(alloc, job) {
+            Ok(value) => {
+                self.log.push(entry(job.object, true))?;
+                Ok(value)
+            }
+            Err(BenchFault::Refused(cause)) => {
+                self.log.push(entry(job.object, false))?;
+                Err(BenchFault::Refused(cause))
+            }
+            Err(BenchFault::NoMemory) => Err(BenchFault::NoMemory),
+        }
     }
+}
+
+// An entry of a log.
+fn entry(object: ObjId, priced: bool) -> LogEntry
+    ensures { result ≡ record { object = object; priced = priced } }
+{
+    LogEntry { object, priced }
 }
 
 // A count after one call more: it stands still at the last value of a u64.

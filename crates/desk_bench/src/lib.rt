@@ -6,11 +6,12 @@
 ghost use Rattle.desk_bench.specs.Examples.{AreWorked};
 
 mod bench;
+mod curves;
 mod pricing;
 
 pub use bench::{DeskBench, ListBench, LogEntry, LogList};
 
-/// The definitions give what a hand works out for stocks and composites.
+/// The definitions give what a hand works out for stocks, composites and implied curves.
 fn prices_are_worked_through()
     ensures { AreWorked }
 {}

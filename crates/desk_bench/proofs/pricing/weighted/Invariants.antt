@@ -1,7 +1,0 @@
-use Rattle.std.proofs.Common.{◌≡◌, ◌≤◌, ◌*◌, ◌^◌, Some, drop}
-use Rattle.std.specs.Int.RustNames.{unsigned_abs}
-use Rattle.desk_bench.specs.Pricing.{plus, weighted}
-use Rattle.desk_bench.proofs.pricing.weighted.Given as goal
-
-abbrev pub invariant-loop-at : goal.invariant-loop-at
-invariant-loop-at l = (plus (Some l.sum) (weighted (drop l.at l.parts) (drop l.at l.inputs)) ≡ weighted l.parts l.inputs) × (unsigned_abs l.sum ≤ l.at * 10 ^ 32)

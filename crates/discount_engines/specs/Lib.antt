@@ -1,0 +1,9 @@
+pub mod Composite
+pub mod Examples
+pub mod Fits
+pub mod Flows
+pub mod Laws
+pub mod Money
+pub mod Price
+pub mod Stock
+pub mod Worth

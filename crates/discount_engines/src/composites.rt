@@ -1,0 +1,75 @@
+// The price of a composite.
+ghost use Rattle.std.specs.Prelude.{◌≡◌, ◌≤◌, ◌^◌, ◌*ℤ◌, length, IfSome, unsigned_abs};
+ghost use Rattle.discount_engines.specs.Composite.{product, weighted, composite_price};
+
+use crate::money::{money_of, sum_of};
+use desk_names::ObjId;
+use desk_terms::{Cause, Input, Part, Value};
+use fixed_amount::Amount;
+
+// The most that a weight is, either way.
+const MOST_WEIGHT: u64 = 1_000_000;
+
+// The most parts of a composite.
+const MOST_PARTS: usize = 4096;
+
+/// The price of a composite.
+pub(crate) fn composite_price(
+    object: ObjId,
+    parts: &[Part],
+    inputs: &[Input],
+) -> Result<Value, Cause>
+    ensures { result ≡ composite_price object parts.now inputs.now }
+{
+    if parts.len() > MOST_PARTS {
+        return Err(Cause::TooLarge(object));
+    }
+    match weighted(parts, inputs) {
+        None => Err(Cause::TooLarge(object)),
+        Some(units) => money_of(object, units),
+    }
+}
+
+// The sum of each weight times the value of its member.
+fn weighted(parts: &[Part], inputs: &[Input]) -> Option<i128>
+    requires { length parts.now ≤ 4096 }
+    ensures { result ≡ weighted parts.now inputs.now }
+{
+    let mut sum: i128 = 0;
+    for at in 0..parts.len() {
+        if at >= inputs.len() {
+            return None;
+        }
+        match product(&parts[at], &inputs[at]) {
+            None => return None,
+            Some(units) => sum = sum_of(sum, units),
+        }
+    }
+    Some(sum)
+}
+
+// A weight times the value of its member.
+fn product(part: &Part, input: &Input) -> Option<i128>
+    ensures value { result ≡ product part.now input.now }
+    ensures bound { IfSome result (λ units. unsigned_abs units ≤ 10 ^ 32) }
+{
+    match input {
+        Input::Rate(_) => None,
+        Input::Curve(_) => None,
+        Input::Money(amount) => {
+            if part.weight.unsigned_abs() > MOST_WEIGHT {
+                return None;
+            }
+            Some(times(part.weight, *amount))
+        }
+    }
+}
+
+// A weight times an amount.
+fn times(weight: i64, amount: Amount) -> i128
+    requires { unsigned_abs weight ≤ 1000000 }
+    ensures value { result ≡ weight *ℤ amount }
+    ensures bound { unsigned_abs result ≤ 10 ^ 32 }
+{
+    weight as i128 * amount.0
+}

@@ -1,0 +1,19 @@
+//! What instruments are worth: a stock its quote, a composite the weighted sum of its members, a bond, swap or forward
+//! rate agreement its discounted flows.
+//!
+//! `price`, `PriceFault`. Functions whose names end in `law` do nothing: their contracts are what is proved of the
+//! definitions.
+#![tactic(auto)]
+
+mod composites;
+mod faults;
+mod flow_values;
+mod laws;
+mod money;
+mod prices;
+mod stocks;
+mod worths;
+
+pub use faults::PriceFault;
+pub use laws::{first_cause_law, worth_of_both_law};
+pub use prices::price;

@@ -1,0 +1,26 @@
+//! Compares values of bonds, forward rate agreements and swaps with those of QuantLib 1.29, over the curves of
+//! `curves.csv`, which are QuantLib's nodes rounded to units of 10^-12. Each row of `instruments.csv` has QuantLib's value,
+//! the value in whole units over these nodes, and the gap between the two: half a unit for each rounding of a known amount
+//! or of the value, and for each floating amount what half a unit of 10^-9 of its rate is worth. Prints each row that
+//! differs, and how many agree. A row that cannot be read is an error.
+#![tactic(auto)]
+
+mod instruments;
+mod jobs;
+mod markets;
+mod numbers;
+mod rows;
+mod tallies;
+mod terms;
+
+use anyhow::Result;
+use markets::Markets;
+use rows::compare_values;
+use std::fs;
+
+fn main(rt: HostRuntime) -> Result<()> {
+    let curves = fs::read_to_string(&rt, "curves.csv")?;
+    let markets = Markets::read(rt.alloc(), &curves)?;
+    let instruments = fs::read_to_string(&rt, "instruments.csv")?;
+    compare_values(&rt, rt.alloc(), &markets, &instruments)
+}

@@ -1,13 +1,14 @@
 -- Lines written out by hand: each cause, each mark and each refusal once. The names are numbered in the order of their
 -- list; the objects are, in order of their numbers, `o`, `c`, `x`, `i`, `h`, `q` and `t`.
 use Rattle.std.specs.Prelude.{◌≡◌, ℕ, List, [], ◌∷◌, map, pos, negsuc, codes, Ok, Err}
-use Rattle.desk_terms.specs.declared.value.Value.TheVariants.{Money}
+use Rattle.curve_points.specs.Curve.{Curve as CurveView}
+use Rattle.desk_terms.specs.declared.value.Value.TheVariants.{Money, Curve}
 use Rattle.desk_terms.specs.declared.cause.Cause.{Cause}
 use Rattle.desk_terms.specs.declared.cause.Cause.TheVariants.{Unset, Empty, NoEngine, NoFixing, Before, Past, Pillar, Discount, Negative, RateRange, DateRange, TooLarge, Unpriced}
 use Rattle.desk_terms.specs.declared.asked.Mark.TheVariants.{Fresh, Frozen, Late, Held, Recalc}
 use Rattle.session_commands.specs.declared.refusal.Refusal.{Refusal}
 use Rattle.session_commands.specs.declared.refusal.Refusal.TheVariants.{Unknown, Taken, Kind, Cycle, InUse, FixingExists, TooMany, AlreadyRegistered, NotRegistered, Deferred, Unbuilt}
-use Rattle.price_report.specs.Line.{asked_line, refusal_line, over_line}
+use Rattle.price_report.specs.Line.{asked_line, df_line, refusal_line, over_line}
 
 abbrev pub ten_names : List (List ℕ)
 ten_names =
@@ -35,6 +36,18 @@ refusals =
 abbrev pub cause_line : Cause → List ℕ
 cause_line cause = asked_line ten_names seven_objects 7 (Err cause) Fresh 0
 
+-- the curve of `c` from 2024-01-02 with the factor 0.990099009901 on 2024-04-11, and one with the least and the greatest
+-- factor, on 1901-01-02 and 2199-12-31
+abbrev pub one_node : CurveView
+one_node = record { owner = 1; reference = pos 19_724; nodes = record { day = pos 19_824; factor = pos 990_099_009_901 } ∷ [] }
+
+abbrev pub extremes : CurveView
+extremes = record {
+  owner = 1;
+  reference = negsuc 25_201;
+  nodes = record { day = negsuc 25_200; factor = pos 1 } ∷ record { day = pos 84_005; factor = pos 4_000_000_000_000 } ∷ [];
+}
+
 -- what the definitions give there
 pub record AreWorked : Type 0 where
   pub plain : map cause_line plain_causes ≡
@@ -52,6 +65,20 @@ pub record AreWorked : Type 0 where
       ≡ codes "s -12.345678 held 18446744073709551615\n"
   pub recalc : asked_line ten_names seven_objects 7 (Ok (Money (pos 100_000_000_000_000_000_000_000_000))) Recalc 12
       ≡ codes "s 100000000000000000000.000000 recalc 12\n"
+  pub curve : asked_line ten_names seven_objects 4 (Ok (Curve one_node)) Fresh 1
+      ≡ codes "c curve 2024-01-02 1.000000000000 2024-04-11 0.990099009901 fresh 1\n"
+  pub bare_curve : asked_line ten_names seven_objects 4 (Ok (Curve (record one_node { nodes = [] }))) Late 0
+      ≡ codes "c curve 2024-01-02 1.000000000000 late 0\n"
+  pub greatest : asked_line ten_names seven_objects 4 (Ok (Curve extremes)) Held 2
+      ≡ codes "c curve 1901-01-01 1.000000000000 1901-01-02 0.000000000001 2199-12-31 4.000000000000 held 2\n"
+  pub factor : df_line ten_names seven_objects 4 (pos 19_774) (Ok (pos 995_049_504_951)) Fresh 0
+      ≡ codes "c 2024-02-21 0.995049504951 fresh 0\n"
+  pub past : df_line ten_names seven_objects 4 (pos 19_825) (Err (Past 1 (pos 19_825))) Fresh 0
+      ≡ codes "c refused past c 2024-04-12 0\n"
+  pub before : df_line ten_names seven_objects 4 (pos 19_723) (Err (Before 1 (pos 19_723))) Fresh 0
+      ≡ codes "c refused before c 2024-01-01 0\n"
+  pub no_curve : df_line ten_names seven_objects 4 (pos 19_774) (Err (Unset 5)) Frozen 3
+      ≡ codes "c refused unset q 3\n"
   pub refused : map (refusal_line ten_names seven_objects (codes "set")) refusals ≡
       codes "refused set unknown z\n" ∷ codes "refused set taken q\n" ∷ codes "refused set kind s\n"
       ∷ codes "refused set cycle\n" ∷ codes "refused set inuse h\n" ∷ codes "refused set exists 0.050000000\n"

@@ -1,11 +1,12 @@
 // The line of an ask.
 ghost use Rattle.std.specs.Prelude.{◌≡◌, ◌++◌, OnOk, OnErr, IfOk, option_copied};
 ghost use Rattle.desk_terms.specs.Asked.{Shows};
-ghost use Rattle.desk_terms.specs.Reading.{Outcome};
-ghost use Rattle.price_report.specs.Line.{answer_text, asked_line};
+ghost use Rattle.desk_terms.specs.Reading.{Outcome, outcome_in};
+ghost use Rattle.price_report.specs.Line.{value_text, answer_text, asked_line};
 
 use crate::Namer;
 use crate::cause::{push_cause, push_count};
+use crate::curve::push_curve;
 use desk_names::NameId;
 use desk_terms::{Asked, Cause, Mark, Value};
 use fixed_amount::print_decimal;
@@ -36,13 +37,13 @@ pub fn asked_line(
 }
 
 // What the answer shows.
-fn shown(asked: &Asked, value: Option<&Value>) -> Result<Value, Cause>
+fn shown<'a>(asked: &Asked, value: Option<&'a Value>) -> Result<&'a Value, Cause>
     requires given { (outcome : Outcome) × Shows asked.now.cause (option_copied value) outcome }
-    ensures { (outcome : Outcome) → Shows asked.now.cause (option_copied value.entry) outcome → outcome ≡ result }
+    ensures { (outcome : Outcome) → Shows asked.now.cause (option_copied value.entry) outcome → outcome ≡ outcome_in result }
 {
     match (&asked.cause, value) {
         (Some(cause), _) => Err(*cause),
-        (None, Some(value)) => Ok(*value),
+        (None, Some(value)) => Ok(value),
         (None, None) => unreachable!(),
     }
 }
@@ -52,13 +53,13 @@ fn shown(asked: &Asked, value: Option<&Value>) -> Result<Value, Cause>
 fn asked_bytes(
     alloc: Global,
     name: NameId,
-    outcome: &Result<Value, Cause>,
+    outcome: &Result<&Value, Cause>,
     mark: Mark,
     runs: u64,
     namer: &Namer<'_>,
 ) -> Result<Vec<u8>, AllocError>
     ensures { IfOk result (λ line. line.items
-        ≡ asked_line namer.now.names.now namer.now.of_object.now name outcome.now mark runs) }
+        ≡ asked_line namer.now.names.now namer.now.of_object.now name (outcome_in outcome.now) mark runs) }
 {
     let mut line = Vec::new(alloc);
     line.extend_from_slice(namer.name(name))?;
@@ -69,20 +70,20 @@ fn asked_bytes(
     Ok(line)
 }
 
-// Appends an amount and the mark, or the cause.
+// Appends a value and the mark, or the cause.
 fn push_answer(
     alloc: Global,
-    outcome: &Result<Value, Cause>,
+    outcome: &Result<&Value, Cause>,
     mark: Mark,
     namer: &Namer<'_>,
     line: &mut Vec<u8>,
 ) -> Result<(), AllocError>
     ensures { OnOk result (line.new.items
-        ≡ line.old.items ++ answer_text namer.now.names.now namer.now.of_object.now outcome.now mark) }
+        ≡ line.old.items ++ answer_text namer.now.names.now namer.now.of_object.now (outcome_in outcome.now) mark) }
 {
     match outcome {
-        Ok(Value::Money(amount)) => {
-            print_decimal(alloc, amount.units(), MONEY_PLACES, line)?;
+        Ok(value) => {
+            push_value(alloc, value, line)?;
             line.extend_from_slice(b" ")?;
             line.extend_from_slice(mark.word())
         }
@@ -90,5 +91,15 @@ fn push_answer(
             line.extend_from_slice(b"refused ")?;
             push_cause(alloc, cause, namer, line)
         }
+    }
+}
+
+// Appends an amount or a curve.
+fn push_value(alloc: Global, value: &Value, line: &mut Vec<u8>) -> Result<(), AllocError>
+    ensures { OnOk result (line.new.items ≡ line.old.items ++ value_text value.now) }
+{
+    match value {
+        Value::Money(amount) => print_decimal(alloc, amount.units(), MONEY_PLACES, line),
+        Value::Curve(curve) => push_curve(alloc, curve, line),
     }
 }

@@ -1,16 +1,20 @@
-//! The lines of a transcript: what an ask shows, which command is refused and why, and which watcher was stopped.
-//! Each line is built apart and appended whole, so that after want of memory the output is as it was.
-//! Offers `Namer`, `asked_line`, `refusal_line` and `over_line`.
+//! The lines of a transcript: what an ask shows, the discount factor of a curve at a day, which command is refused and
+//! why, and which watcher was stopped. Each line is built apart and appended whole, so that after want of memory the
+//! output is as it was.
+//! Offers `Namer`, `asked_line`, `df_line`, `refusal_line` and `over_line`.
 #![tactic(auto)]
 
 mod asked;
 mod cause;
+mod curve;
+mod df;
 mod laws;
 mod namer;
 mod over;
 mod refused;
 
 pub use asked::asked_line;
+pub use df::df_line;
 pub use namer::Namer;
 pub use over::over_line;
 pub use refused::refusal_line;

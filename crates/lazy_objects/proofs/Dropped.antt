@@ -11,12 +11,13 @@ use Rattle.desk_model.specs.Market.{terms_in, is_given, is_watcher, least_user}
 use Rattle.desk_model.specs.State.{State, unpriced, is_frozen, is_source}
 use Rattle.desk_model.specs.Sound.{IsSound, KeepsCurrent}
 use Rattle.desk_model.specs.Laws.{Keeps}
+use Rattle.desk_model.specs.Links.{IsRanged}
 use Rattle.desk_model.specs.Effect.{dropped}
 use Rattle.desk_model.proofs.Births.{dropped_keeps}
 use Rattle.desk_model.proofs.KindsKept.{dropped_kinded}
 use Rattle.desk_model.proofs.Carried.{sound_kept}
 use Rattle.desk_model.proofs.Users.{none_uses}
-use Rattle.lazy_objects.specs.Slots.{market_of, state_of, is_made}
+use Rattle.lazy_objects.specs.Slots.{market_of, state_of}
 use Rattle.lazy_objects.specs.Scratch.{ScratchView, IsEmpty}
 use Rattle.lazy_objects.specs.Stands.{Stands}
 
@@ -37,6 +38,19 @@ set_as f b l x a d here none was y = elim (cases_eq y x) [
   | inr other ↦ ap f (get_or-set_other l x y a d other) ∙ was y
 ]
 
+-- what is left is in range
+set_in : (slots : List Slot) (x : ℕ) → ((y : ℕ) → IsRanged (terms_in (slice_index_or slots y Free))) → (y : ℕ) → IsRanged (terms_in (slice_index_or (slice_set slots x Free) y Free))
+set_in slots x was y = elim (cases_eq y x) [
+  | inl same ↦ subst (λ (t : Slot). IsRanged (terms_in t)) (sym (ap (λ n. slice_index_or (slice_set slots x Free) n Free) same ∙ free_there)) tt
+  | inr other ↦ subst (λ (t : Slot). IsRanged (terms_in t)) (sym (get_or-set_other slots x y Free Free other)) (was y)
+]
+  where
+    free_there : slice_index_or (slice_set slots x Free) x Free ≡ Free
+    free_there = elim (cases_lt x (length slots)) [
+      | inl within ↦ get_or-set_same slots x Free Free within
+      | inr past ↦ get_or_past (slice_set slots x Free) x Free (let e = length-set slots x Free in omega arith)
+    ]
+
 module _ (s : State) (scratch : ScratchView) (stands : Stands s scratch) (x : ℕ) (apart : x ≢ 0) (unused : least_user s.market x ≡ None) where
   drop_keeps : Keeps s (dropped x s)
   drop_keeps = dropped_keeps s x stands.whole apart (none_uses s.market x unused)
@@ -50,7 +64,7 @@ module _ (s : State) (scratch : ScratchView) (stands : Stands s scratch) (x : �
       sources = set_as (λ (k : Kept). k.source) false s.kept x unpriced unpriced refl refl stands.unheld.sources;
     };
     kinds = dropped_kinded s x stands.whole apart (none_uses s.market x unused) stands.kinds;
-    made = set_as (λ (t : Slot). is_made (terms_in t)) true s.market.objects x Free Free refl refl stands.made;
+    ranged = set_in s.market.objects x stands.ranged;
     unwatched = set_as is_watcher false s.market.objects x Free Free refl refl stands.unwatched;
     limit = let l = length-set s.market.objects x Free in let k = stands.limit in omega arith;
     empty = subst (λ (n : ℕ). IsEmpty n scratch) (sym (length-set s.market.objects x Free)) stands.empty;

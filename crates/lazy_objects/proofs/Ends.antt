@@ -4,14 +4,13 @@ use Rattle.std.specs.Prelude.{ℤ, slice_index_or}
 use Rattle.std.proofs.lemmas.List.{length-append}
 use Rattle.std.proofs.lemmas.Bool.{cases_eq}
 use Rattle.desk_terms.specs.declared.terms.Terms.{Terms}
-use Rattle.desk_terms.specs.Terms.{kind_of}
-use Rattle.desk_terms.specs.Reading.{Calc}
+use Rattle.desk_terms.specs.Reading.{Calc, IsFitting}
 use Rattle.desk_model.specs.declared.kept.Kept.{Kept}
 use Rattle.desk_model.specs.declared.slot.Slot.{Slot}
 use Rattle.desk_model.specs.declared.slot.Slot.TheVariants.{Live, Today}
 use Rattle.desk_model.specs.Market.{terms_in, terms_at, slot_at, is_watcher}
 use Rattle.desk_model.specs.State.{State, kept_at, unpriced, is_frozen, is_source}
-use Rattle.desk_model.specs.Links.{AreOfKind, is_lazy_at}
+use Rattle.desk_model.specs.Links.{AreOfKind, IsRanged, is_lazy_at}
 use Rattle.desk_model.specs.Sound.{IsSound, KeepsCurrent}
 use Rattle.desk_model.specs.Laws.{Keeps}
 use Rattle.desk_model.specs.Effect.{start, added, made}
@@ -19,7 +18,7 @@ use Rattle.desk_model.proofs.Births.{old_slot, new_slot, added_keeps}
 use Rattle.desk_model.proofs.KindsKept.{may_be_made, added_kinded}
 use Rattle.desk_model.proofs.Starts.{whole_start, kinded_start}
 use Rattle.desk_model.proofs.Carried.{keeps_itself, sound_kept}
-use Rattle.lazy_objects.specs.Slots.{makes, is_made, state_of}
+use Rattle.lazy_objects.specs.Slots.{state_of}
 use Rattle.lazy_objects.specs.Scratch.{ScratchView, IsEmpty}
 use Rattle.lazy_objects.specs.Asks.{MayAsk, Stays}
 use Rattle.lazy_objects.specs.Stands.{Stands}
@@ -42,7 +41,7 @@ started today scratch empty = record {
   whole = whole_start today;
   unheld = record { frozen = λ x. flag_none x; sources = λ x. source_none x };
   kinds = kinded_start today;
-  made = λ x. made_none x;
+  ranged = λ x. ranged_none x;
   unwatched = λ x. unwatched_none x;
   limit = omega arith;
   empty = empty;
@@ -60,11 +59,11 @@ started today scratch empty = record {
     unwatched_none zero = refl
     unwatched_none (suc x) = refl
 
-    made_none : (x : ℕ) → is_made (terms_at (start today).market x) ≡ true
-    made_none zero = refl
-    made_none (suc x) = refl
+    ranged_none : (x : ℕ) → IsRanged (terms_at (start today).market x)
+    ranged_none zero = tt
+    ranged_none (suc x) = tt
 
-module _ (s : State) (scratch new : ScratchView) (terms : Terms) (stands : Stands s scratch) (makes_it : makes (kind_of terms) ≡ true) (kinds : AreOfKind s.market (Some terms)) where
+module _ (s : State) (scratch new : ScratchView) (terms : Terms) (stands : Stands s scratch) (own : IsRanged (Some terms)) (kinds : AreOfKind s.market (Some terms)) where
   pub add_keeps : Keeps s (made terms s)
   unfolding made
   add_keeps = added_keeps s (Live terms) stands.whole (may_be_made s stands.whole terms kinds)
@@ -78,9 +77,9 @@ module _ (s : State) (scratch new : ScratchView) (terms : Terms) (stands : Stand
       sources = λ x. ap (λ (k : Kept). k.source) (pushed_default s.kept unpriced x) ∙ stands.unheld.sources x;
     };
     kinds = added_kinded s (Live terms) kinds stands.kinds;
-    made = λ x. elim (cases_eq x (length s.market.objects)) [
-      | inl same ↦ ap (λ (n : ℕ). is_made (terms_at (added (Live terms) s).market n)) same ∙ ap (λ (t : Slot). is_made (terms_in t)) (new_slot s (Live terms)) ∙ makes_it
-      | inr other ↦ ap (λ (t : Slot). is_made (terms_in t)) (old_slot s (Live terms) x other) ∙ stands.made x
+    ranged = λ x. elim (cases_eq x (length s.market.objects)) [
+      | inl same ↦ subst (λ (t : Slot). IsRanged (terms_in t)) (sym (ap (λ (n : ℕ). slot_at (added (Live terms) s).market n) same ∙ new_slot s (Live terms))) own
+      | inr other ↦ subst (λ (t : Slot). IsRanged (terms_in t)) (sym (old_slot s (Live terms) x other)) (stands.ranged x)
     ];
     unwatched = λ x. elim (cases_eq x (length s.market.objects)) [
       | inl same ↦ ap (λ (n : ℕ). is_watcher (slot_at (added (Live terms) s).market n)) same ∙ ap is_watcher (new_slot s (Live terms))
@@ -96,12 +95,12 @@ module _ (s : State) (scratch new : ScratchView) (terms : Terms) (stands : Stand
 pub keeps_same : (s : State) (scratch : ScratchView) → Stands s scratch → KeepsCurrent s s
 keeps_same s scratch stands = (keeps_itself s stands.whole).current
 
-pub may_ask : (calc : Calc) (s : State) (o : ℕ) (scratch : ScratchView) → Stands s scratch → IsSound calc s → is_lazy_at s.market o ≡ true → MayAsk calc s o
-may_ask calc s o scratch stands sound lazy = record { whole = stands.whole; unheld = stands.unheld; sound = sound; kinds = stands.kinds; made = stands.made; lazy = lazy; limit = stands.limit }
+pub may_ask : (calc : Calc) (s : State) (o : ℕ) (scratch : ScratchView) → Stands s scratch → IsSound calc s → is_lazy_at s.market o ≡ true → IsFitting calc → MayAsk calc s o
+may_ask calc s o scratch stands sound lazy fits = record { fits = fits; whole = stands.whole; unheld = stands.unheld; sound = sound; kinds = stands.kinds; ranged = stands.ranged; lazy = lazy; limit = stands.limit }
 
 -- an ask changes nothing of the market
 pub stands_then : (calc : Calc) (s : State) (kept : List Kept) (scratch new : ScratchView) → Stands s scratch → Stays calc (record s { kept = kept }) → IsEmpty (length s.market.objects) new → Stands (record s { kept = kept }) new
-stands_then calc s kept scratch new stands stays empty = record { whole = stays.whole; unheld = stays.unheld; kinds = stands.kinds; made = stands.made; unwatched = stands.unwatched; limit = stands.limit; empty = empty }
+stands_then calc s kept scratch new stands stays empty = record { whole = stays.whole; unheld = stays.unheld; kinds = stands.kinds; ranged = stands.ranged; unwatched = stands.unwatched; limit = stands.limit; empty = empty }
 
 pub added_state : (today : ℤ) (slots slots2 : List Slot) (kept kept2 : List Kept) (terms : Terms) → slots2 ≡ slots ++ Live terms ∷ [] → kept2 ≡ kept ++ unpriced ∷ [] → state_of today slots2 kept2 ≡ made terms (state_of today slots kept)
 unfolding made

@@ -21,7 +21,9 @@ use Rattle.desk_model.specs.declared.entry.Next.TheVariants.{Ready, First, Stops
 use Rattle.desk_model.specs.Market.{terms_at, role_of, is_lazy}
 use Rattle.desk_model.specs.Uses.{input_at, uses_of, uses, needs, reading_at}
 use Rattle.desk_model.specs.Fresh.{inputs_by, reading_over, priced}
-use Rattle.desk_model.specs.Links.{AreOfKind, is_lazy_at}
+use Rattle.desk_model.specs.Links.{AreOfKind, is_lazy_at, IsRanged}
+use Rattle.desk_model.specs.Laws.{AreValues}
+use Rattle.desk_model.proofs.Valued.{seen_values}
 use Rattle.desk_model.specs.State.{State, kept_at, unpriced, last_of, held, seen, shows, each_kept, is_frozen, is_source}
 use Rattle.desk_model.specs.Visit.{Visit, log_of, value_among, has_value, is_idle, with_value, or_value, stored, visit_by, runs, asked}
 use Rattle.desk_model.specs.Next.{and_next, and_answer, next_of}
@@ -36,7 +38,7 @@ use Rattle.desk_model.proofs.Steps.{finish, idle_visit, Answers, first_busy, wal
 use Rattle.desk_model.proofs.Finish.{finish_all, finish_push, finish_value, finish_fault, finish_stop}
 use Rattle.desk_model.proofs.Clear.{shows_seen}
 use Rattle.desk_model.proofs.Changes.{lazy_within}
-use Rattle.lazy_objects.specs.Slots.{is_now, answer_of, is_made}
+use Rattle.lazy_objects.specs.Slots.{is_now, answer_of}
 use Rattle.lazy_objects.specs.Asks.{Asks, IsUnheld, MayAsk, Stays, Computes}
 use Rattle.lazy_objects.proofs.Stacks.{Rising, rising_length, turned}
 use Rattle.lazy_objects.proofs.Extends.{finish_extends}
@@ -112,7 +114,7 @@ log_more (call ∷ calls) x r = ap (λ (l : List (ℕ × Bool)). (call.0, is_ok 
 -- tests that agree on what is needed give the same step
 pub next_same : (f g : ℕ → Bool) (answer : ℕ → Outcome) (entries : List Entry) → ((x : ℕ) → f x ≡ g x) → next_of f answer entries ≡ next_of g answer entries
 next_same f g answer [] same = refl
-next_same f g answer (Gives i ∷ entries) same = ap (and_next i) (next_same f g answer entries same)
+next_same f g answer (Gives rate ∷ entries) same = ap (and_next (input.TheVariants.Rate rate)) (next_same f g answer entries same)
 next_same f g answer (Needs x ∷ entries) same =
     ap (λ (b : Bool). if b then and_answer (answer x) (next_of f answer entries) else First x) (same x)
     ∙ ap (λ (n : Next). if g x then and_answer (answer x) n else First x) (next_same f g answer entries same)
@@ -159,6 +161,10 @@ now_idle calc s calls o may closed y = elim (cases_Bool (has_value calls y)) [
     or_no : (a b : Bool) → b ≡ false → (a || b) ≡ a
     or_no true b e = refl
     or_no false b e = e
+
+-- what is seen of an object is a value that it may have
+values_of : (calc : Calc) (s : State) (o : ℕ) → MayAsk calc s o → AreValues s.market (seen calc s)
+values_of calc s o may = seen_values calc may.fits s may.whole may.kinds may.ranged
 
 fit_of : (calc : Calc) (s : State) (o : ℕ) → MayAsk calc s o → HoldsFit s
 fit_of calc s o may = holds_fit s may.whole.links (thawed_forwarder s may.whole)
@@ -395,11 +401,8 @@ module _ (calc : Calc) (s : State) (o : ℕ) (count0 : ℕ) (log0 : Option (List
     pub fits : (inputs : List input.Input) (terms : Terms) → next_of (is_now kept) (answer_of kept) (uses s.market top) ≡ Ready inputs → terms_at s.market top ≡ Some terms → IsWellFormed (reading_at s.market top terms inputs)
     fits inputs terms next there =
         let w = walk_ready calc s (length s.market.objects) a.calls (answer_of kept) inputs (uses s.market top) answers (sym step_is ∙ next) in
-        well_formed s.market a.may.kinds (seen calc s) top terms inputs (subst (AreOfKind s.market) there (a.may.kinds top)) (subst (λ (t : Option Terms). is_lazy (role_of t) ≡ true) there top_lazy)
+        well_formed s.market a.may.kinds (seen calc s) (values_of calc s o a.may) top terms inputs (subst IsRanged there (a.may.ranged top)) (subst (AreOfKind s.market) there (a.may.kinds top)) (subst (λ (t : Option Terms). is_lazy (role_of t) ≡ true) there top_lazy)
         (subst (λ (t : Option Terms). inputs_by (seen calc s) (uses_of (input_at s.market) s.market top t) ≡ Ok inputs) there w.1)
-
-    pub top_made : is_made (terms_at s.market top) ≡ true
-    top_made = a.may.made top
 
     -- what a computation leaves
     pub faulted : (inputs : List input.Input) (after : List Kept) (cause : Option Cause) (number2 count2 : ℕ) (log2 : Option (List (ℕ × Bool))) (answer : Asked) → next_of (is_now kept) (answer_of kept) (uses s.market top) ≡ Ready inputs
@@ -513,7 +516,7 @@ unheld_stored calc s o may calls closed = record {
 pub left : (calc : Calc) (s : State) (o count0 : ℕ) (log0 : Option (List (ℕ × Bool))) (stack : List ℕ) (kept : List Kept) (number count : ℕ) (log : Option (List (ℕ × Bool))) → Asking calc s o count0 log0 stack kept number count log → Stays calc (record s { kept = kept })
 unfolding stored
 left calc s o count0 log0 stack kept number count log a = subst (λ (k : List Kept). Stays calc (record s { kept = k })) (sym a.stores) (record {
-  whole = whole_stored calc s a.may.whole a.calls a.closed (fit_of calc s o a.may) a.may.sound.current a.gets;
+  whole = whole_stored calc s a.may.whole a.calls a.closed (fit_of calc s o a.may) a.may.sound.current a.gets (values_of calc s o a.may);
   unheld = unheld_stored calc s o a.may a.calls a.closed;
   sound = sound_stored calc s a.calls a.may.whole a.closed (fit_of calc s o a.may) a.may.sound;
 })

@@ -19,7 +19,7 @@ use Rattle.desk_model.specs.Held.Changeable.{HasValue}
 use Rattle.desk_terms.specs.declared.terms.HandleKind.TheVariants as handle
 use Rattle.desk_model.specs.State.{State, kept_at, unpriced, is_frozen, is_source}
 use Rattle.desk_model.specs.Told.{told, tell}
-use Rattle.desk_model.specs.Links.{IsLinked, IsWhole, IsKinded, MayStand, AreOfKind}
+use Rattle.desk_model.specs.Links.{IsLinked, IsWhole, IsKinded, IsRanged, MayStand, AreOfKind}
 use Rattle.desk_model.specs.Links.MayStand.{keeps}
 use Rattle.desk_model.specs.Laws.{Keeps}
 use Rattle.desk_model.specs.Effect.{with_terms, notified, revised, value_set, quote_set}
@@ -30,10 +30,10 @@ use Rattle.desk_model.specs.Sound.{IsSound, KeepsCurrent}
 use Rattle.desk_model.proofs.Carried.{sound_kept}
 use Rattle.desk_model.proofs.Stores.{told_kept}
 use Rattle.desk_model.proofs.Tells.{unsettled_flags}
-use Rattle.lazy_objects.specs.Slots.{market_of, state_of, is_made, holds_value}
+use Rattle.lazy_objects.specs.Slots.{market_of, state_of, holds_value}
 use Rattle.lazy_objects.specs.Scratch.{ScratchView, IsEmpty}
 use Rattle.lazy_objects.specs.Stands.{Stands}
-use Rattle.lazy_objects.proofs.Telling.{made_set, unwatched_set}
+use Rattle.lazy_objects.proofs.Telling.{ranged_set, unwatched_set}
 
 -- an object of a kind is there
 pub kind_within : (m : List Slot) (today : ℤ) (x : ℕ) (k : Kind) → kind_at (market_of today m) x ≡ Some k → x < length m
@@ -59,7 +59,7 @@ module _ (today : ℤ) (slots : List Slot) (kept : List Kept) (scratch : Scratch
   ]
 
   -- what stands where the changed state is whole and of the right kinds
-  pub revised_stands : is_made (Some terms) ≡ true → IsWhole (revised x terms (state_of today slots kept)) → IsKinded (revised x terms (state_of today slots kept)).market
+  pub revised_stands : IsRanged (Some terms) → IsWhole (revised x terms (state_of today slots kept)) → IsKinded (revised x terms (state_of today slots kept)).market
       → Stands (revised x terms (state_of today slots kept)) scratch
   unfolding revised notified tell is_frozen is_source
   revised_stands own whole kinded = record {
@@ -69,14 +69,14 @@ module _ (today : ℤ) (slots : List Slot) (kept : List Kept) (scratch : Scratch
       sources = λ y. ap (λ (k : Kept). k.source) (told_kept (λ z. z == x) (with_terms x terms (state_of today slots kept)) y) ∙ (unsettled_flags (told (with_terms x terms (state_of today slots kept)) (λ z. z == x) y) (kept_at (with_terms x terms (state_of today slots kept)) y)).1 ∙ (outdated y).1 ∙ stands.unheld.sources y;
     };
     kinds = kinded;
-    made = made_set slots x terms within stands.made own;
+    ranged = ranged_set slots today x terms within stands.ranged own;
     unwatched = unwatched_set slots x terms within stands.unwatched;
     limit = let l = length-set slots x (Live terms) in let k = stands.limit in omega arith;
     empty = subst (λ (n : ℕ). IsEmpty n scratch) (sym (length-set slots x (Live terms))) stands.empty;
   }
 
 module _ (today : ℤ) (slots : List Slot) (kept : List Kept) (scratch : ScratchView) (stands : Stands (state_of today slots kept) scratch) (x : ℕ) (terms : Terms)
-    (same_kind : kind_at (market_of today slots) x ≡ Some (kind_of terms)) (may : MayStand (market_of today slots) x terms) (kinds : AreOfKind (market_of today slots) (Some terms)) (own : is_made (Some terms) ≡ true) where
+    (same_kind : kind_at (market_of today slots) x ≡ Some (kind_of terms)) (may : MayStand (market_of today slots) x terms) (kinds : AreOfKind (market_of today slots) (Some terms)) (own : IsRanged (Some terms)) where
   pub change_links : IsLinked (with_terms x terms (state_of today slots kept)).market
   change_links = links_revised (state_of today slots kept) x terms stands.whole same_kind may
 
@@ -131,9 +131,9 @@ pub quote_changed : (today : ℤ) (slots : List Slot) (kept : List Kept) (scratc
     → holds_value value (slice_index_or slots q Free) ≡ false → new ≡ revised q (terms_of.Quote value) (state_of today slots kept) → Changed (state_of today slots kept) new (quote_set q value (state_of today slots kept)) scratch
 quote_changed today slots kept scratch q value new stands is other e =
     let may = quote_may slots today q value in
-    let current = (change_keeps today slots kept scratch stands q (terms_of.Quote value) is may tt refl).current in
+    let current = (change_keeps today slots kept scratch stands q (terms_of.Quote value) is may tt tt).current in
     record {
-      stands = subst (λ (t : State). Stands t scratch) (sym e) (change_stands today slots kept scratch stands q (terms_of.Quote value) is may tt refl);
+      stands = subst (λ (t : State). Stands t scratch) (sym e) (change_stands today slots kept scratch stands q (terms_of.Quote value) is may tt tt);
       state = e ∙ value_new (state_of today slots kept) q value is other;
       keeps = subst (KeepsCurrent (state_of today slots kept)) (sym e) current;
       sound = λ calc sound. subst (IsSound calc) (sym e) (sound_kept calc (state_of today slots kept) (revised q (terms_of.Quote value) (state_of today slots kept)) current sound);

@@ -96,7 +96,7 @@ module _ (today : ℤ) (slots : List Slot) (kept : List Kept) (scratch : Scratch
   pub member_changed : (new : State) → new ≡ revised k (terms_of.Composite parts) (state_of today slots kept)
       → Changed (state_of today slots kept) new (member_set k member weight (state_of today slots kept)) scratch
   member_changed new e = record {
-    stands = subst (λ (t : State). Stands t scratch) (sym e) (revised_stands today slots kept scratch stands k (terms_of.Composite parts) may.0 refl keeps.whole kinded);
+    stands = subst (λ (t : State). Stands t scratch) (sym e) (revised_stands today slots kept scratch stands k (terms_of.Composite parts) may.0 tt keeps.whole kinded);
     state = e ∙ sym same;
     keeps = subst (KeepsCurrent (state_of today slots kept)) (sym e) keeps.current;
     sound = λ calc sound. subst (IsSound calc) (sym e) (sound_kept calc (state_of today slots kept) changed keeps.current sound);

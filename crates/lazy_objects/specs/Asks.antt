@@ -5,7 +5,7 @@ use Rattle.desk_terms.specs.declared.value.Value.{Value}
 use Rattle.desk_terms.specs.declared.value.Input as input
 use Rattle.desk_terms.specs.declared.cause.Cause.{Cause}
 use Rattle.desk_terms.specs.declared.asked.Asked.{Asked}
-use Rattle.desk_terms.specs.Reading.{Outcome, Reading, Calc}
+use Rattle.desk_terms.specs.Reading.{Outcome, Reading, Calc, IsFitting}
 use Rattle.desk_terms.specs.Asked.{Shows}
 use Rattle.desk_terms.specs.Bench.{counted, logged}
 use Rattle.desk_model.specs.declared.kept.Kept.{Kept}
@@ -13,9 +13,8 @@ use Rattle.desk_model.specs.Market.{Market, terms_at}
 use Rattle.desk_model.specs.Uses.{reading_at}
 use Rattle.desk_model.specs.State.{State, kept_at, unpriced, is_frozen, is_source, shows, mark_of}
 use Rattle.desk_model.specs.Visit.{log_of, with_value, runs, stored, asked}
-use Rattle.desk_model.specs.Links.{IsWhole, IsKinded, is_lazy_at}
+use Rattle.desk_model.specs.Links.{IsWhole, IsKinded, AreRanged, is_lazy_at}
 use Rattle.desk_model.specs.Sound.{IsSound}
-use Rattle.lazy_objects.specs.Slots.{is_made}
 
 -- an ask that was answered: it shows what the definition shows, with its mark and number, makes exactly its calls of the
 -- bench, and leaves its state
@@ -42,14 +41,15 @@ pub record IsUnheld (s : State) : Type 0 where
   pub frozen : (x : ℕ) → is_frozen s x ≡ false
   pub sources : (x : ℕ) → is_source s x ≡ false
 
--- an object that may be asked for, in a state that is whole and sound
+-- an object that may be asked for, in a state that is whole and sound, of a bench whose prices fit
 pub record MayAsk (calc : Calc) (s : State) (o : ℕ) : Type 0 where
   pub whole : IsWhole s
   pub unheld : IsUnheld s
   pub sound : IsSound calc s
   pub kinds : IsKinded s.market
-  pub made : (x : ℕ) → is_made (terms_at s.market x) ≡ true
+  pub ranged : AreRanged s.market
   pub lazy : is_lazy_at s.market o ≡ true
+  pub fits : IsFitting calc
   pub limit : length s.market.objects ≤ 2 ^ 16
 
 -- what stands on each exit of an ask, also where memory ran out half way

@@ -2,7 +2,8 @@ pub mod Asks
 pub mod Begun
 pub mod Parts
 pub mod Reads
-pub mod Rounds
 pub mod Scratch
+pub mod Shape
 pub mod Slots
 pub mod Stands
+pub mod Store

@@ -1,13 +1,14 @@
 -- What one look at an object tells, over what is remembered.
-use Rattle.std.specs.Prelude.{◌≡◌, ℕ, Bool, List, length, Option, Some, None, slice_index_or}
+use Rattle.std.specs.Prelude.{◌≡◌, ℕ, Bool, List, length, Option, Some, None, slice_index_or, if◌then◌else◌}
 use Rattle.desk_terms.specs.declared.terms.Terms.{Terms}
 use Rattle.desk_terms.specs.declared.terms.Terms.TheVariants.{Quote, Derived, Handle, Curve, Implied, Index, Engine, Stock, Composite, Flows}
-use Rattle.desk_terms.specs.declared.value.Input as input
+use Rattle.flow_terms.specs.declared.flows.FlowTerms.{FlowTerms}
+use Rattle.flow_terms.specs.Flows.{needs_forecast}
 use Rattle.desk_terms.specs.declared.cause.Cause.TheVariants.{Unset, Empty}
 use Rattle.desk_model.specs.declared.entry.Entry.{Entry}
 use Rattle.desk_model.specs.declared.entry.Entry.TheVariants.{Gives, Needs, Refuses}
-use Rattle.desk_model.specs.Market.{Market}
-use Rattle.desk_model.specs.Uses.{derived_entry, input_at}
+use Rattle.desk_model.specs.Market.{Market, terms_at}
+use Rattle.desk_model.specs.Uses.{derived_entry, input_at, index_in, fixings_in}
 use Rattle.lazy_objects.specs.declared.reader.Look.{Look}
 use Rattle.lazy_objects.specs.declared.reader.Look.TheVariants.{Is, First}
 
@@ -28,10 +29,18 @@ and_sum o minus None first b second = First first
 and_sum o minus (Some a) first None second = First second
 and_sum o minus (Some a) first (Some b) second = Is (derived_entry o minus a b)
 
+-- the index of flows, where a rate has to be forecast
+abbrev pub forecast_index : Market → FlowTerms → Option ℕ → Option ℕ
+forecast_index market flows None = None
+forecast_index market flows (Some x) =
+    if needs_forecast flows.flows (fixings_in (index_in x (terms_at market x))) market.today
+    then Some x
+    else None
+
 abbrev pub given_by : (ℕ → Option Entry) → ℕ → Option Terms → Look
 given_by memo o None = Is (Refuses (Unset o))
 given_by memo o (Some (Quote None)) = Is (Refuses (Unset o))
-given_by memo o (Some (Quote (Some rate))) = Is (Gives (input.TheVariants.Rate rate))
+given_by memo o (Some (Quote (Some rate))) = Is (Gives rate)
 given_by memo o (Some (Derived minus first second)) = and_sum o minus (memo first) first (memo second) second
 given_by memo o (Some (Handle kind None)) = Is (Refuses (Empty o))
 given_by memo o (Some (Handle kind (Some target))) = and_is (memo target) target

@@ -1,10 +1,11 @@
 -- The state that the parts of a desk stand for.
-use Rattle.std.specs.Prelude.{ℕ, ℤ, Bool, true, false, if◌then◌else◌, List, [], Option, Some, None, slice_index_or}
+use Rattle.std.specs.Prelude.{◌≡◌, ℕ, ℤ, Bool, true, false, if◌then◌else◌, List, [], Option, Some, None, Result, slice_index_or}
+use Rattle.std.specs.Borrow.{Bor}
 use Rattle.desk_terms.specs.declared.terms.Terms.{Terms}
-use Rattle.desk_terms.specs.declared.kind.Kind.{Kind}
-use Rattle.desk_terms.specs.declared.kind.Kind.TheVariants.{Today, Quote, Derived, QuoteHandle, CurveHandle, Index, Engine, Curve, Implied, Stock, Composite, Flows, Watcher}
-use Rattle.desk_terms.specs.Reading.{Outcome}
-use Rattle.desk_terms.specs.Terms.{kind_of}
+use Rattle.desk_terms.specs.declared.terms.Terms.TheVariants.{Quote, Derived, Handle, Curve, Implied, Index, Engine, Stock, Composite, Flows}
+use Rattle.desk_terms.specs.declared.value.Value.{Value}
+use Rattle.desk_terms.specs.declared.cause.Cause.{Cause}
+use Rattle.desk_terms.specs.Reading.{Outcome, outcome_in}
 use Rattle.std.specs.Option.{option_eq}
 use Rattle.std.specs.Ordering.{int_eq}
 use Rattle.desk_model.specs.declared.slot.Slot.{Slot}
@@ -12,7 +13,7 @@ use Rattle.desk_model.specs.declared.slot.Slot.TheVariants as slot
 use Rattle.desk_model.specs.Held.{Changeable, changeable}
 use Rattle.desk_model.specs.Held.Changeable.{HasValue, HasTarget, HasFixings, HasParts, HasEngine, HasNone}
 use Rattle.desk_model.specs.declared.kept.Kept.{Kept}
-use Rattle.desk_model.specs.Market.{Market}
+use Rattle.desk_model.specs.Market.{Market, is_watcher}
 use Rattle.desk_model.specs.State.{State, unpriced, last_of}
 
 -- THE MARKET of a desk
@@ -29,33 +30,13 @@ is_now kept x = (slice_index_or kept x unpriced).current
 abbrev pub answer_of : List Kept → ℕ → Outcome
 answer_of kept x = last_of x (slice_index_or kept x unpriced).last
 
+-- an answer that is borrowed
+abbrev pub answered : Option (Result (Bor Value) Cause) → Option Outcome
+answered None = None
+answered (Some outcome) = Some (outcome_in outcome)
+
 abbrev pub answered_of : Bool → Outcome → Option Outcome
 answered_of current answer = if current then Some answer else None
-
--- the kinds of objects that a desk makes so far
-abbrev pub makes : Kind → Bool
-makes Today = true
-makes Quote = true
-makes Derived = true
-makes QuoteHandle = false
-makes CurveHandle = false
-makes Index = false
-makes Engine = false
-makes Curve = false
-makes Implied = false
-makes Stock = true
-makes Composite = true
-makes Flows = false
-makes Watcher = false
-
-abbrev pub is_made : Option Terms → Bool
-is_made None = true
-is_made (Some terms) = makes (kind_of terms)
-
--- what a store keeps, by object number, and for how many objects more there is room
-pub record StoreView : Type 0 where
-  pub kept : List Kept
-  pub spare : ℕ
 
 -- whether a quote with this value stands in a slot
 abbrev pub is_value : Option ℤ → Changeable → Bool
@@ -71,3 +52,21 @@ holds_value value slot.Free = false
 holds_value value slot.Today = false
 holds_value value (slot.Watcher action) = false
 holds_value value (slot.Live terms) = is_value value (changeable (Some terms))
+
+-- none is a watcher
+abbrev pub AreUnwatched : List Slot → Type 0
+AreUnwatched slots = (x : ℕ) → is_watcher (slice_index_or slots x slot.Free) ≡ false
+
+-- whether these are the terms of a handle
+abbrev pub is_handle : Option Terms → Bool
+is_handle None = false
+is_handle (Some (Quote value)) = false
+is_handle (Some (Derived minus first second)) = false
+is_handle (Some (Handle kind target)) = true
+is_handle (Some (Curve terms)) = false
+is_handle (Some (Implied curve reference)) = false
+is_handle (Some (Index terms fixings)) = false
+is_handle (Some (Engine curve)) = false
+is_handle (Some (Stock quote)) = false
+is_handle (Some (Composite parts)) = false
+is_handle (Some (Flows flows engine)) = false

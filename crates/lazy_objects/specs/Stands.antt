@@ -1,19 +1,18 @@
 -- What holds of a desk between two calls.
-use Rattle.std.specs.Prelude.{◌≡◌, ◌≤◌, ◌^◌, ℕ, true, false, length}
-use Rattle.desk_model.specs.Market.{terms_at, slot_at, is_watcher}
+use Rattle.std.specs.Prelude.{◌≡◌, ◌≤◌, ◌^◌, ℕ, false, length}
+use Rattle.desk_model.specs.Market.{slot_at, is_watcher}
 use Rattle.desk_model.specs.State.{State}
-use Rattle.desk_model.specs.Links.{IsWhole, IsKinded}
-use Rattle.lazy_objects.specs.Slots.{is_made}
+use Rattle.desk_model.specs.Links.{IsWhole, IsKinded, AreRanged}
 use Rattle.lazy_objects.specs.Scratch.{ScratchView, IsEmpty}
 use Rattle.lazy_objects.specs.Asks.{IsUnheld}
 
--- THE INVARIANT of a desk: its state is whole, nothing is held back, each object names others of the right kinds and is of
--- a kind that the desk makes, there are no watchers, at most 65,536 numbers are given, and nothing is remembered between asks.
+-- THE INVARIANT of a desk: its state is whole, nothing is held back, each object names others of the right kinds, its
+-- terms are in range, there are no watchers, at most 65,536 numbers are given, and nothing is remembered between asks.
 pub record Stands (state : State) (scratch : ScratchView) : Type 0 where
   pub whole : IsWhole state
   pub unheld : IsUnheld state
   pub kinds : IsKinded state.market
-  pub made : (x : ℕ) → is_made (terms_at state.market x) ≡ true
+  pub ranged : AreRanged state.market
   pub unwatched : (x : ℕ) → is_watcher (slot_at state.market x) ≡ false
   pub limit : length state.market.objects ≤ 2 ^ 16
   pub empty : IsEmpty (length state.market.objects) scratch

@@ -8,8 +8,10 @@ ghost use Rattle.desk_terms.specs.Reading.{IsWellFormed};
 ghost use Rattle.desk_model.specs.Market.{terms_at};
 ghost use Rattle.desk_model.specs.Links.{is_lazy_at};
 ghost use Rattle.desk_model.specs.Uses.{reading_at};
-ghost use Rattle.lazy_objects.specs.Slots.{market_of, state_of, is_now, is_made};
+ghost use Rattle.lazy_objects.specs.Slots.{market_of, state_of, is_now};
 ghost use Rattle.lazy_objects.specs.Scratch.{AreClear, IsEmpty};
+ghost use Rattle.lazy_objects.specs.Shape.{IsJoined, role_at};
+ghost use Rattle.observer_graph.specs.declared.node.Role.TheVariants as role;
 ghost use Rattle.lazy_objects.specs.Reads.{Remembers};
 ghost use Rattle.lazy_objects.specs.Begun.{Begun};
 ghost use Rattle.lazy_objects.specs.Asks.{Asks, Stops, MayAsk, Stays, Computes};
@@ -18,6 +20,7 @@ use crate::reader::terms_of;
 use crate::scratch::Scratch;
 use crate::steps::next;
 use crate::store::Store;
+use crate::uses::index_named;
 use day_number::Day;
 use desk_model::{Next, Slot};
 use desk_names::ObjId;
@@ -36,6 +39,7 @@ pub fn ask<B: Bench>(
 ) -> Result<Asked, AllocError>
     requires may { MayAsk (B.calc bench.old) (state_of today slots.now store.old.kept) object }
     requires empty { IsEmpty (length slots.now) scratch.old }
+    requires joined { IsJoined (market_of today slots.now) store.old.shape }
     ensures same { B.calc bench.new ≡ B.calc bench.old }
     ensures asks { IfOk result (λ answer. Asks (B.calc bench.old) object (state_of today slots.now store.old.kept) (state_of today slots.now store.new.kept) answer
         (B.count bench.old) (B.count bench.new) (B.log bench.old) (B.log bench.new)) }
@@ -43,8 +47,9 @@ pub fn ask<B: Bench>(
         (B.count bench.old) (B.count bench.new) (B.log bench.old) (B.log bench.new)) }
     ensures stays { Stays (B.calc bench.old) (state_of today slots.now store.new.kept) }
     ensures empty { IsEmpty (length slots.now) scratch.new }
+    ensures shape { store.new.shape ≡ store.old.shape }
 {
-    if store.kept(object).current {
+    if store.is_current(object) {
         return Ok(answered(None, 0));
     }
     let answer = compute_all(alloc, today, slots, store, scratch, object, bench);
@@ -66,12 +71,14 @@ fn compute_all<B: Bench>(
     requires stale { is_now store.old.kept object ≡ false }
     requires remembers { Remembers (market_of today slots.now) scratch.old.entries }
     requires begun { Begun slots.now store.old.kept scratch.old.positions }
+    requires joined { IsJoined (market_of today slots.now) store.old.shape }
     ensures same { B.calc bench.new ≡ B.calc bench.old }
     ensures asks { IfOk result (λ answer. Asks (B.calc bench.old) object (state_of today slots.now store.old.kept) (state_of today slots.now store.new.kept) answer
         (B.count bench.old) (B.count bench.new) (B.log bench.old) (B.log bench.new)) }
     ensures stops { OnErr result (Stops (B.calc bench.old) object (state_of today slots.now store.old.kept) (state_of today slots.now store.new.kept)
         (B.count bench.old) (B.count bench.new) (B.log bench.old) (B.log bench.new)) }
     ensures stays { Stays (B.calc bench.old) (state_of today slots.now store.new.kept) }
+    ensures shape { store.new.shape ≡ store.old.shape }
     ensures long { (length scratch.new.entries ≡ length slots.now) × (length scratch.new.positions ≡ length slots.now) }
 {
     let mut stack: Vec<ObjId> = Vec::new(alloc);
@@ -107,20 +114,21 @@ fn compute<'a, B: Bench>(
     bench: &mut B,
 ) -> Result<Option<Cause>, AllocError>
     requires lazy { is_lazy_at (market_of today slots.now) object ≡ true }
-    requires made { is_made (terms_at (market_of today slots.now) object) ≡ true }
-    requires within { object < length store.old.kept }
+    requires role { role_at store.old.shape object ≡ Some role.Lazy }
     requires fits { (terms : Terms) → terms_at (market_of today slots.now) object ≡ Some terms → IsWellFormed (reading_at (market_of today slots.now) object terms inputs.now) }
     ensures same { B.calc bench.new ≡ B.calc bench.old }
     ensures computes { IfOk result (λ cause. Computes (B.calc bench.old) (market_of today slots.now) object inputs.now store.old.kept store.new.kept cause
         (B.count bench.old) (B.count bench.new) (B.log bench.old) (B.log bench.new)) }
     ensures err { OnErr result ((store.new.kept ≡ store.old.kept) × (B.count bench.new ≡ counted (B.count bench.old) 1) × (B.log bench.new ≡ B.log bench.old)) }
+    ensures shape { store.new.shape ≡ store.old.shape }
 {
+    let terms = lazy_terms(today, slots, object);
     let job = Job {
         object,
-        terms: lazy_terms(today, slots, object),
+        terms,
         inputs,
         today,
-        index: None,
+        index: index_named(today, slots, terms),
     };
     match bench.price(alloc, &job) {
         Ok(value) => {

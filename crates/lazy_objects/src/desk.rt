@@ -1,31 +1,34 @@
 // The objects of a session. A clause sees the desk as its state.
-ghost use Rattle.std.specs.Prelude.{◌≡◌, ◌≢◌, ◌⊎◌, ◌<◌, ◌^◌, ◌==◌, ◌||◌, true, false, pos, Some, None, length, IfOk, OnOk, OnErr, slice_index_or};
+ghost use Rattle.std.specs.Prelude.{◌≡◌, ◌≢◌, ℕ, Option, ◌⊎◌, ◌<◌, ◌^◌, ◌==◌, ◌||◌, true, false, pos, Some, None, length, IfOk, OnOk, OnErr, slice_index_or};
 ghost use Rattle.std.specs.Option.{option_copied};
-ghost use Rattle.desk_terms.specs.Reading.{Calc};
-ghost use Rattle.desk_model.specs.Market.{kind_in, kind_at, slot_at, is_given, least_user};
+ghost use Rattle.desk_terms.specs.Reading.{Calc, AreInRange};
+ghost use Rattle.desk_model.specs.Market.{kind_in, kind_at, terms_at, slot_at, is_given, least_user};
 ghost use Rattle.desk_model.specs.declared.slot.Slot.TheVariants.{Free};
 ghost use Rattle.desk_model.specs.State.{kept_at};
 ghost use Rattle.desk_model.specs.Sound.{IsSound, KeepsCurrent};
 ghost use Rattle.desk_model.specs.Links.{AreOfKind, is_lazy_at, reaches, serves_as};
-ghost use Rattle.desk_model.specs.Effect.{start, made, quote_set, member_set, dropped};
+ghost use Rattle.desk_model.specs.Effect.{start, made, quote_set, relinked, member_set, today_set, dropped};
 ghost use Rattle.desk_terms.specs.declared.kind.Kind.TheVariants.{Quote, Composite};
 ghost use Rattle.desk_terms.specs.declared.kind.Wanted.TheVariants.{Member};
-ghost use Rattle.lazy_objects.specs.Slots.{makes};
+ghost use Rattle.desk_terms.specs.declared.terms.HandleKind.{HandleKind};
+ghost use Rattle.desk_terms.specs.declared.terms.Terms.TheVariants.{Handle};
+ghost use Rattle.desk_model.specs.Laws.{MayLink};
+ghost use Rattle.lazy_objects.specs.Slots.{is_handle};
 ghost use Rattle.lazy_objects.specs.Asks.{Asks, Stops};
-ghost use Rattle.desk_terms.specs.Terms.{kind_of};
 
 use crate::asking::ask;
-use crate::changes::{has_value, revise};
+use crate::changes::{has_value, revise, tell_today};
+use crate::edges::{role_of, watched};
+use crate::links::{link_of, unwatch_any, watch_any};
 use crate::scratch::Scratch;
 use crate::store::Store;
-use crate::users::user_of;
-use crate::walk::{is_marked, mark_above};
-use crate::weights::{has_weight, parts_of, with_member};
+use crate::weights::{has_weight, parts_of, rewatch, with_member};
 use day_number::Day;
 use desk_model::Slot;
 use desk_names::ObjId;
 use desk_terms::{Asked, Bench, Kind, Terms, Value};
 use fixed_amount::Rate;
+use observer_graph::Role;
 use std::alloc::{AllocError, Global};
 use std::marker::Model;
 
@@ -38,21 +41,19 @@ pub struct Desk {
     slots: Vec<Slot>,
     store: Store,
     scratch: Scratch,
-    // Whom a change tells, during a call.
-    marks: Vec<bool>,
 }
 
 impl Model for Desk {
     ghost use Rattle.desk_model.specs.State.{State};
-    ghost use Rattle.lazy_objects.specs.Slots.{state_of};
-    ghost use Rattle.std.specs.Prelude.{◌≡◌, length};
+    ghost use Rattle.lazy_objects.specs.Slots.{market_of, state_of};
+    ghost use Rattle.lazy_objects.specs.Shape.{IsJoined};
     ghost use Rattle.lazy_objects.specs.Stands.{Stands};
 
     ghost Value = { State };
 
     ghost view = { λ d. state_of d.today d.slots.items d.store.kept };
 
-    ghost invariant = { λ d. Stands (state_of d.today d.slots.items d.store.kept) d.scratch × (length d.marks.items ≡ length d.slots.items) };
+    ghost invariant = { λ d. Stands (state_of d.today d.slots.items d.store.kept) d.scratch × IsJoined (market_of d.today d.slots.items) d.store.shape };
 }
 
 impl Desk {
@@ -64,27 +65,24 @@ impl Desk {
         let mut slots: Vec<Slot> = Vec::new(alloc);
         slots.push(Slot::Today)?;
         let mut store = Store::new(alloc);
-        store.reserve()?;
-        store.grow();
+        store.add(Role::Source, &[])?;
         let mut scratch = Scratch::new(alloc);
         scratch.reserve()?;
         scratch.grow();
-        let mut marks: Vec<bool> = Vec::new(alloc);
-        marks.push(false)?;
         Ok(Desk {
             alloc,
             today,
             slots,
             store,
             scratch,
-            marks,
         })
     }
 
     /// Makes an object with these terms, and answers its number: how many were given before. Its inputs are live and of
-    /// the kinds that are wanted. So far a desk makes quotes, sums and differences, stocks and composites.
+    /// the kinds that are wanted, and the terms of a curve, an index or flows are within their limits. Where memory is
+    /// wanting, nothing is changed.
     pub fn add(&mut self, terms: Terms) -> Result<ObjId, AllocError>
-        requires made { makes (kind_of terms) ≡ true }
+        requires ranged { AreInRange terms }
         requires kinds { AreOfKind self.old.market (Some terms) }
         requires room { length self.old.market.objects < 2 ^ 16 }
         ensures number { IfOk result (λ object. object ≡ length self.old.market.objects) }
@@ -94,14 +92,12 @@ impl Desk {
         ensures sound { (calc : Calc) → IsSound calc self.old → IsSound calc self.new }
     {
         let object = ObjId(self.slots.len() as u32);
+        let watched = watched(self.alloc, &terms)?;
         self.slots.reserve(1)?;
-        self.store.reserve()?;
         self.scratch.reserve()?;
-        self.marks.reserve(1)?;
+        self.store.add(role_of(&terms), &watched)?;
         self.slots.push_reserved(Slot::Live(terms));
-        self.store.grow();
         self.scratch.grow();
-        self.marks.push_reserved(false);
         Ok(object)
     }
 
@@ -119,10 +115,53 @@ impl Desk {
             self.today,
             &mut self.slots,
             &mut self.store,
-            &mut self.marks,
             quote,
             Terms::Quote(value),
         );
+    }
+
+    /// A handle stands for another target, or for none (QuantLib's `RelinkableHandle::linkTo`). The target is live, is what
+    /// the handle stands for, and does not lie above the handle. Where it is the one held, nothing is told. Where memory is
+    /// wanting, nothing is changed.
+    pub fn relink(&mut self, handle: ObjId, target: Option<ObjId>) -> Result<(), AllocError>
+        requires handle { is_handle (terms_at self.old.market handle) ≡ true }
+        requires kinds { (kind : HandleKind) (held : Option ℕ) → terms_at self.old.market handle ≡ Some (Handle kind held) → AreOfKind self.old.market (Some (Handle kind target)) }
+        requires open { MayLink self.old.market handle target }
+        ensures set { OnOk result (self.new ≡ relinked handle target self.old) }
+        ensures same { OnErr result (self.new ≡ self.old) }
+        ensures keeps { KeepsCurrent self.old self.new }
+        ensures sound { (calc : Calc) → IsSound calc self.old → IsSound calc self.new }
+    {
+        let link = link_of(&self.slots, handle);
+        if link.target == target {
+            return Ok(());
+        }
+        watch_any(&mut self.store, target, handle)?;
+        unwatch_any(&mut self.store, link.target, handle);
+        revise(
+            self.today,
+            &mut self.slots,
+            &mut self.store,
+            handle,
+            Terms::Handle {
+                target_kind: link.kind,
+                target,
+            },
+        );
+        Ok(())
+    }
+
+    /// Another evaluation date. Where it is another day, all that observes it is told.
+    pub fn set_today(&mut self, day: Day)
+        ensures set { self.new ≡ today_set day self.old }
+        ensures keeps { KeepsCurrent self.old self.new }
+        ensures sound { (calc : Calc) → IsSound calc self.old → IsSound calc self.new }
+    {
+        if self.today == day {
+            return;
+        }
+        self.today = day;
+        tell_today(day, &self.slots, &mut self.store);
     }
 
     /// Gives an instrument a weight in a composite: one that is no member joins at the end, a member keeps its place,
@@ -147,11 +186,11 @@ impl Desk {
             return Ok(());
         }
         let changed = with_member(self.alloc, parts, member, weight)?;
+        rewatch(&mut self.store, parts, composite, member, weight)?;
         revise(
             self.today,
             &mut self.slots,
             &mut self.store,
-            &mut self.marks,
             composite,
             Terms::Composite(changed),
         );
@@ -199,15 +238,23 @@ impl Desk {
         ensures answer { result ≡ ((from == to) || reaches self.old.market from to) }
         ensures same { self.new ≡ self.old }
     {
-        mark_above(&self.slots, &self.store, to, true, &mut self.marks);
-        from == to || is_marked(&self.marks, from.place())
+        if from == to {
+            return true;
+        }
+        if !self.store.has(from) || !self.store.has(to) {
+            return false;
+        }
+        self.store.reaches(from, to)
     }
 
     /// The least object that observes another, if any does.
     pub fn user_of(&self, object: ObjId) -> Option<ObjId>
         ensures { result ≡ least_user self.now.market object }
     {
-        user_of(&self.slots, &self.store, object)
+        if !self.store.has(object) {
+            return None;
+        }
+        self.store.least_observer(object)
     }
 
     /// The last value of an object, if it has one.

@@ -7,12 +7,13 @@
 mod asking;
 mod changes;
 mod desk;
+mod edges;
+mod links;
 mod reader;
 mod scratch;
 mod steps;
 mod store;
-mod users;
-mod walk;
+mod uses;
 mod weights;
 
 pub use desk::Desk;

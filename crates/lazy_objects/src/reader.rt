@@ -13,7 +13,7 @@ use crate::scratch::Scratch;
 use day_number::Day;
 use desk_model::{Entry, Slot};
 use desk_names::ObjId;
-use desk_terms::{Cause, Input, Terms};
+use desk_terms::{Cause, Terms};
 use fixed_amount::Rate;
 use std::alloc::{AllocError, Global};
 
@@ -101,7 +101,7 @@ fn given_by(scratch: &Scratch, object: ObjId, terms: &Terms) -> Look
     match terms {
         Terms::Quote(value) => match value {
             None => Look::Is(Entry::Refuses(Cause::Unset(object))),
-            Some(rate) => Look::Is(Entry::Gives(Input::Rate(*rate))),
+            Some(rate) => Look::Is(Entry::Gives(*rate)),
         },
         Terms::Derived {
             minus,
@@ -151,15 +151,9 @@ fn derived(object: ObjId, minus: bool, first: &Entry, second: &Entry) -> Entry
 {
     match first {
         Entry::Refuses(cause) => Entry::Refuses(*cause),
-        Entry::Gives(Input::Rate(a)) => match second {
+        Entry::Gives(a) => match second {
             Entry::Refuses(cause) => Entry::Refuses(*cause),
-            Entry::Gives(Input::Rate(b)) => combined(object, minus, *a, *b),
-            Entry::Gives(Input::Money(_)) => Entry::Refuses(Cause::Unset(object)),
-            Entry::Needs(_) => Entry::Refuses(Cause::Unset(object)),
-        },
-        Entry::Gives(Input::Money(_)) => match second {
-            Entry::Refuses(cause) => Entry::Refuses(*cause),
-            Entry::Gives(_) => Entry::Refuses(Cause::Unset(object)),
+            Entry::Gives(b) => combined(object, minus, *a, *b),
             Entry::Needs(_) => Entry::Refuses(Cause::Unset(object)),
         },
         Entry::Needs(_) => Entry::Refuses(Cause::Unset(object)),
@@ -182,7 +176,7 @@ fn rated(object: ObjId, units: i64) -> Entry
     ensures { result ≡ rate_entry object units }
 {
     if -1_000_000_000_000_000_000 <= units && units <= 1_000_000_000_000_000_000 {
-        Entry::Gives(Input::Rate(Rate(units)))
+        Entry::Gives(Rate(units))
     } else {
         Entry::Refuses(Cause::TooLarge(object))
     }

@@ -5,7 +5,8 @@ ghost use Rattle.lazy_objects.specs.Scratch.{AreTouched, AreClear};
 
 use desk_model::Entry;
 use desk_names::ObjId;
-use desk_terms::{Cause, Input};
+use desk_terms::Cause;
+use fixed_amount::Rate;
 use std::alloc::{AllocError, Global};
 use std::marker::Model;
 
@@ -51,7 +52,7 @@ impl Scratch {
         ensures entries { self.new.entries ≡ self.old.entries }
         ensures positions { self.new.positions ≡ self.old.positions }
     {
-        let _input: Option<Input> = None;
+        let _rate: Option<Rate> = None;
         let _cause: Option<Cause> = None;
         self.entries.reserve(1)?;
         self.positions.reserve(1)?;
@@ -64,7 +65,7 @@ impl Scratch {
         ensures entries { self.new.entries ≡ self.old.entries ++ None ∷ [] }
         ensures positions { self.new.positions ≡ self.old.positions ++ 0 ∷ [] }
     {
-        let _input: Option<Input> = None;
+        let _rate: Option<Rate> = None;
         let _cause: Option<Cause> = None;
         self.entries.push_reserved(None);
         self.positions.push_reserved(0);
@@ -143,7 +144,7 @@ fn clear_one(entries: &mut [Option<Entry>], positions: &mut [usize], object: Obj
     ensures entries { entries.new ≡ slice_set entries.old object None }
     ensures positions { positions.new ≡ slice_set positions.old object 0 }
 {
-    let _input: Option<Input> = None;
+    let _rate: Option<Rate> = None;
     let _cause: Option<Cause> = None;
     entries[object.place()] = None;
     positions[object.place()] = 0;

@@ -4,39 +4,40 @@ ghost use Rattle.desk_terms.specs.declared.value.Value.{Value};
 ghost use Rattle.desk_model.specs.Uses.{member_entries, uses};
 ghost use Rattle.desk_model.specs.Fresh.{input_of};
 ghost use Rattle.desk_model.specs.Next.{next_of};
-ghost use Rattle.desk_model.specs.Links.{IsLinked, is_lazy_at};
-ghost use Rattle.desk_model.specs.Market.{terms_at};
+ghost use Rattle.desk_model.specs.Links.{IsLinked, IsKinded, is_lazy_at};
 ghost use Rattle.lazy_objects.specs.Reads.{Remembers};
 ghost use Rattle.lazy_objects.specs.Begun.{AreSettled, Begun};
-ghost use Rattle.lazy_objects.specs.Slots.{market_of, is_now, answer_of, answered_of, is_made};
+ghost use Rattle.lazy_objects.specs.Slots.{market_of, is_now, answer_of, answered, answered_of};
 
 use crate::reader::{read, terms_of};
 use crate::scratch::Scratch;
 use crate::store::Store;
+use crate::uses::{flow_entries, helper_entries};
+use curve_points::copy_curve;
 use day_number::Day;
-use desk_model::{Entry, Kept, Next, Slot};
+use desk_model::{Entry, Next, Slot};
 use desk_names::ObjId;
 use desk_terms::{Cause, Input, InputList, Part, Terms, Value};
 use std::alloc::{AllocError, Global};
 
 // A value as the input of another price.
-fn as_input(value: Value) -> Input
-    ensures { result ≡ input_of value }
+fn as_input(alloc: Global, value: &Value) -> Result<Input, AllocError>
+    ensures { IfOk result (λ input. input ≡ input_of value.now) }
 {
     match value {
-        Value::Money(amount) => Input::Money(amount),
+        Value::Money(amount) => Ok(Input::Money(*amount)),
+        Value::Curve(curve) => Ok(Input::Curve(copy_curve(alloc, curve)?)),
     }
 }
 
 // The answer of an object whose value is current; none where it is not.
-fn answer(store: &Store, object: ObjId) -> Option<Result<Value, Cause>>
-    ensures { result ≡ answered_of (is_now store.now.kept object) (answer_of store.now.kept object) }
+fn answer(store: &Store, object: ObjId) -> Option<Result<&Value, Cause>>
+    ensures { answered result ≡ answered_of (is_now store.now.kept object) (answer_of store.now.kept object) }
 {
-    let kept = store.kept(object);
-    if !kept.current {
+    if !store.is_current(object) {
         return None;
     }
-    match kept.last {
+    match store.last(object) {
         Some(value) => Some(Ok(value)),
         None => Some(Err(Cause::Unpriced(object))),
     }
@@ -78,7 +79,7 @@ fn all_members(alloc: Global, store: &Store, parts: &[Part]) -> Result<Next, All
         let part = &parts[at];
         match answer(store, part.member) {
             Some(outcome) => match outcome {
-                Ok(value) => inputs.push(as_input(value))?,
+                Ok(value) => inputs.push(as_input(alloc, value)?)?,
                 Err(cause) => return Ok(Next::Stops(cause)),
             },
             None => return Ok(Next::First(part.member)),
@@ -93,13 +94,34 @@ fn next_entry(alloc: Global, store: &Store, entry: Entry) -> Result<Next, AllocE
 {
     let mut inputs = InputList::new(alloc);
     match entry {
-        Entry::Gives(input) => inputs.push(input)?,
+        Entry::Gives(rate) => inputs.push(Input::Rate(rate))?,
         Entry::Refuses(cause) => return Ok(Next::Stops(cause)),
         Entry::Needs(object) => match answer(store, object) {
-            Some(Ok(value)) => inputs.push(as_input(value))?,
+            Some(Ok(value)) => inputs.push(as_input(alloc, value)?)?,
             Some(Err(cause)) => return Ok(Next::Stops(cause)),
             None => return Ok(Next::First(object)),
         },
+    }
+    Ok(Next::Ready(inputs))
+}
+
+// What an ask does next where a price takes these entries.
+fn next_entries(alloc: Global, store: &Store, entries: &[Entry]) -> Result<Next, AllocError>
+    ensures { IfOk result (λ next. next ≡ next_of (is_now store.now.kept) (answer_of store.now.kept) entries.now) }
+{
+    let mut inputs = InputList::new(alloc);
+    for at in 0..entries.len() {
+        match entries[at] {
+            Entry::Gives(rate) => inputs.push(Input::Rate(rate))?,
+            Entry::Refuses(cause) => return Ok(Next::Stops(cause)),
+            Entry::Needs(object) => match answer(store, object) {
+                Some(outcome) => match outcome {
+                    Ok(held) => inputs.push(as_input(alloc, held)?)?,
+                    Err(cause) => return Ok(Next::Stops(cause)),
+                },
+                None => return Ok(Next::First(object)),
+            },
+        }
     }
     Ok(Next::Ready(inputs))
 }
@@ -114,7 +136,7 @@ pub fn next(
     object: ObjId,
 ) -> Result<Next, AllocError>
     requires lazy { is_lazy_at (market_of today slots.now) object ≡ true }
-    requires made { is_made (terms_at (market_of today slots.now) object) ≡ true }
+    requires kinds { IsKinded (market_of today slots.now) }
     requires linked { IsLinked (market_of today slots.now) }
     requires remembers { Remembers (market_of today slots.now) scratch.old.entries }
     requires begun { Begun slots.now store.now.kept scratch.old.positions }
@@ -135,14 +157,24 @@ pub fn next(
                 scratch.advance(object, at)?;
                 Ok(next)
             }
+            Terms::Implied { curve, .. } => {
+                let entry = read(alloc, today, slots, scratch, *curve)?;
+                next_entry(alloc, store, entry)
+            }
+            Terms::Curve(curve) => {
+                let helpers = curve.helpers.items();
+                let entries = helper_entries(alloc, today, slots, scratch, helpers)?;
+                next_entries(alloc, store, &entries)
+            }
+            Terms::Flows(flows, engine) => {
+                let entries = flow_entries(alloc, today, slots, scratch, object, flows, *engine)?;
+                next_entries(alloc, store, &entries)
+            }
             Terms::Quote(_)
             | Terms::Derived { .. }
             | Terms::Handle { .. }
-            | Terms::Curve(_)
-            | Terms::Implied { .. }
             | Terms::Index(..)
-            | Terms::Engine { .. }
-            | Terms::Flows(..) => unreachable!(),
+            | Terms::Engine { .. } => unreachable!(),
         },
     }
 }

@@ -1,11 +1,17 @@
 // The parts of a composite, and what they are with another weight of a member.
-ghost use Rattle.std.specs.Prelude.{◌≡◌, Some, IfOk, slice_index_or};
+ghost use Rattle.std.specs.Prelude.{◌≡◌, ◌↔◌, ℕ, true, is_some, Some, IfOk, OnOk, OnErr, slice_index_or};
+ghost use Rattle.walks.specs.Walk.{Among};
+ghost use Rattle.desk_terms.specs.Terms.{part_references};
+ghost use Rattle.desk_model.specs.Market.{named};
+ghost use Rattle.lazy_objects.specs.Shape.{observed_by, role_at};
+ghost use Rattle.lazy_objects.specs.Store.{IsRewatched};
 ghost use Rattle.std.specs.Ordering.{int_eq};
 ghost use Rattle.desk_model.specs.Held.{changeable, weight_of, has_member, without_member, reweighted, with_member};
 ghost use Rattle.desk_model.specs.declared.slot.Slot.TheVariants.{Free};
 ghost use Rattle.lazy_objects.specs.Parts.{parts_in, parts_held};
 
 use crate::reader::terms_of;
+use crate::store::Store;
 use desk_model::Slot;
 use desk_names::ObjId;
 use desk_terms::{Part, PartList, Terms};
@@ -75,6 +81,30 @@ pub fn with_member(
         changed.push(Part { weight, member })?;
     }
     Ok(changed)
+}
+
+/// A composite observes a member that has a weight, and no other. After want of memory nothing is changed.
+pub fn rewatch(
+    store: &mut Store,
+    parts: &[Part],
+    composite: ObjId,
+    member: ObjId,
+    weight: i64,
+) -> Result<(), AllocError>
+    requires composite { is_some (role_at store.old.shape composite) ≡ true }
+    requires member { is_some (role_at store.old.shape member) ≡ true }
+    requires watched { (x : ℕ) → Among x (observed_by store.old.shape composite) ↔ Among x (named (part_references parts.now)) }
+    ensures rewatched { OnOk result (IsRewatched composite (with_member parts.now member weight) store.old store.new) }
+    ensures same { OnErr result (store.new ≡ store.old) }
+{
+    if weight == 0 {
+        store.unwatch(member, composite);
+        return Ok(());
+    }
+    if has_member(parts, member) {
+        return Ok(());
+    }
+    store.watch(member, composite)
 }
 
 fn has_member(parts: &[Part], member: ObjId) -> bool

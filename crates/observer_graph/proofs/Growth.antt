@@ -9,6 +9,7 @@ use Rattle.observer_graph.proofs.Members.{among_last}
 pub extends_none : (set : SetView) (nodes : List ℕ) → Extends set set (λ o. Among o (take 0 nodes))
 extends_none set nodes = record {
   room = refl;
+  spare = refl;
   end = ([], sym (append-nil set.items));
   items = λ o.
       ((λ a. inl a), (λ a. elim a [ inl was ↦ was | inr none ↦ absurd (nothing nodes o none) ]));
@@ -22,6 +23,7 @@ pub extends_on : (a b c : SetView) (P Q R : ℕ → Type 0) → ((o : ℕ) → P
     → Extends a b P → Extends b c Q → Extends a c R
 extends_on a b c P Q R join split f g = record {
   room = g.room ∙ f.room;
+  spare = g.spare ∙ f.spare;
   end = (
     f.end.0 ++ g.end.0,
     g.end.1 ∙ ap (λ (l : List ℕ). l ++ g.end.0) f.end.1

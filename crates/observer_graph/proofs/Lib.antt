@@ -3,6 +3,8 @@ pub mod Members
 pub mod Marks
 pub mod Edits
 pub mod Growth
+pub mod Least
+pub mod Linked
 pub mod Mirrors
 pub mod Waves
 pub mod Settling

@@ -321,9 +321,10 @@ pub tells_of : (nodes read written nodes2 : List (Option Node)) (subjects : List
     → ((o : ℕ) → Among o items ↔ IsTold (graph_of read subjects sources) o)
     → ((o : ℕ) → Among o items → slice_index_or nodes2 o None ≡ unsettled (slice_index_or written o None))
     → ((o : ℕ) → (Among o items → ⊥) → slice_index_or nodes2 o None ≡ slice_index_or written o None)
-    → ((o : ℕ) → is_marked sources2 o ≡ false) → Tells (graph_of nodes subjects sources)
-    (graph_of nodes2 subjects sources2)
-tells_of nodes read written nodes2 subjects sources sources2 items read_is written_is len told unsettles others none =
+    → ((o : ℕ) → is_marked sources2 o ≡ false) → length sources2 ≡ length sources
+    → Tells (graph_of nodes subjects sources) (graph_of nodes2 subjects sources2)
+tells_of nodes read written nodes2 subjects sources sources2 items read_is written_is len told unsettles others none
+    marks =
     record {
       subjects = refl;
       len = len ∙ ap length written_is;
@@ -340,6 +341,7 @@ tells_of nodes read written nodes2 subjects sources sources2 items read_is writt
         )
       ];
       sources = none;
+      marks = marks;
     }
   where
     of_read : (o : ℕ) → IsTold (graph_of read subjects sources) o → IsTold (graph_of nodes subjects sources) o
@@ -352,11 +354,39 @@ tells_of nodes read written nodes2 subjects sources sources2 items read_is writt
 pub stands_told : (nodes nodes2 : List (Option Node)) (pairs : PairsView) (sources sources2 wave wave2 : SetView)
     → Stands nodes pairs sources wave → Tells (graph_of nodes pairs.subjects sources.marks)
     (graph_of nodes2 pairs.subjects sources2.marks)
-    → length sources2.marks ≡ length sources.marks → length wave2.marks ≡ length wave.marks → wave2.items ≡ []
-    → Stands nodes2 pairs sources2 wave2
-stands_told nodes nodes2 pairs sources sources2 wave wave2 s t marks room empty = record {
-  whole = whole_told (graph_of nodes pairs.subjects sources.marks) nodes2 sources2.marks s.whole t.len marks
+    → length wave2.marks ≡ length wave.marks → wave2.items ≡ [] → Stands nodes2 pairs sources2 wave2
+stands_told nodes nodes2 pairs sources sources2 wave wave2 s t room empty = record {
+  whole = whole_told (graph_of nodes pairs.subjects sources.marks) nodes2 sources2.marks s.whole t.len t.marks
       (λ o. elim (t.node o) [ inl h ↦ inl h.1 | inr h ↦ inr h.1 ]) t.sources;
   room = room ∙ s.room ∙ sym t.len;
   empty = empty;
 }
+
+-- a node that is not current, whatever it is
+pub stands_stale : (nodes : List (Option Node)) (pairs : PairsView) (sources wave : SetView) (o : ℕ)
+    → IsSome (slice_index_or nodes o None) → Stands nodes pairs sources wave
+    → Stands (slice_set nodes o (unsettled (slice_index_or nodes o None))) pairs sources wave
+stands_stale nodes pairs sources wave o live s = record {
+  whole = whole_nodes (graph_of nodes pairs.subjects sources.marks) (slice_set nodes o new) s.whole
+      (length-set nodes o new)
+      (λ p alive. elim (cases_eq p o) [
+        | inl same ↦ subst (λ (z : ℕ). IsSome (slice_index_or (slice_set nodes o new) z None)) (sym same)
+            (subst IsSome (sym (get_or-set_same nodes o new None low))
+            (some_unsettled (slice_index_or nodes o None) live))
+        | inr other ↦ subst IsSome (sym (get_or-set_other nodes o p new None other)) alive
+      ])
+      (λ p. elim (cases_eq p o) [
+        | inl same ↦ subst (λ (z : ℕ). IsPlain (slice_index_or (slice_set nodes o new) z None)) (sym same)
+            (subst IsPlain (sym (get_or-set_same nodes o new None low))
+            (plain_unsettled (slice_index_or nodes o None) (s.whole.flags o)))
+        | inr other ↦ subst IsPlain (sym (get_or-set_other nodes o p new None other)) (s.whole.flags p)
+      ]);
+  room = s.room ∙ sym (length-set nodes o new);
+  empty = s.empty;
+}
+  where
+    new : Option Node
+    new = unsettled (slice_index_or nodes o None)
+
+    low : o < length nodes
+    low = live_within nodes o live

@@ -1,5 +1,6 @@
 -- What the calls change.
-use Rattle.std.specs.Prelude.{◌≡◌, ◌⊎◌, ◌↔◌, ◌++◌, ℕ, true, false, [], ◌∷◌, Option, Some, None, slice_set}
+use Rattle.std.specs.Prelude.{◌≡◌, ◌⊎◌, ◌↔◌, ◌++◌, ℕ, true, false, List, [], ◌∷◌, length, Option, Some, None, slice_set}
+use Rattle.walks.specs.Walk.{Among}
 use Rattle.observer_graph.specs.declared.node.Role.{Role}
 use Rattle.observer_graph.specs.declared.node.Flags.{Flags}
 use Rattle.observer_graph.specs.declared.node.Node.{Node}
@@ -12,6 +13,12 @@ with_node role graph = record {
   subjects = graph.subjects ++ [] ∷ [];
   sources = graph.sources ++ false ∷ [];
 }
+
+-- a new node is last; it observes these, each once, is no source, and its flags are off
+pub record AddsNode (role : Role) (named : List ℕ) (old new : GraphView) : Type 0 where
+  pub nodes : new.nodes ≡ old.nodes ++ Some (record { role = role; flags = no_flags }) ∷ []
+  pub sources : new.sources ≡ old.sources ++ false ∷ []
+  pub pairs : (x o : ℕ) → IsPair new x o ↔ (IsPair old x o ⊎ (Among x named × (o ≡ length old.nodes)))
 
 -- one pair more
 pub record AddsPair (old new : GraphView) (subject observer : ℕ) : Type 0 where

@@ -63,6 +63,7 @@ pub record IsSet (marks : List Bool) (items : List ℕ) : Type 0 where
 -- a set with more nodes at its end
 pub record Extends (old new : SetView) (more : ℕ → Type 0) : Type 0 where
   pub room : length new.marks ≡ length old.marks
+  pub spare : new.spare ≡ old.spare
   pub end : (tail : List ℕ) × (new.items ≡ old.items ++ tail)
   pub items : (o : ℕ) → Among o new.items ↔ (Among o old.items ⊎ more o)
 

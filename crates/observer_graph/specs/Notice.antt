@@ -1,5 +1,5 @@
 -- Whom a notice reaches, and what lies beneath a node.
-use Rattle.std.specs.Prelude.{◌≡◌, ◌⊎◌, ◌==◌, ◌&&◌, ◌||◌, not, ℕ, Bool, true, false, length, Option, Some, None}
+use Rattle.std.specs.Prelude.{◌≡◌, ◌⊎◌, ◌==◌, ◌&&◌, ◌||◌, ◌≤◌, not, ℕ, Bool, true, false, length, Option, Some, None, slice_set, ltb, if◌then◌else◌}
 use Rattle.walks.specs.Walk.{Below}
 use Rattle.observer_graph.specs.declared.node.Role.{Role}
 use Rattle.observer_graph.specs.declared.node.Role.TheVariants.{Source, Forwarder, Lazy}
@@ -35,6 +35,10 @@ abbrev pub unsettled : Option Node → Option Node
 unsettled None = None
 unsettled (Some node) = Some (record node { flags = record node.flags { current = false } })
 
+-- a node is not current, whatever it is; nobody is told
+abbrev pub with_stale : ℕ → GraphView → GraphView
+with_stale o graph = record graph { nodes = slice_set graph.nodes o (unsettled (node_at graph o)) }
+
 -- what a notice from the marked sources does: who is told is not current, nothing else of a node changes, pairs stay,
 -- and no source stays marked
 pub record Tells (old new : GraphView) : Type 0 where
@@ -43,3 +47,14 @@ pub record Tells (old new : GraphView) : Type 0 where
   pub node : (o : ℕ) → (IsTold old o × (node_at new o ≡ unsettled (node_at old o)))
       ⊎ ((IsTold old o → ⊥) × (node_at new o ≡ node_at old o))
   pub sources : (o : ℕ) → is_source new o ≡ false
+  pub marks : length new.sources ≡ length old.sources
+
+-- the least observer of a subject, if it has any
+abbrev pub IsLeast : (ℕ → Type 0) → Option ℕ → Type 0
+IsLeast P None = (o : ℕ) → P o → ⊥
+IsLeast P (Some x) = P x × ((o : ℕ) → P o → x ≤ o)
+
+-- the lesser of two nodes, if there are two
+abbrev pub lesser : Option ℕ → ℕ → ℕ
+lesser None node = node
+lesser (Some found) node = if ltb node found then node else found

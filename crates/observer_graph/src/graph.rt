@@ -1,13 +1,15 @@
 // The graph of observers and its calls.
-ghost use Rattle.std.specs.Prelude.{◌≡◌, ◌↔◌, ◌<◌, ◌≤◌, [], length, IsTrue, IfOk, OnOk, OnErr};
+ghost use Rattle.std.specs.Prelude.{◌≡◌, ◌↔◌, ◌<◌, ◌≤◌, ℕ, [], length, IsTrue, IfOk, OnOk, OnErr, is_some};
+ghost use Rattle.walks.specs.Walk.{Among};
 ghost use Rattle.observer_graph.specs.GraphView.{IsLive, IsLazy, IsPair, IsWhole, node_at, flags_at};
-ghost use Rattle.observer_graph.specs.Notice.{Reaches, Tells};
-ghost use Rattle.observer_graph.specs.Change.{AddsPair, TakesPair, TakesNode, flagged, with_node, with_flags, with_source};
+ghost use Rattle.observer_graph.specs.Notice.{IsLeast, Reaches, Tells, with_stale};
+ghost use Rattle.observer_graph.specs.Change.{AddsNode, AddsPair, TakesPair, TakesNode, flagged, with_node, with_flags, with_source};
 
+use crate::lists::least_of;
 use crate::node::{Flags, Node, Role};
 use crate::node_set::NodeSet;
 use crate::pairs::Pairs;
-use crate::walk::{is_beneath, tell_all, unsettle};
+use crate::walk::{is_beneath, tell_all, unsettle, unsettle_one};
 use desk_names::ObjId;
 use std::alloc::{AllocError, Global};
 use std::marker::Model;
@@ -74,6 +76,34 @@ impl Graph {
         Ok(node)
     }
 
+    /// A new node, numbered next, which observes these; one that is named twice is observed once. It is no source,
+    /// and its flags are off. After want of memory the graph is as it was.
+    pub fn add_watching(&mut self, role: Role, subjects: &[ObjId]) -> Result<ObjId, AllocError>
+        requires room { length self.old.nodes < MOST_NODES }
+        requires live { (x : ℕ) → Among x subjects.now → IsLive self.old x }
+        ensures number { IfOk result (λ node. node ≡ length self.old.nodes) }
+        ensures ok { OnOk result (AddsNode role subjects.now self.old self.new) }
+        ensures err { OnErr result (self.new ≡ self.old) }
+        ensures whole { IsWhole self.new }
+    {
+        self.nodes.reserve(1)?;
+        self.pairs.reserve()?;
+        self.sources.reserve()?;
+        self.wave.reserve()?;
+        let node = ObjId(self.nodes.len() as u32);
+        self.wave.insert_all(subjects);
+        let linked = self.pairs.grow_linked(node, self.wave.items());
+        self.wave.clear();
+        linked?;
+        self.nodes.push_reserved(Some(Node {
+            role,
+            flags: Flags::default(),
+        }));
+        self.sources.grow();
+        self.wave.grow();
+        Ok(node)
+    }
+
     /// The observer observes the subject too. After want of memory the graph is as it was.
     pub fn watch(&mut self, subject: ObjId, observer: ObjId) -> Result<(), AllocError>
         requires subject { IsLive self.old subject }
@@ -120,6 +150,36 @@ impl Graph {
         answer
     }
 
+    /// The least observer of a node, if it has any. Takes time in proportion to their number.
+    pub fn least_observer(&self, node: ObjId) -> Option<ObjId>
+        requires { IsLive self.now node }
+        ensures { IsLeast (λ o. IsPair self.now node o) result }
+    {
+        least_of(self.pairs.observers(node))
+    }
+
+    /// Whether a live node has this number.
+    pub fn is_live(&self, node: ObjId) -> bool
+        ensures { result ≡ is_some (node_at self.now node) }
+    {
+        match self.nodes.get(node.place()) {
+            Some(Some(_)) => true,
+            Some(None) => false,
+            None => false,
+        }
+    }
+
+    /// Whether a node is current; no node is that does not live.
+    pub fn is_current(&self, node: ObjId) -> bool
+        ensures { result ≡ (flags_at self.now node).current }
+    {
+        match self.nodes.get(node.place()) {
+            Some(Some(live)) => live.flags.current,
+            Some(None) => false,
+            None => false,
+        }
+    }
+
     /// The flags of a node; all are off on a node that is not lazy.
     pub fn flags(&self, node: ObjId) -> Flags
         requires { IsLive self.now node }
@@ -137,6 +197,14 @@ impl Graph {
         ensures { self.new ≡ with_flags node flags self.old }
     {
         set_flags_of(&mut self.nodes[node.place()], flags);
+    }
+
+    /// The node is not current, whatever its role. Nobody is told. Takes no memory.
+    pub fn outdate(&mut self, node: ObjId)
+        requires { IsLive self.old node }
+        ensures { self.new ≡ with_stale node self.old }
+    {
+        unsettle_one(&mut self.nodes[node.place()]);
     }
 
     /// The next notice starts from this node too. Takes no memory.

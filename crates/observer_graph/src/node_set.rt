@@ -72,6 +72,14 @@ impl NodeSet {
         self.items.len()
     }
 
+    /// The nodes in the order in which they came.
+    pub fn items(&self) -> &[ObjId]
+        ensures items { result.now ≡ self.now.items }
+        ensures set { IsSet self.now.marks self.now.items }
+    {
+        self.items.as_slice()
+    }
+
     /// The node at a place in the order in which they came, from 0.
     pub fn get(&self, at: usize) -> ObjId
         requires { at < length self.now.items }
@@ -127,6 +135,7 @@ impl NodeSet {
         ensures marks { (o : ℕ) → is_marked self.new.marks o ≡ false }
         ensures len { length self.new.marks ≡ length self.old.marks }
         ensures items { self.new.items ≡ [] }
+        ensures spare { self.new.spare ≡ self.old.spare }
     {
         unmark_all(&mut self.marks, &self.items);
         self.items.clear();

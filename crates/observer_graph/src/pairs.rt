@@ -1,7 +1,7 @@
 // The pairs of subjects and observers, kept at both ends.
-ghost use Rattle.std.specs.Prelude.{◌≡◌, ◌⊎◌, ◌↔◌, ◌<◌, ◌++◌, ℕ, [], ◌∷◌, length, IsTrue, OnOk, OnErr};
+ghost use Rattle.std.specs.Prelude.{◌≡◌, ◌⊎◌, ◌↔◌, ◌+◌, ◌<◌, ◌++◌, ℕ, [], ◌∷◌, length, take, slice_set, IsTrue, OnOk, OnErr};
 ghost use Rattle.walks.specs.Walk.{Among};
-ghost use Rattle.observer_graph.specs.Lists.{list_at, lists_of, AreOnce, ArePairs, IsMirrored};
+ghost use Rattle.observer_graph.specs.Lists.{list_at, lists_of, with_last_at, IsOnce, AreOnce, ArePairs, IsMirrored};
 
 use crate::lists::{empty_at, push_at, reserve_at, take_out_at, take_out_of_each};
 use desk_names::ObjId;
@@ -62,6 +62,26 @@ impl Pairs {
         self.observers.push_reserved(Vec::new(self.alloc));
     }
 
+    /// One node more, numbered next, which observes these; after want of memory the pairs are as they were.
+    pub fn grow_linked(&mut self, node: ObjId, named: &[ObjId]) -> Result<(), AllocError>
+        requires room { 0 < self.old.spare }
+        requires next { node ≡ length self.old.subjects }
+        requires within { (x : ℕ) → Among x named.now → x < length self.old.subjects }
+        requires once { IsOnce named.now }
+        ensures ok { OnOk result (self.new.subjects ≡ self.old.subjects ++ named.now ∷ []) }
+        ensures err { OnErr result (self.new.subjects ≡ self.old.subjects) }
+    {
+        self.subjects.push_reserved(Vec::new(self.alloc));
+        self.observers.push_reserved(Vec::new(self.alloc));
+        match link_all(&mut self.subjects, &mut self.observers, node, named) {
+            Ok(()) => Ok(()),
+            Err(fault) => {
+                drop_last(&mut self.subjects, &mut self.observers, node);
+                Err(fault)
+            }
+        }
+    }
+
     /// The subjects that a node observes.
     pub fn subjects(&self, node: ObjId) -> &[ObjId]
         requires { node < length self.now.subjects }
@@ -117,6 +137,43 @@ impl Pairs {
     }
 }
 
+// A node that observes nothing observes these; after want of memory it observes some of them.
+fn link_all(
+    subjects: &mut [Vec<ObjId>],
+    observers: &mut [Vec<ObjId>],
+    node: ObjId,
+    named: &[ObjId],
+) -> Result<(), AllocError>
+    requires mirrored { IsMirrored (lists_of subjects.old) (lists_of observers.old) }
+    requires node { node < length subjects.old }
+    requires none { list_at (lists_of subjects.old) node ≡ [] }
+    requires within { (x : ℕ) → Among x named.now → x < length subjects.old }
+    requires once { IsOnce named.now }
+    ensures mirrored { IsMirrored (lists_of subjects.new) (lists_of observers.new) }
+    ensures ok { OnOk result (lists_of subjects.new ≡ slice_set (lists_of subjects.old) node named.now) }
+    ensures err { OnErr result ((count : ℕ) × (lists_of subjects.new ≡ slice_set (lists_of subjects.old) node (take count named.now))) }
+{
+    for subject in named {
+        link_ends(subjects, observers, *subject, node)?;
+    }
+    Ok(())
+}
+
+// The last node goes, at both ends: nobody observes it.
+fn drop_last(subjects: &mut Vec<Vec<ObjId>>, observers: &mut Vec<Vec<ObjId>>, node: ObjId)
+    requires mirrored { IsMirrored (lists_of subjects.old.items) (lists_of observers.old.items) }
+    requires last { length subjects.old.items ≡ node + 1 }
+    requires unused { (o : ℕ) → Among node (list_at (lists_of subjects.old.items) o) → ⊥ }
+    ensures mirrored { IsMirrored (lists_of subjects.new.items) (lists_of observers.new.items) }
+    ensures front { lists_of subjects.new.items ≡ take node (lists_of subjects.old.items) }
+{
+    match subjects.pop() {
+        Some(its_subjects) => take_out_of_each(observers, &its_subjects, node),
+        None => unreachable!(),
+    }
+    observers.pop();
+}
+
 // A pair more, at both ends.
 fn link_ends(
     subjects: &mut [Vec<ObjId>],
@@ -131,6 +188,7 @@ fn link_ends(
     ensures mirrored { IsMirrored (lists_of subjects.new) (lists_of observers.new) }
     ensures ok { OnOk result (ArePairs (lists_of subjects.new)
         (λ x o. Among x (list_at (lists_of subjects.old) o) ⊎ ((x ≡ subject) × (o ≡ observer)))) }
+    ensures last { OnOk result (lists_of subjects.new ≡ with_last_at (lists_of subjects.old) observer subject) }
     ensures err { OnErr result (lists_of subjects.new ≡ lists_of subjects.old) }
 {
     reserve_at(subjects, observer)?;

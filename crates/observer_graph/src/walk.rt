@@ -109,8 +109,8 @@ pub fn unsettle(nodes: &mut [Option<Node>], wave: &NodeSet)
     }
 }
 
-// A node is no longer current.
-fn unsettle_one(node: &mut Option<Node>)
+/// A node is no longer current.
+pub fn unsettle_one(node: &mut Option<Node>)
     ensures { node.new ≡ unsettled node.old }
 {
     if let Some(live) = node {

@@ -5,6 +5,8 @@ use Rattle.desk_model.specs.declared.kept.Kept.{Kept}
 use Rattle.lazy_objects.specs.Slots.{market_of, state_of}
 use Rattle.lazy_objects.proofs.Loop.{Asking, left, left_refused, top_lazy, top_within, open_of, begins, pushes, stops, fits, faulted, valued, ends, stack_bound, few, lazy_terms}
 use Rattle.desk_model.specs.Market.{terms_at}
+use Rattle.lazy_objects.specs.Shape.{Shape, role_at}
+use Rattle.lazy_objects.proofs.Joined.{lazy_there}
 use Rattle.lazy_objects.proofs.Stacks.{measure_push, measure_value}
 use Rattle.lazy_objects.proofs.Fronted.{on_err, stopped, stopped_in_bench}
 use Rattle.lazy_objects.proofs.Fronts.{begun_valued}
@@ -18,6 +20,7 @@ loop-top-init g c = (
       (begins (g.B.Bench.calc c.args.bench.now) (state_of c.args.today c.args.slots.now c.args.store.now.kept) c.args.object (g.B.Bench.count c.args.bench.now) (g.B.Bench.log c.args.bench.now) c.requires.may c.requires.stale),
   c.requires.remembers,
   c.requires.begun,
+  refl,
 )
 
 pub returns-in_err-cause-clause-same : goal.returns-in_err-cause-clause-same
@@ -62,6 +65,7 @@ loop-top-preserved-in-Continue-branch-5 g c =
           (pushes calc s c.args.object count0 log0 stack c.in-Some.top c.loop-top.store.kept c.loop-top.runs (g.B.Bench.count c.loop-top.bench) (g.B.Bench.log c.loop-top.bench) a c.in-First.needed (sym c.in_ok-cause.ensures.next ∙ c.in-First.is)),
       c.in_ok-cause.ensures.remembers,
       c.in_ok-cause.ensures.begun,
+      c.loop-top.invariant.4,
     )
 
 pub returns-in_err-push-in-First-2-clause-same : goal.returns-in_err-push-in-First-2-clause-same
@@ -120,6 +124,7 @@ loop-top-preserved g c =
       begun_valued calc c.args.today c.args.slots.now c.in-Some.top c.in-Ready.inputs c.loop-top.store.kept c.compute.new.store.kept c.next.new.scratch.positions c.in_ok-cause-in-Ready.cause (g.B.Bench.count c.loop-top.bench) (g.B.Bench.count c.compute.new.bench) (g.B.Bench.log c.loop-top.bench) (g.B.Bench.log c.compute.new.bench) c.in_ok-cause.ensures.begun
           (top_within calc s c.args.object count0 log0 stack c.in-Some.top c.loop-top.store.kept c.loop-top.runs (g.B.Bench.count c.loop-top.bench) (g.B.Bench.log c.loop-top.bench) a) (top_lazy calc s c.args.object count0 log0 stack c.in-Some.top c.loop-top.store.kept c.loop-top.runs (g.B.Bench.count c.loop-top.bench) (g.B.Bench.log c.loop-top.bench) a)
           (subst (λ k. Computes k (market_of c.args.today c.args.slots.now) c.in-Some.top c.in-Ready.inputs c.loop-top.store.kept c.compute.new.store.kept c.in_ok-cause-in-Ready.cause (g.B.Bench.count c.loop-top.bench) (g.B.Bench.count c.compute.new.bench) (g.B.Bench.log c.loop-top.bench) (g.B.Bench.log c.compute.new.bench)) c.loop-top.invariant.0 c.in_ok-cause-in-Ready.ensures.computes) (sym c.is_some.ensures ∙ c.if-is_some.false),
+      c.compute.ensures.shape ∙ c.loop-top.invariant.4,
     )
 
 pub returns-clause-same : goal.returns-clause-same
@@ -186,15 +191,34 @@ pub returns-in_err-push-clause-stops : goal.returns-in_err-push-clause-stops
 returns-in_err-push-clause-stops g c = on_err _ (stopped (g.B.Bench.calc c.args.bench.now) (state_of c.args.today c.args.slots.now c.args.store.now.kept) c.args.object (g.B.Bench.count c.args.bench.now) (g.B.Bench.log c.args.bench.now) (c.args.object ∷ []) c.args.store.now.kept 0 (g.B.Bench.count c.args.bench.now) (g.B.Bench.log c.args.bench.now)
     (begins (g.B.Bench.calc c.args.bench.now) (state_of c.args.today c.args.slots.now c.args.store.now.kept) c.args.object (g.B.Bench.count c.args.bench.now) (g.B.Bench.log c.args.bench.now) c.requires.may c.requires.stale))
 
-pub compute-requires-clause-within : goal.compute-requires-clause-within
-compute-requires-clause-within g c =
+pub compute-requires-clause-role : goal.compute-requires-clause-role
+compute-requires-clause-role g c =
     let calc = g.B.Bench.calc c.args.bench.now in
     let s = state_of c.args.today c.args.slots.now c.args.store.now.kept in
     let count0 = g.B.Bench.count c.args.bench.now in
     let log0 = g.B.Bench.log c.args.bench.now in
     let stack = c.pop.new.self.items in
     let a = subst (λ (st : List ℕ). Asking calc s c.args.object count0 log0 st c.loop-top.store.kept c.loop-top.runs (g.B.Bench.count c.loop-top.bench) (g.B.Bench.log c.loop-top.bench)) c.in-Some.ensures.items c.loop-top.invariant.1 in
-    top_within calc s c.args.object count0 log0 stack c.in-Some.top c.loop-top.store.kept c.loop-top.runs (g.B.Bench.count c.loop-top.bench) (g.B.Bench.log c.loop-top.bench) a
+    ap (λ (h : Shape). role_at h c.in-Some.top) c.loop-top.invariant.4
+    ∙ lazy_there (market_of c.args.today c.args.slots.now) c.args.store.now.shape c.requires.joined c.in-Some.top (top_lazy calc s c.args.object count0 log0 stack c.in-Some.top c.loop-top.store.kept c.loop-top.runs (g.B.Bench.count c.loop-top.bench) (g.B.Bench.log c.loop-top.bench) a)
+
+pub returns-in_err-cause-clause-shape : goal.returns-in_err-cause-clause-shape
+returns-in_err-cause-clause-shape g c = c.loop-top.invariant.4
+
+pub returns-in-Stops-clause-shape : goal.returns-in-Stops-clause-shape
+returns-in-Stops-clause-shape g c = c.loop-top.invariant.4
+
+pub returns-in_err-push-in-First-2-clause-shape : goal.returns-in_err-push-in-First-2-clause-shape
+returns-in_err-push-in-First-2-clause-shape g c = c.loop-top.invariant.4
+
+pub returns-in_err-cause-in-Ready-clause-shape : goal.returns-in_err-cause-in-Ready-clause-shape
+returns-in_err-cause-in-Ready-clause-shape g c = c.compute.ensures.shape ∙ c.loop-top.invariant.4
+
+pub returns-then-is_some-clause-shape : goal.returns-then-is_some-clause-shape
+returns-then-is_some-clause-shape g c = c.compute.ensures.shape ∙ c.loop-top.invariant.4
+
+pub returns-clause-shape : goal.returns-clause-shape
+returns-clause-shape g c = c.loop-top.invariant.4
 
 pub overflow_add-runs : goal.overflow_add-runs
 overflow_add-runs g c =
@@ -206,3 +230,6 @@ overflow_add-runs g c =
     let a = subst (λ (st : List ℕ). Asking calc s c.args.object count0 log0 st c.loop-top.store.kept c.loop-top.runs (g.B.Bench.count c.loop-top.bench) (g.B.Bench.log c.loop-top.bench)) c.in-Some.ensures.items c.loop-top.invariant.1 in
     let f = few calc s c.args.object count0 log0 stack c.in-Some.top c.loop-top.store.kept c.loop-top.runs (g.B.Bench.count c.loop-top.bench) (g.B.Bench.log c.loop-top.bench) a in
     omega (arith, f)
+
+pub next-requires-clause-kinds : goal.next-requires-clause-kinds
+next-requires-clause-kinds g c = c.loop-top.invariant.1.may.kinds

@@ -10,6 +10,7 @@ invariant-loop-top g l = (g.B.Bench.calc l.bench ≡ g.B.Bench.calc l.initial.be
     × Asking (g.B.Bench.calc l.initial.bench) (state_of l.today l.slots l.initial.store.kept) l.fn.object (g.B.Bench.count l.initial.bench) (g.B.Bench.log l.initial.bench) l.stack.items l.store.kept l.runs (g.B.Bench.count l.bench) (g.B.Bench.log l.bench)
     × Remembers (market_of l.today l.slots) l.scratch.entries
     × Begun l.slots l.store.kept l.scratch.positions
+    × (l.store.shape ≡ l.initial.store.shape)
 
 abbrev pub decreases-loop-top : goal.decreases-loop-top
 decreases-loop-top g l = open_of l.store.kept * (length l.slots + 3) + (length l.slots + 2 - length l.stack.items)

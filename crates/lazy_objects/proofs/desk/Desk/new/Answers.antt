@@ -1,4 +1,4 @@
-use Rattle.std.proofs.Common.{ℕ, List, [], ◌∷◌, ◌++◌, Option, None, Bool, false, length, sym, ◌∙◌, ap, subst}
+use Rattle.std.proofs.Common.{ℕ, List, [], ◌∷◌, ◌++◌, Option, None, sym, ◌∙◌, ap, subst}
 use Rattle.desk_model.specs.declared.kept.Kept.{Kept}
 use Rattle.desk_model.specs.declared.entry.Entry.{Entry}
 use Rattle.desk_model.specs.declared.slot.Slot.{Slot}
@@ -7,22 +7,26 @@ use Rattle.desk_model.specs.State.{State, unpriced}
 use Rattle.desk_model.specs.Sound.{IsSound}
 use Rattle.desk_model.proofs.Starts.{sound_start}
 use Rattle.lazy_objects.specs.Stands.{Stands}
+use Rattle.lazy_objects.specs.Slots.{market_of}
+use Rattle.lazy_objects.specs.Shape.{IsJoined}
+use Rattle.lazy_objects.proofs.Joined.{joined_start}
 use Rattle.lazy_objects.proofs.Ends.{started, start_state, empty_none, empty_grown}
 use Rattle.lazy_objects.proofs.desk.Desk.new.Goals as goal
 
 pub invariant_of-result : goal.invariant_of-result
 invariant_of-result c =
     let slots = c.in_ok-push.ensures.items ∙ ap (λ (l : List Slot). l ++ Today ∷ []) c.new-slots.ensures.items in
-    let kept = c.grow.ensures ∙ ap (λ (l : List Kept). l ++ unpriced ∷ []) (c.in_ok-reserve.ensures.kept ∙ c.new-store.ensures) in
-    let entries = c.grow-2.ensures.entries ∙ ap (λ (l : List (Option Entry)). l ++ None ∷ []) c.in_ok-reserve-2.ensures.entries in
-    let positions = c.grow-2.ensures.positions ∙ ap (λ (l : List ℕ). l ++ 0 ∷ []) c.in_ok-reserve-2.ensures.positions in (
-      subst (λ (t : State). Stands t c.grow-2.new.self) (sym (start_state c.args.today c.push.new.self.items c.grow.new.self.kept slots kept))
-          (started c.args.today c.grow-2.new.self (empty_grown 0 c.new-scratch.result c.grow-2.new.self (empty_none c.new-scratch.result c.new-scratch.ensures.entries c.new-scratch.ensures.positions) entries positions)),
-      ap length (c.in_ok-push-2.ensures.items ∙ ap (λ (l : List Bool). l ++ false ∷ []) c.new-marks.ensures.items) ∙ sym (ap length slots),
+    let kept = c.in_ok-add.ensures.added.kept ∙ ap (λ (l : List Kept). l ++ unpriced ∷ []) c.new-store.ensures.kept in
+    let entries = c.grow.ensures.entries ∙ ap (λ (l : List (Option Entry)). l ++ None ∷ []) c.in_ok-reserve.ensures.entries in
+    let positions = c.grow.ensures.positions ∙ ap (λ (l : List ℕ). l ++ 0 ∷ []) c.in_ok-reserve.ensures.positions in (
+      subst (λ (t : State). Stands t c.grow.new.self) (sym (start_state c.args.today c.push.new.self.items c.add.new.self.kept slots kept))
+          (started c.args.today c.grow.new.self (empty_grown 0 c.new-scratch.result c.grow.new.self (empty_none c.new-scratch.result c.new-scratch.ensures.entries c.new-scratch.ensures.positions) entries positions)),
+      subst (λ (l : List Slot). IsJoined (market_of c.args.today l) c.add.new.self.shape) (sym slots)
+          (joined_start c.args.today c.new-store.result c.add.new.self c.new-store.ensures.kept c.new-store.ensures.roles c.new-store.ensures.subjects c.in_ok-add.ensures.added),
     )
 
 pub returns-clause-sound : goal.returns-clause-sound
 returns-clause-sound c calc =
     let slots = c.in_ok-push.ensures.items ∙ ap (λ (l : List Slot). l ++ Today ∷ []) c.new-slots.ensures.items in
-    let kept = c.grow.ensures ∙ ap (λ (l : List Kept). l ++ unpriced ∷ []) (c.in_ok-reserve.ensures.kept ∙ c.new-store.ensures) in
-    subst (IsSound calc) (sym (start_state c.args.today c.push.new.self.items c.grow.new.self.kept slots kept)) (sound_start calc c.args.today)
+    let kept = c.in_ok-add.ensures.added.kept ∙ ap (λ (l : List Kept). l ++ unpriced ∷ []) c.new-store.ensures.kept in
+    subst (IsSound calc) (sym (start_state c.args.today c.push.new.self.items c.add.new.self.kept slots kept)) (sound_start calc c.args.today)

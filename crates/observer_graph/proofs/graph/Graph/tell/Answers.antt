@@ -26,8 +26,8 @@ invariant_of-self c =
     (tells_of c.self.inside.nodes.items c.deref.result.now c.deref_mut.result.now c.unsettle.new.nodes
     c.self.inside.pairs.subjects c.self.inside.sources.marks c.clear-2.new.self.marks c.tell_all.new.wave.items
     c.deref.ensures.value c.deref_mut.ensures.value c.unsettle.auto.nodes c.tell_all.ensures.told
-    c.unsettle.ensures.told c.unsettle.ensures.others c.clear-2.ensures.marks)
-    c.clear-2.ensures.len (c.clear.ensures.len ∙ c.tell_all.ensures.room) c.clear.ensures.items)
+    c.unsettle.ensures.told c.unsettle.ensures.others c.clear-2.ensures.marks c.clear-2.ensures.len)
+    (c.clear.ensures.len ∙ c.tell_all.ensures.room) c.clear.ensures.items)
 
 pub returns : goal.returns
 returns c = rw (
@@ -38,4 +38,4 @@ returns c = rw (
     (tells_of c.self.inside.nodes.items c.deref.result.now c.deref_mut.result.now c.unsettle.new.nodes
     c.self.inside.pairs.subjects c.self.inside.sources.marks c.clear-2.new.self.marks c.tell_all.new.wave.items
     c.deref.ensures.value c.deref_mut.ensures.value c.unsettle.auto.nodes c.tell_all.ensures.told
-    c.unsettle.ensures.told c.unsettle.ensures.others c.clear-2.ensures.marks)
+    c.unsettle.ensures.told c.unsettle.ensures.others c.clear-2.ensures.marks c.clear-2.ensures.len)

@@ -28,6 +28,7 @@ invariant_of-self c = (
 pub returns-then-not-index-clause-extends : goal.returns-then-not-index-clause-extends
 returns-then-not-index-clause-extends c = rw (c.push_reserved.ensures.items, ← c.self.view_is) (record {
   room = length-set c.self.inside.marks.items c.place-then-not-index.result true;
+  spare = rw (c.push_reserved.ensures.capacity, length-set c.self.inside.marks.items c.place-then-not-index.result true) refl;
   end = (c.args.node ∷ [], refl);
   items = λ o. among_last o c.self.inside.items.items c.args.node;
 })

@@ -1,0 +1,174 @@
+-- The graph of a desk after a link.
+use Rattle.std.proofs.Common.{◌≡◌, ◌≢◌, ◌⊎◌, inl, inr, ℕ, ◌<◌, Bool, true, false, List, [], ◌∷◌, length, Option, None, Some, refl, sym, ◌∙◌, ap, subst}
+use Rattle.std.specs.Prelude.{ℤ, ◌↔◌, ◌==◌, slice_index_or, slice_set, is_some, IfSome, if◌then◌else◌}
+use Rattle.std.specs.Option.{option_eq}
+use Rattle.std.proofs.lemmas.Bool.{cases_lt, eq-eqb, false≢true}
+use Rattle.std.proofs.lemmas.List.{get_or_past}
+use Rattle.walks.specs.Walk.{Among}
+use Rattle.desk_terms.specs.declared.terms.Terms.{Terms}
+use Rattle.desk_terms.specs.declared.terms.Terms.TheVariants.{Handle}
+use Rattle.desk_terms.specs.declared.terms.HandleKind.{HandleKind}
+use Rattle.desk_terms.specs.declared.terms.HandleKind.TheVariants as handle
+use Rattle.desk_model.specs.declared.kept.Kept.{Kept}
+use Rattle.desk_model.specs.declared.slot.Slot.{Slot}
+use Rattle.desk_model.specs.declared.slot.Slot.TheVariants.{Live, Free, Today, Watcher}
+use Rattle.desk_model.specs.Market.{Market, slot_at, terms_in, is_given, edges_of}
+use Rattle.desk_model.specs.Held.{Changeable, changeable}
+use Rattle.desk_model.specs.State.{State}
+use Rattle.desk_model.specs.Told.{tell}
+use Rattle.desk_model.specs.Links.{IsLinked, AreOfKind}
+use Rattle.desk_model.specs.Laws.{MayLink, Keeps}
+use Rattle.desk_model.specs.Effect.{notified, revised, number_eq, target_set, relinked, with_terms}
+use Rattle.desk_model.proofs.Commands.{relink_keeps}
+use Rattle.desk_model.proofs.KindsKept.{relink_kinded}
+use Rattle.observer_graph.specs.declared.node.Role.{Role}
+use Rattle.observer_graph.specs.declared.node.Role.TheVariants.{Forwarder}
+use Rattle.lazy_objects.specs.Slots.{market_of, state_of}
+use Rattle.lazy_objects.specs.Shape.{Shape, IsJoined, role_at, observed_by, slot_role}
+use Rattle.lazy_objects.specs.Store.{StoreView, Joins, Leaves, JoinsAny, LeavesAny}
+use Rattle.lazy_objects.specs.Scratch.{ScratchView}
+use Rattle.lazy_objects.specs.Stands.{Stands}
+use Rattle.lazy_objects.proofs.Joined.{joined_set, there_given, there_seen}
+use Rattle.lazy_objects.proofs.Revised.{Changed}
+use Rattle.lazy_objects.proofs.Commanded.{link_stands, commanded}
+
+same_some : (x y : ℕ) → Some y ≡ Some x → x ≡ y
+same_some x y e = cc
+
+-- a handle observes its target
+pub handle_edges : (kind : HandleKind) (target : Option ℕ) (x : ℕ) → Among x (edges_of (Some (Handle kind target))) ↔ (target ≡ Some x)
+handle_edges handle.Quote None x = (λ a. absurd a, λ e. absurd (cc))
+handle_edges handle.Curve None x = (λ a. absurd a, λ e. absurd (cc))
+handle_edges handle.Quote (Some y) x = (λ a. elim a [ inl same ↦ ap Some (sym same) | inr none ↦ absurd none ], λ e. inl (same_some x y e))
+handle_edges handle.Curve (Some y) x = (λ a. elim a [ inl same ↦ ap Some (sym same) | inr none ↦ absurd none ], λ e. inl (same_some x y e))
+
+handle_role : (kind : HandleKind) (target : Option ℕ) → slot_role (Live (Handle kind target)) ≡ Some Forwarder
+handle_role handle.Quote target = refl
+handle_role handle.Curve target = refl
+
+role_there : (t : Slot) (kind : HandleKind) (target : Option ℕ) → terms_in t ≡ Some (Handle kind target) → slot_role t ≡ Some Forwarder
+role_there Free kind target is = absurd (cc)
+role_there Today kind target is = absurd (cc)
+role_there (Watcher action) kind target is = absurd (cc)
+role_there (Live terms) kind target is = ap (λ (u : Terms). slot_role (Live u)) (some_terms terms (Handle kind target) is) ∙ handle_role kind target
+  where
+    some_terms : (a b : Terms) → Some a ≡ Some b → a ≡ b
+    some_terms a b e = cc
+
+-- two targets of which one is an object are the same
+same_target : (held target : Option ℕ) (x : ℕ) → held ≡ Some x → target ≡ Some x → option_eq number_eq held target ≡ true
+same_target held target x is are = ap (λ (h : Option ℕ). option_eq number_eq h target) is ∙ ap (λ (t : Option ℕ). option_eq number_eq (Some x) t) are ∙ eq-eqb x x refl
+
+joins_pairs : (target : Option ℕ) (h : ℕ) (old new : StoreView) → JoinsAny target h old new → (x o : ℕ)
+    → Among x (observed_by new.shape o) ↔ (Among x (observed_by old.shape o) ⊎ ((target ≡ Some x) × (o ≡ h)))
+joins_pairs None h old new same x o = (
+  λ a. inl (subst (λ (v : StoreView). Among x (observed_by v.shape o)) same a),
+  λ a. elim a [ inl was ↦ subst (λ (v : StoreView). Among x (observed_by v.shape o)) (sym same) was | inr p ↦ absurd (cc) ],
+)
+joins_pairs (Some y) h old new joins x o = (
+  λ a. elim ((joins.pairs x o).0 a) [ inl was ↦ inl was | inr p ↦ inr (ap Some (sym p.0), p.1) ],
+  λ a. (joins.pairs x o).1 (elim a [ inl was ↦ inl was | inr p ↦ inr (same_some x y p.0, p.1) ]),
+)
+
+leaves_pairs : (held : Option ℕ) (h : ℕ) (old new : StoreView) → LeavesAny held h old new → (x o : ℕ)
+    → Among x (observed_by new.shape o) ↔ (Among x (observed_by old.shape o) × ((held ≡ Some x) × (o ≡ h) → ⊥))
+leaves_pairs None h old new same x o = (
+  λ a. (subst (λ (v : StoreView). Among x (observed_by v.shape o)) same a, λ p. none_some p.0),
+  λ a. subst (λ (v : StoreView). Among x (observed_by v.shape o)) (sym same) a.0,
+)
+  where
+    none_some : None ≡ Some x → ⊥
+    none_some e = absurd (cc)
+leaves_pairs (Some y) h old new leaves x o = (
+  λ a. let p = (leaves.pairs x o).0 a in (p.0, λ q. p.1 (same_some x y q.0, q.1)),
+  λ a. (leaves.pairs x o).1 (a.0, λ q. a.1 (ap Some (sym q.0), q.1)),
+)
+
+pub joins_roles : (target : Option ℕ) (h : ℕ) (old new : StoreView) → JoinsAny target h old new → (new.kept ≡ old.kept) × (new.shape.roles ≡ old.shape.roles)
+joins_roles None h old new same = (ap (λ (v : StoreView). v.kept) same, ap (λ (v : StoreView). v.shape.roles) same)
+joins_roles (Some y) h old new joins = (joins.kept, joins.roles)
+
+leaves_roles : (held : Option ℕ) (h : ℕ) (old new : StoreView) → LeavesAny held h old new → (new.kept ≡ old.kept) × (new.shape.roles ≡ old.shape.roles)
+leaves_roles None h old new same = (ap (λ (v : StoreView). v.kept) same, ap (λ (v : StoreView). v.shape.roles) same)
+leaves_roles (Some y) h old new leaves = (leaves.kept, leaves.roles)
+
+module _ (today : ℤ) (slots : List Slot) (h : ℕ) (kind : HandleKind) (held target : Option ℕ) (old : StoreView) (joined : IsJoined (market_of today slots) old.shape)
+    (is : terms_in (slice_index_or slots h Free) ≡ Some (Handle kind held)) where
+  handle_within : h < length slots
+  handle_within = elim (cases_lt h (length slots)) [ inl within ↦ within | inr past ↦ absurd (none_some (sym (ap terms_in (get_or_past slots h Free past)) ∙ is)) ]
+    where
+      none_some : None ≡ Some (Handle kind held) → ⊥
+      none_some e = absurd (cc)
+
+  pub handle_there : is_some (role_at old.shape h) ≡ true
+  handle_there = ap is_some (joined.roles h ∙ role_there (slice_index_or slots h Free) kind held is)
+
+  observes : (x : ℕ) → Among x (observed_by old.shape h) → held ≡ Some x
+  observes x a = (handle_edges kind held x).0 (subst (λ (t : Option Terms). Among x (edges_of t)) is ((joined.pairs h x).0 a))
+
+  pub target_there : MayLink (market_of today slots) h target → IfSome target (λ x. is_some (role_at old.shape x) ≡ true)
+  target_there may = by_target target may
+    where
+      by_target : (t : Option ℕ) → MayLink (market_of today slots) h t → IfSome t (λ x. is_some (role_at old.shape x) ≡ true)
+      by_target None may = tt
+      by_target (Some x) may = there_seen (market_of today slots) old.shape joined x may.0
+
+  pub held_there : IsLinked (market_of today slots) → (after : StoreView) → after.shape.roles ≡ old.shape.roles → IfSome held (λ x. is_some (role_at after.shape x) ≡ true)
+  held_there links after roles = by_held held refl
+    where
+      by_held : (t : Option ℕ) → held ≡ t → IfSome t (λ x. is_some (role_at after.shape x) ≡ true)
+      by_held None e = tt
+      by_held (Some x) e = ap (λ (l : List (Option Role)). is_some (slice_index_or l x None)) roles
+          ∙ there_seen (market_of today slots) old.shape joined x (links.observed h x (subst (λ (t : Option Terms). Among x (edges_of t)) (sym is) ((handle_edges kind held x).1 e)))
+
+  pub target_new : option_eq number_eq held target ≡ false → (x : ℕ) → target ≡ Some x → Among x (observed_by old.shape h) → ⊥
+  target_new differs x are a = false≢true (sym differs ∙ same_target held target x (observes x a) are)
+
+  pub joined_linked : (middle new : StoreView) → option_eq number_eq held target ≡ false → JoinsAny target h old middle → LeavesAny held h middle new
+      → IsJoined (market_of today (slice_set slots h (Live (Handle kind target)))) new.shape
+  joined_linked middle new differs joins leaves =
+      let more = joins_pairs target h old middle joins in
+      let less = leaves_pairs held h middle new leaves in
+      let roles = (leaves_roles held h middle new leaves).1 ∙ (joins_roles target h old middle joins).1 in
+      let role : (o : ℕ) → role_at new.shape o ≡ role_at old.shape o = λ o. ap (λ (l : List (Option Role)). slice_index_or l o None) roles in
+      joined_set today slots h (Handle kind target) new.shape (ap length roles ∙ joined.long) handle_within (role h ∙ joined.roles h ∙ role_there (slice_index_or slots h Free) kind held is ∙ sym (handle_role kind target))
+      (λ x. (
+        λ a. (handle_edges kind target x).1 (let p = (less x h).0 a in elim ((more x h).0 p.0) [ inl was ↦ absurd (p.1 (observes x was, refl)) | inr q ↦ q.0 ]),
+        λ a. let are = (handle_edges kind target x).0 a in (less x h).1 ((more x h).1 (inr (are, refl)), λ p. false≢true (sym differs ∙ same_target held target x p.0 are)),
+      ))
+      (λ o other. role o ∙ joined.roles o)
+      (λ o x other. (
+        λ a. (joined.pairs o x).0 (elim ((more x o).0 ((less x o).0 a).0) [ inl was ↦ was | inr p ↦ absurd (other p.1) ]),
+        λ a. (less x o).1 ((more x o).1 (inl ((joined.pairs o x).1 a)), λ p. other p.1),
+      ))
+
+pub linked_kept : (held target : Option ℕ) (h : ℕ) (old middle new : StoreView) → JoinsAny target h old middle → LeavesAny held h middle new → (new.kept ≡ old.kept) × (middle.shape.roles ≡ old.shape.roles)
+linked_kept held target h old middle new joins leaves = ((leaves_roles held h middle new leaves).0 ∙ (joins_roles target h old middle joins).0, (joins_roles target h old middle joins).1)
+
+-- a link tells where its target is another
+pub link_as : (s : State) (h : ℕ) (kind : HandleKind) (held target : Option ℕ) (b : Bool) → terms_in (slot_at s.market h) ≡ Some (Handle kind held) → option_eq number_eq held target ≡ b
+    → relinked h target s ≡ (if b then s else revised h (Handle kind target) s)
+unfolding relinked
+link_as s h kind held target b is e = ap (λ (t : Option Terms). target_set (changeable t) h target s) is ∙ ap (λ (c : Bool). if c then s else revised h (Handle kind target) s) e
+
+-- a change tells nothing of the market but the terms
+linked_before : (h : ℕ) (terms : Terms) (today : ℤ) (slots : List Slot) (kept : List Kept) → IsLinked (revised h terms (state_of today slots kept)).market → IsLinked (with_terms h terms (state_of today slots kept)).market
+unfolding revised notified tell
+linked_before h terms today slots kept links = links
+
+module _ (today : ℤ) (slots : List Slot) (kept : List Kept) (scratch : ScratchView) (stands : Stands (state_of today slots kept) scratch) (h : ℕ) (kind : HandleKind) (held target : Option ℕ)
+    (is : terms_in (slice_index_or slots h Free) ≡ Some (Handle kind held)) (may : MayLink (market_of today slots) h target) (differs : option_eq number_eq held target ≡ false) where
+  changed : relinked h target (state_of today slots kept) ≡ revised h (Handle kind target) (state_of today slots kept)
+  changed = link_as (state_of today slots kept) h kind held target false is differs
+
+  keeps : Keeps (state_of today slots kept) (relinked h target (state_of today slots kept))
+  keeps = relink_keeps (state_of today slots kept) stands.whole h target may
+
+  pub link_links : IsLinked (with_terms h (Handle kind target) (state_of today slots kept)).market
+  link_links = linked_before h (Handle kind target) today slots kept (subst (λ (t : State). IsLinked t.market) changed keeps.whole.links)
+
+  pub link_changed : ((k : HandleKind) (t : Option ℕ) → terms_in (slice_index_or slots h Free) ≡ Some (Handle k t) → AreOfKind (market_of today slots) (Some (Handle k target)))
+      → (new : State) → new ≡ revised h (Handle kind target) (state_of today slots kept) → Changed (state_of today slots kept) new (relinked h target (state_of today slots kept)) scratch
+  link_changed kinds new e =
+      commanded today slots kept scratch stands (relinked h target (state_of today slots kept)) new keeps
+      (link_stands today slots kept scratch stands h target keeps.whole (relink_kinded (state_of today slots kept) stands.whole stands.kinds h target kinds)) (e ∙ sym changed)

@@ -1,0 +1,82 @@
+-- The graph of a desk: the role of each object and whom it observes.
+use Rattle.std.specs.Prelude.{◌≡◌, ◌↔◌, ◌+◌, ℕ, Bool, List, [], ◌∷◌, length, map, Option, Some, None, slice_index_or, if◌then◌else◌}
+use Rattle.walks.specs.Walk.{Among}
+use Rattle.desk_terms.specs.declared.terms.Terms.{Terms}
+use Rattle.desk_terms.specs.declared.value.Value.{Value}
+use Rattle.desk_terms.specs.Kind as kind
+use Rattle.desk_terms.specs.Kind.{observes_today}
+use Rattle.desk_terms.specs.Terms.{kind_of, inputs_of}
+use Rattle.desk_model.specs.declared.kept.Kept.{Kept}
+use Rattle.desk_model.specs.declared.slot.Slot.{Slot}
+use Rattle.desk_model.specs.declared.slot.Slot.TheVariants as slot
+use Rattle.desk_model.specs.Market.{Market, slot_at, edges, named, role_of}
+use Rattle.observer_graph.specs.declared.node.Role.{Role}
+use Rattle.observer_graph.specs.declared.node.Role.TheVariants.{Source, Forwarder, Lazy}
+use Rattle.observer_graph.specs.declared.node.Node.{Node}
+use Rattle.observer_graph.specs.GraphView.{GraphView, node_at, flags_of, is_source}
+use Rattle.observer_graph.specs.Lists.{list_at}
+
+-- by number: its role, none where no object has it, and the objects that it observes, in no order
+pub record Shape : Type 0 where
+  pub roles : List (Option Role)
+  pub subjects : List (List ℕ)
+
+abbrev pub role_at : Shape → ℕ → Option Role
+role_at shape o = slice_index_or shape.roles o None
+
+abbrev pub observed_by : Shape → ℕ → List ℕ
+observed_by shape o = list_at shape.subjects o
+
+abbrev pub role_in : Option Node → Option Role
+role_in None = None
+role_in (Some node) = Some node.role
+
+-- how a node takes a notice that stands for an object with this role: a watcher passes nothing on
+abbrev pub node_role : kind.Role → Role
+node_role kind.Role.Source = Source
+node_role kind.Role.Forwarder = Forwarder
+node_role kind.Role.Lazy = Lazy
+node_role kind.Role.Watching = Source
+
+-- the role of what stands at a number; none where nothing does
+abbrev pub slot_role : Slot → Option Role
+slot_role slot.Free = None
+slot_role slot.Today = Some Source
+slot_role (slot.Watcher action) = Some Source
+slot_role (slot.Live terms) = Some (node_role (role_of (Some terms)))
+
+-- the objects that an object with these terms observes, in order; one may be named twice
+abbrev pub watched : Terms → List ℕ
+watched terms = if observes_today (kind_of terms) then 0 ∷ named (inputs_of terms) else named (inputs_of terms)
+
+-- the target of a handle, if it has one
+abbrev pub linked : Option ℕ → List ℕ
+linked None = []
+linked (Some target) = target ∷ []
+
+-- THE GRAPH OF A MARKET: each object has its role, and the pairs are the edges.
+pub record IsJoined (market : Market) (shape : Shape) : Type 0 where
+  pub long : length shape.roles ≡ length market.objects
+  pub roles : (o : ℕ) → role_at shape o ≡ slot_role (slot_at market o)
+  pub pairs : (o x : ℕ) → Among x (observed_by shape o) ↔ Among x (edges market o)
+
+-- what is stored of an object: its flags and its mark are those of its node
+abbrev pub kept_as : Option Node → Bool → Option Value → Kept
+kept_as node source last = record {
+  current = (flags_of node).current;
+  last = last;
+  frozen = (flags_of node).frozen;
+  forward = (flags_of node).forward;
+  source = source;
+}
+
+abbrev pub kept_from : GraphView → ℕ → List (Option Value) → List Kept
+kept_from graph o [] = []
+kept_from graph o (last ∷ lasts) = kept_as (node_at graph o) (is_source graph o) last ∷ kept_from graph (o + 1) lasts
+
+-- WHAT IS STORED: the flags stand in the graph alone, the last values beside it
+abbrev pub kept_of : GraphView → List (Option Value) → List Kept
+kept_of graph lasts = kept_from graph 0 lasts
+
+abbrev pub shape_of : GraphView → Shape
+shape_of graph = record { roles = map role_in graph.nodes; subjects = graph.subjects }

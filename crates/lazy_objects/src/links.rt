@@ -1,0 +1,81 @@
+// What a handle stands for, and the pair that goes with it.
+ghost use Rattle.std.specs.Prelude.{◌≡◌, ℕ, true, Some, IfSome, OnOk, OnErr, is_some, slice_index_or};
+ghost use Rattle.walks.specs.Walk.{Among};
+ghost use Rattle.desk_terms.specs.declared.terms.Terms.TheVariants.{Handle};
+ghost use Rattle.desk_model.specs.Market.{terms_in};
+ghost use Rattle.desk_model.specs.declared.slot.Slot.TheVariants.{Free};
+ghost use Rattle.lazy_objects.specs.Slots.{is_handle};
+ghost use Rattle.lazy_objects.specs.Shape.{role_at, observed_by};
+ghost use Rattle.lazy_objects.specs.Store.{JoinsAny, LeavesAny};
+
+use crate::reader::terms_of;
+use crate::store::Store;
+use desk_model::Slot;
+use desk_names::ObjId;
+use desk_terms::{HandleKind, Terms};
+use std::alloc::AllocError;
+
+/// What a handle stands for.
+#[derive(Clone, Copy, Debug, PartialEq, Eq)]
+pub struct Link {
+    pub kind: HandleKind,
+    pub target: Option<ObjId>,
+}
+
+/// What a handle stands for now.
+pub fn link_of(slots: &[Slot], handle: ObjId) -> Link
+    requires { is_handle (terms_in (slice_index_or slots.now handle Free)) ≡ true }
+    ensures { terms_in (slice_index_or slots.now handle Free) ≡ Some (Handle result.kind result.target) }
+{
+    match terms_of(slots, handle) {
+        None => unreachable!(),
+        Some(terms) => match terms {
+            Terms::Handle {
+                target_kind,
+                target,
+            } => Link {
+                kind: *target_kind,
+                target: *target,
+            },
+            Terms::Quote(_)
+            | Terms::Derived { .. }
+            | Terms::Curve(_)
+            | Terms::Implied { .. }
+            | Terms::Index(..)
+            | Terms::Engine { .. }
+            | Terms::Stock { .. }
+            | Terms::Composite(_)
+            | Terms::Flows(..) => unreachable!(),
+        },
+    }
+}
+
+/// An object observes this one too, if there is one. After want of memory nothing is changed.
+pub fn watch_any(
+    store: &mut Store,
+    subject: Option<ObjId>,
+    observer: ObjId,
+) -> Result<(), AllocError>
+    requires subject { IfSome subject (λ x. is_some (role_at store.old.shape x) ≡ true) }
+    requires observer { is_some (role_at store.old.shape observer) ≡ true }
+    requires new { (x : ℕ) → subject ≡ Some x → Among x (observed_by store.old.shape observer) → ⊥ }
+    ensures joins { OnOk result (JoinsAny subject observer store.old store.new) }
+    ensures same { OnErr result (store.new ≡ store.old) }
+{
+    match subject {
+        None => Ok(()),
+        Some(object) => store.watch(object, observer),
+    }
+}
+
+/// An object does not observe this one, if there is one.
+pub fn unwatch_any(store: &mut Store, subject: Option<ObjId>, observer: ObjId)
+    requires subject { IfSome subject (λ x. is_some (role_at store.old.shape x) ≡ true) }
+    requires observer { is_some (role_at store.old.shape observer) ≡ true }
+    ensures { LeavesAny subject observer store.old store.new }
+{
+    match subject {
+        None => {}
+        Some(object) => store.unwatch(object, observer),
+    }
+}

@@ -12,8 +12,7 @@ use Rattle.desk_model.specs.declared.slot.Slot.{Slot}
 use Rattle.desk_model.specs.declared.slot.Slot.TheVariants.{Free, Today, Watcher, Live}
 use Rattle.desk_model.specs.Market.{Market, slot_at, is_given, kind_in, kind_at, terms_in, role_of, is_lazy, least_user}
 use Rattle.desk_model.specs.Links.{AreOfKind, serves_as}
-use Rattle.desk_terms.specs.Terms.{kind_of}
-use Rattle.lazy_objects.specs.Slots.{makes}
+use Rattle.desk_terms.specs.Reading.{AreInRange}
 use Rattle.session_commands.specs.declared.command.Command.{Command}
 use Rattle.session_commands.specs.declared.command.Command.TheVariants as command
 use Rattle.session_commands.specs.declared.refusal.Refusal.{Refusal}
@@ -143,28 +142,28 @@ module _ (p : Standing) where
       by (Some user) e = tt
 
   -- an object of these terms may be made under this name
-  may_make : (name : ℕ) (t : Terms) → name < length p.names → makes (kind_of t) ≡ true
+  may_make : (name : ℕ) (t : Terms) → name < length p.names → AreInRange t
       → AreOfKind p.state.market (Some t) → object_named p name ≡ None → AllAllowed (made p name t)
   may_make name t named is inputs free =
-      roomy name t (λ room. record { named = named; free = free; room = room; made = is; inputs = inputs })
+      roomy name t (λ room. record { named = named; free = free; room = room; ranged = is; inputs = inputs })
 
   derives : (name a b : ℕ) (minus : Bool) → name < length p.names → object_named p name ≡ None
       → AllAllowed (with_found (find quote_input p a)
       (λ x. with_found (find quote_input p b) (λ y. made p name (terms.Derived minus x y))))
   derives name a b minus named free = finds quote_input a _ (λ x first. finds quote_input b _ (λ y second.
-      may_make name (terms.Derived minus x y) named refl
+      may_make name (terms.Derived minus x y) named tt
       (taken_input _ wanted.QuoteInput first, (taken_input _ wanted.QuoteInput second, tt)) free))
 
   pub allowed : (c : Command) → IsKnown p c → AllAllowed (resolve p c)
   unfolding resolve IsCommand parts_of row_of
-  allowed (command.Quote name value) known = untaken name _ (may_make name (terms.Quote value) known.first refl tt)
+  allowed (command.Quote name value) known = untaken name _ (may_make name (terms.Quote value) known.first tt tt)
   allowed (command.Sum name a b) known = untaken name _ (derives name a b false known.first)
   allowed (command.Difference name a b) known = untaken name _ (derives name a b true known.first)
   allowed (command.Handle name is_curve) known = tt
   allowed (command.Stock name q) known =
       untaken name _ (λ free. finds quote_input q _
-      (λ x is. may_make name (terms.Stock x) known.first refl (taken_input _ wanted.QuoteInput is, tt) free))
-  allowed (command.Composite name) known = untaken name _ (may_make name (terms.Composite []) known.first refl tt)
+      (λ x is. may_make name (terms.Stock x) known.first tt (taken_input _ wanted.QuoteInput is, tt) free))
+  allowed (command.Composite name) known = untaken name _ (may_make name (terms.Composite []) known.first tt tt)
   allowed (command.Member k i weight) known =
       finds place.Composite k _ (λ x is_composite. finds member i _ (λ y is_member. opened x y weight (λ clear. record {
         composite = taken_composite _ is_composite;

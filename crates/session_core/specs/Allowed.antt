@@ -1,12 +1,11 @@
 -- What is known of an act that a command resolves to.
 use Rattle.std.specs.Prelude.{◌≡◌, ◌<◌, ◌≤◌, ℕ, true, false, length, ℤ, unsigned_abs, Some, None}
 use Rattle.desk_terms.specs.declared.terms.Terms.{Terms}
-use Rattle.desk_terms.specs.Terms.{kind_of}
+use Rattle.desk_terms.specs.Reading.{AreInRange}
 use Rattle.desk_terms.specs.declared.kind.Kind.TheVariants as kind
 use Rattle.desk_terms.specs.declared.kind.Wanted.TheVariants as wanted
 use Rattle.desk_model.specs.Market.{kind_at, least_user}
 use Rattle.desk_model.specs.Links.{AreOfKind, serves_as, is_lazy_at}
-use Rattle.lazy_objects.specs.Slots.{makes}
 use Rattle.session_model.specs.declared.act.Act.{Act}
 use Rattle.session_model.specs.declared.act.Act.TheVariants as act
 use Rattle.session_model.specs.declared.place.Place.TheVariants as place
@@ -14,12 +13,12 @@ use Rattle.session_model.specs.Place.{takes_found}
 use Rattle.session_model.specs.Standing.{Standing, object_named, is_full}
 use Rattle.session_model.specs.Resolve.{joins}
 
--- its name is one of the session's and free, there is room, and its inputs are of their kinds
+-- its name is one of the session's and free, there is room, its terms are in range and its inputs of their kinds
 pub record MayMake (p : Standing) (name : ℕ) (terms : Terms) : Type 0 where
   pub named : name < length p.names
   pub free : object_named p name ≡ None
   pub room : is_full p.state.market ≡ false
-  pub made : makes (kind_of terms) ≡ true
+  pub ranged : AreInRange terms
   pub inputs : AreOfKind p.state.market (Some terms)
 
 -- an instrument and a composite that it does not reach, unless the weight is 0; the weight is within its limit

@@ -1,10 +1,8 @@
 // What a command does: its turn, and want of memory in it.
 ghost use Rattle.std.specs.Prelude.{◌≡◌, ◌<◌, true, false, length, Some, is_err, IfOk, OnOk, OnErr};
-ghost use Rattle.desk_terms.specs.Reading.{Calc};
+ghost use Rattle.desk_terms.specs.Reading.{Calc, AreInRange};
 ghost use Rattle.desk_model.specs.Links.{AreOfKind};
 ghost use Rattle.desk_model.specs.Sound.{IsSound, KeepsCurrent};
-ghost use Rattle.lazy_objects.specs.Slots.{makes};
-ghost use Rattle.desk_terms.specs.Terms.{kind_of};
 ghost use Rattle.session_model.specs.Standing.{IsKnown};
 ghost use Rattle.session_model.specs.Resolve.{made, unless_taken};
 ghost use Rattle.session_core.specs.Allowed.{IsAllowed};
@@ -59,7 +57,7 @@ impl Session {
     pub fn make(&mut self, name: NameId, terms: Terms) -> Result<ObjId, MakeFault>
         requires running { self.old.stopped ≡ false }
         requires named { name < length self.old.names }
-        requires made { makes (kind_of terms) ≡ true }
+        requires ranged { AreInRange terms }
         requires inputs { AreOfKind self.old.state.market (Some terms) }
         ensures number { IfOk result (λ object. object ≡ length self.old.state.market.objects) }
         ensures made { OnOk result (self.new ≡ with_object name terms self.old) }

@@ -1,7 +1,7 @@
 // A session: its objects, their names and its actions. A clause sees it as a standing of the definition.
 ghost use Rattle.std.specs.Prelude.{◌≡◌, ◌<◌, ◌==◌, ◌||◌, ◌++◌, true, false, length, codes, None, Some, Ok, Err, is_err, IfOk, OnOk, OnErr, replicate, option_copied, slice_get};
 ghost use Rattle.desk_names.specs.Names.{has_text};
-ghost use Rattle.desk_terms.specs.Reading.{Calc};
+ghost use Rattle.desk_terms.specs.Reading.{Calc, AreInRange};
 ghost use Rattle.desk_terms.specs.declared.kind.Kind.TheVariants as kind;
 ghost use Rattle.desk_terms.specs.declared.kind.Wanted.TheVariants as wanted;
 ghost use Rattle.desk_model.specs.Market.{slot_at, is_given, kind_at, least_user};
@@ -15,8 +15,6 @@ ghost use Rattle.session_model.specs.Standing.{start_of, object_named, is_full};
 ghost use Rattle.session_model.specs.declared.place.Place.TheVariants as place;
 ghost use Rattle.session_model.specs.Place.{takes_found};
 ghost use Rattle.session_model.specs.Resolve.{closes, joins};
-ghost use Rattle.lazy_objects.specs.Slots.{makes};
-ghost use Rattle.desk_terms.specs.Terms.{kind_of};
 ghost use Rattle.session_core.specs.Steps.{with_object, with_state, Carries, BreaksOff};
 
 use day_number::Day;
@@ -165,7 +163,7 @@ impl Session {
         requires named { name < length self.old.names }
         requires free { object_named self.old name ≡ None }
         requires room { is_full self.old.state.market ≡ false }
-        requires made { makes (kind_of terms) ≡ true }
+        requires ranged { AreInRange terms }
         requires inputs { AreOfKind self.old.state.market (Some terms) }
         ensures number { IfOk result (λ object. object ≡ length self.old.state.market.objects) }
         ensures made { OnOk result (self.new ≡ with_object name terms self.old) }

@@ -20,11 +20,13 @@ weighted [] inputs = pos 0
 weighted (part ∷ parts) [] = pos 0
 weighted (part ∷ parts) (input.TheVariants.Money amount ∷ inputs) = (part.weight *ℤ amount) +ℤ weighted parts inputs
 weighted (part ∷ parts) (input.TheVariants.Rate rate ∷ inputs) = pos 0
+weighted (part ∷ parts) (input.TheVariants.Curve curve ∷ inputs) = pos 0
 
 abbrev pub rate_of : List input.Input → ℤ
 rate_of [] = pos 0
 rate_of (input.TheVariants.Rate rate ∷ inputs) = rate
 rate_of (input.TheVariants.Money amount ∷ inputs) = pos 0
+rate_of (input.TheVariants.Curve curve ∷ inputs) = pos 0
 
 abbrev pub hand_price : ℕ → Terms → List input.Input → Outcome
 hand_price o (terms.Stock quote) inputs = Ok (Money (closest (rate_of inputs) 1000))

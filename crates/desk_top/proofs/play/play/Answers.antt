@@ -106,3 +106,9 @@ returns-clause-sound g c =
     let now = (outside (g.K.Sink.bytes c.loop-command.out) (g.B.Bench.count c.loop-command.bench) (g.B.Bench.log c.loop-command.bench)) in
     progress_sounds (g.B.Bench.calc c.args.bench.now) (start_of c.args.today c.args.names c.args.actions) c.args.commands.now start c.loop-command.session now
     (progress_last (g.B.Bench.calc c.args.bench.now) (start_of c.args.today c.args.names c.args.actions) c.args.commands.now start c.loop-command.command-index c.loop-command.session now c.loop-command-test.false c.loop-command.invariant.progress)
+
+pub returns-in_err-play_round-clause-late : goal.returns-in_err-play_round-clause-late
+returns-in_err-play_round-clause-late g c =
+    let from = c.from_residual-in_err-play_round in
+    let p = err_from_is_err_and from.result from.ensures.1 in
+    rw (p.1, p.2) c.in_err-play_round.ensures.late

@@ -1,0 +1,2 @@
+mod ByText
+mod Counts

@@ -1,0 +1,119 @@
+// What the fields of a calendar's table make.
+ghost use Rattle.std.specs.Prelude.{◌≡◌, Option, false};
+ghost use Rattle.std.specs.List.{list_all};
+ghost use Rattle.market_tables.specs.Given.{Gives};
+ghost use Rattle.market_calendars.specs.Making.{name_in, weekend_in, days_in, rule_in, parts_in, bespoke_of, joint_of, calendar_of, entry_made};
+
+use crate::keys::CalendarKind;
+use crate::places::Field;
+use crate::{NamedCalendar, PartNames, Weekend};
+use day_number::DayList;
+use holiday_calendars::{Base, BespokeFault, JointRule, bespoke};
+use market_tables::{MarketKind, NameText, TableFault, take_field};
+use std::alloc::Global;
+
+// The fault of a field that is not there, or that another place gave.
+const NO_FIELD: TableFault = TableFault::Kind(MarketKind::Key);
+
+fn name_in(field: Option<Field>) -> Result<NameText, TableFault>
+    ensures { Gives (λ name. name) result (name_in field) }
+{
+    match field {
+        Some(Field::Name(name)) => Ok(name),
+        Some(_) | None => Err(NO_FIELD),
+    }
+}
+
+fn weekend_in(field: Option<Field>) -> Result<Weekend, TableFault>
+    ensures { Gives (λ weekend. weekend) result (weekend_in field) }
+{
+    match &field {
+        Some(Field::Weekend(weekend)) => Ok(*weekend),
+        Some(_) | None => Err(NO_FIELD),
+    }
+}
+
+fn days_in(field: Option<Field>) -> Result<DayList, TableFault>
+    ensures { Gives (λ days. days) result (days_in field) }
+{
+    match field {
+        Some(Field::Holidays(days)) => Ok(days),
+        Some(_) | None => Err(NO_FIELD),
+    }
+}
+
+fn rule_in(field: Option<Field>) -> Result<JointRule, TableFault>
+    ensures { Gives (λ rule. rule) result (rule_in field) }
+{
+    match field {
+        Some(Field::Rule(rule)) => Ok(rule),
+        Some(_) | None => Err(NO_FIELD),
+    }
+}
+
+fn parts_in(field: Option<Field>) -> Result<PartNames, TableFault>
+    ensures { Gives (λ parts. parts) result (parts_in field) }
+{
+    match field {
+        Some(Field::Parts(parts)) => Ok(parts),
+        Some(_) | None => Err(NO_FIELD),
+    }
+}
+
+fn bespoke_of(
+    alloc: Global,
+    weekend: Option<Field>,
+    holidays: Option<Field>,
+) -> Result<NamedCalendar, TableFault>
+    ensures { Gives (λ calendar. calendar) result (bespoke_of weekend holidays) }
+{
+    let weekend = weekend_in(weekend)?;
+    let days = days_in(holidays)?;
+    match bespoke(alloc, weekend.flags(), days) {
+        Ok(base) => Ok(NamedCalendar::One(base)),
+        Err(BespokeFault::AllWeekend) => unreachable!(),
+        Err(BespokeFault::NoMemory) => Err(TableFault::NoMemory),
+    }
+}
+
+fn joint_of(rule: Option<Field>, parts: Option<Field>) -> Result<NamedCalendar, TableFault>
+    ensures { Gives (λ calendar. calendar) result (joint_of rule parts) }
+{
+    let rule = rule_in(rule)?;
+    let parts = parts_in(parts)?;
+    Ok(NamedCalendar::Joint { rule, parts })
+}
+
+// The calendar of a kind, of the fields behind its name.
+fn calendar_of(
+    alloc: Global,
+    kind: CalendarKind,
+    first: Option<Field>,
+    second: Option<Field>,
+) -> Result<NamedCalendar, TableFault>
+    ensures { Gives (λ calendar. calendar) result (calendar_of kind first second) }
+{
+    match kind {
+        CalendarKind::Null => Ok(NamedCalendar::One(Base::Null)),
+        CalendarKind::Weekends => Ok(NamedCalendar::One(Base::Weekends)),
+        CalendarKind::Target => Ok(NamedCalendar::One(Base::Target)),
+        CalendarKind::Bespoke => bespoke_of(alloc, first, second),
+        CalendarKind::Joint => joint_of(first, second),
+    }
+}
+
+// The name and the calendar that a kind makes of its fields.
+#[tactic(auto, using(market_tables::proofs::FieldPlaces::other))]
+pub(crate) fn entry_made(
+    alloc: Global,
+    kind: CalendarKind,
+    fields: Vec<Option<Field>>,
+) -> Result<(NameText, NamedCalendar), TableFault>
+    ensures { Gives (λ entry. (entry.0, entry.1)) result (entry_made kind fields.items) }
+{
+    let mut fields = fields;
+    let name = name_in(take_field(&mut fields, 0))?;
+    let first = take_field(&mut fields, 1);
+    let second = take_field(&mut fields, 2);
+    Ok((name, calendar_of(alloc, kind, first, second)?))
+}

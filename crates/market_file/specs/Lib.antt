@@ -1,0 +1,5 @@
+pub mod Fault
+pub mod Document
+pub mod Top
+pub mod Paths
+pub mod Market

@@ -1,0 +1,18 @@
+//! Market files, read to the evaluation date and the terms of a session's objects: the market itself, which is TOML, and
+//! the tables of quotes and of fixings beside it, which are CSV. The first fault, by its section, its entry and its
+//! kind, is the answer.
+//!
+//! `market_paths`, `Paths`; `read_market`, `Market`, `MadeList`; `MarketFault`, `Section`, `MarketKind`.
+#![tactic(auto)]
+
+mod document;
+mod fault;
+mod paths;
+mod read;
+mod top;
+
+pub use fault::{MarketFault, Section};
+pub use market_objects::MadeList;
+pub use market_tables::MarketKind;
+pub use paths::{Paths, market_paths};
+pub use read::{Market, read_market};

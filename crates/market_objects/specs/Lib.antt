@@ -1,0 +1,10 @@
+pub mod Earlier
+pub mod Keys
+pub mod Field
+pub mod Places
+pub mod Parts
+pub mod Making
+pub mod Board
+pub mod Reader
+pub mod Quotes
+pub mod Fixings

@@ -1,0 +1,92 @@
+// The quotes of a market, record by record.
+ghost use Rattle.std.specs.Prelude.{◌≡◌, false};
+ghost use Rattle.csv.specs.Records.{fields_of};
+ghost use Rattle.csv.specs.Reading.{default_config, strip_bom, records};
+ghost use Rattle.market_tables.specs.Given.{Gives};
+ghost use Rattle.market_tables.specs.Entries.{GivesAt};
+ghost use Rattle.market_records.specs.Records.{behind_records};
+ghost use Rattle.market_objects.specs.Quotes.{is_header, value_of, behind};
+
+use crate::Board;
+use csv::ByteRecord;
+use desk_terms::Terms;
+use fixed_amount::Rate;
+use market_records::{TakesRecords, field, take_records};
+use market_tables::{EntryFault, MarketKind, NameText, TableFault, decimal_of};
+use std::alloc::Global;
+use std::marker::Model;
+
+/// The greatest magnitude of a quote's value, in units of 10^-9.
+const MOST_VALUE: u64 = 1_000_000_000_000_000_000;
+
+// Whether the record is `name,value`.
+fn is_header(row: &ByteRecord) -> bool
+    ensures { result ≡ is_header (fields_of row.now) }
+{
+    row.len() == 2 && field(row, 0) == b"name".as_slice() && field(row, 1) == b"value".as_slice()
+}
+
+// A quote's value, or none where the field is empty.
+fn value_of(text: &[u8]) -> Result<Option<Rate>, TableFault>
+    ensures { Gives (λ value. value) result (value_of text.now) }
+{
+    if text.is_empty() {
+        return Ok(None);
+    }
+    let units = decimal_of(text, 9, MOST_VALUE)?;
+    Ok(Some(Rate(units)))
+}
+
+// Makes the quote that a record says: its fields are tested in their order, and then whether the name is taken.
+fn take_quote(board: &mut Board, row: &ByteRecord) -> Result<(), TableFault>
+    ensures { Gives (λ _. board.new) result (behind board.old (fields_of row.now)) }
+{
+    if row.len() != 2 {
+        return Err(TableFault::Kind(MarketKind::Record));
+    }
+    let name = NameText::read(board.alloc(), field(row, 0))?;
+    let value = value_of(field(row, 1))?;
+    let name = board.earlier().untaken(name)?;
+    board.add(&name, Terms::Quote(value))
+}
+
+// A board that takes the records of quotes.
+#[derive(Drop)]
+struct QuoteTaker {
+    board: Board,
+}
+
+impl Model for QuoteTaker {
+    ghost use Rattle.market_objects.specs.Board.{Board};
+
+    ghost Value = { Board };
+
+    ghost view = { λ t. t.board };
+}
+
+impl TakesRecords for QuoteTaker {
+    ghost use Rattle.market_objects.specs.Quotes.{is_header, behind};
+
+    ghost header = { is_header };
+
+    ghost behind = { behind };
+
+    fn is_header(row: &ByteRecord) -> bool {
+        is_header(row)
+    }
+
+    fn take(&mut self, row: &ByteRecord) -> Result<(), TableFault> {
+        take_quote(&mut self.board, row)
+    }
+}
+
+/// The board with the quotes of a quotes file, or the first fault with the number of its record.
+pub fn read_quotes(alloc: Global, board: Board, text: &[u8]) -> Result<Board, EntryFault>
+    ensures { GivesAt (λ more. more) result (behind_records is_header behind board 0 (records default_config (strip_bom text.now))) }
+{
+    let mut taker = QuoteTaker { board };
+    match take_records(alloc, text, &mut taker) {
+        Ok(()) => Ok(taker.board),
+        Err(fault) => Err(fault),
+    }
+}

@@ -1,0 +1,112 @@
+// The tables of objects.
+ghost use Rattle.std.specs.Prelude.{◌≡◌, map};
+ghost use Rattle.toml.specs.View.{view, items_view};
+ghost use Rattle.market_tables.specs.Given.{Gives};
+ghost use Rattle.market_tables.specs.Entries.{GivesAt, entries_from};
+ghost use Rattle.market_tables.specs.Table.{listed};
+ghost use Rattle.market_objects.specs.Earlier.{seen};
+ghost use Rattle.market_objects.specs.Keys.{keys_of, kind_of};
+ghost use Rattle.market_objects.specs.Reader.{entry_in, behind};
+
+use crate::Board;
+use crate::earlier::Earlier;
+use crate::field::Field;
+use crate::keys::{ObjectKind, ObjectPlace};
+use crate::making::entry_made;
+use crate::parts::place_field;
+use desk_terms::Terms;
+use market_tables::{
+    EntryFault, Key, Kinds, NameText, Places, Presence, TableFault, TakesTables, entry_of,
+    table_in, take_tables,
+};
+use std::alloc::Global;
+use toml::{Table, Value};
+
+// Reads the tables of objects.
+#[derive(Clone, Copy)]
+struct ObjectReader<'a> {
+    alloc: Global,
+    earlier: Earlier<'a>,
+}
+
+impl<'a> Places for ObjectReader<'a> {
+    ghost use Rattle.std.specs.Prelude.{Ok};
+    ghost use Rattle.market_tables.specs.Presence.{must_stand};
+    ghost use Rattle.market_objects.specs.Earlier.{seen};
+    ghost use Rattle.market_objects.specs.Parts.{place_field};
+
+    type Presence = Presence;
+
+    type Place = ObjectPlace;
+
+    type Field = Field;
+
+    ghost required = { λ _ presence _. Ok (must_stand presence) };
+
+    ghost gives = { λ r place d. place_field (seen r.earlier) place d };
+
+    fn must_stand(&self, presence: Presence, _table: &Table) -> Result<bool, TableFault> {
+        Ok(presence.must_stand())
+    }
+
+    fn field(&self, place: ObjectPlace, value: &Value) -> Result<Field, TableFault> {
+        place_field(self.alloc, self.earlier, place, value)
+    }
+}
+
+impl<'a> Kinds for ObjectReader<'a> {
+    ghost use Rattle.market_objects.specs.Keys as keys;
+
+    type Kind = ObjectKind;
+
+    ghost kind_of = { keys.kind_of };
+
+    ghost keys_of = { keys.keys_of };
+
+    fn kind(word: &str) -> Option<ObjectKind>
+        ensures { result ≡ kind_of word.now }
+    {
+        ObjectKind::of_word(word)
+    }
+
+    fn keys(kind: ObjectKind) -> &'static [Key<Presence, ObjectPlace>]
+        ensures { map listed result.now ≡ keys_of kind }
+    {
+        kind.keys()
+    }
+}
+
+// The name and the terms of the object that a table says.
+fn entry_in(
+    alloc: Global,
+    earlier: Earlier<'_>,
+    value: &Value,
+) -> Result<(NameText, Terms), TableFault>
+    ensures { Gives (λ entry. (entry.0, entry.1)) result (entry_in (seen earlier.entry) (view value.now)) }
+{
+    let reader = ObjectReader { alloc, earlier };
+    let (kind, fields) = entry_of(alloc, &reader, table_in(value)?)?;
+    entry_made(alloc, kind, fields)
+}
+
+impl TakesTables for Board {
+    ghost use Rattle.market_objects.specs.Reader.{behind};
+
+    ghost behind = { behind };
+
+    fn take(&mut self, value: &Value) -> Result<(), TableFault> {
+        let (name, terms) = entry_in(self.alloc(), self.earlier(), value)?;
+        self.add(&name, terms)
+    }
+}
+
+/// The board with the objects that some tables say, or the first fault with the number of its table, counted from 1.
+pub fn read_objects(board: Board, items: &[Value]) -> Result<Board, EntryFault>
+    ensures { GivesAt (λ more. more) result (entries_from behind board 1 (items_view items.now)) }
+{
+    let mut board = board;
+    match take_tables(&mut board, items) {
+        Ok(()) => Ok(board),
+        Err(fault) => Err(fault),
+    }
+}

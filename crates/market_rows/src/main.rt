@@ -1,0 +1,86 @@
+//! Reads markets, most of them faulty, and compares what is answered with what an independent reading of the format says
+//! of them: prints each case that differs, and how many agree.
+#![tactic(auto)]
+
+mod case_text;
+mod described;
+
+use case_text::decoded;
+use described::{push_market, push_paths};
+use desk_names::Names;
+use market_file::{market_paths, read_market};
+use std::alloc::{AllocError, Global};
+use std::{fs, io};
+
+// A file of cases for each section of a market, and one of files that are too long.
+fn main(rt: HostRuntime) -> io::Result<()> {
+    compare(&rt, "top")?;
+    compare(&rt, "lengths")?;
+    compare(&rt, "calendars")?;
+    compare(&rt, "quotes")?;
+    compare(&rt, "objects")?;
+    compare(&rt, "fixings")
+}
+
+// Compares the cases of a file and prints how many agree. A line `==` stands between two cases. A case has a line that
+// says what it shows, and then, each behind a line `--`, the quotes, the fixings and what is answered.
+fn compare(rt: &HostRuntime, file: &str) -> io::Result<()> {
+    let text = fs::read_to_string(rt, file)?;
+    let mut agree = 0u32;
+    let mut differ = 0u32;
+    for case in text.split("==\n") {
+        if agrees(rt, case)? {
+            agree = agree.saturating_add(1);
+        } else {
+            differ = differ.saturating_add(1);
+        }
+    }
+    println!(rt; "{file}: {agree} agree, {differ} differ")
+}
+
+// Whether the case's market is answered as the case says; prints what it shows and what was answered where it is not.
+fn agrees(rt: &HostRuntime, case: &str) -> io::Result<bool> {
+    let (title, case) = parted(case, "\n");
+    let (market, case) = parted(case, "--\n");
+    let (quotes, case) = parted(case, "--\n");
+    let (fixings, answer) = parted(case, "--\n");
+    let alloc = rt.alloc();
+    let market = decoded(alloc, market)?;
+    let quotes = decoded(alloc, quotes)?;
+    let fixings = decoded(alloc, fixings)?;
+    let said = answered(alloc, &market, &quotes, &fixings)?;
+    if said.as_slice() == answer.as_bytes() {
+        return Ok(true);
+    }
+    let said = std::str::from_utf8(&said).unwrap_or("no text");
+    println!(rt; "{title}: this differs: {said}")?;
+    Ok(false)
+}
+
+// The text before a mark and the text behind it, which is empty where the mark is not there.
+fn parted<'a>(text: &'a str, mark: &str) -> (&'a str, &'a str) {
+    match text.split_once(mark) {
+        Some(parts) => parts,
+        None => (text, ""),
+    }
+}
+
+// The paths that a market names, and the market, each as a text.
+fn answered(
+    alloc: Global,
+    market: &[u8],
+    quotes: &[u8],
+    fixings: &[u8],
+) -> Result<Vec<u8>, AllocError> {
+    let mut out = Vec::new(alloc);
+    match market_paths(alloc, market) {
+        Ok(paths) => push_paths(alloc, &paths, &mut out)?,
+        Err(fault) => out.extend_from_slice(format!(in alloc; "paths {fault}\n")?.as_bytes())?,
+    }
+    let mut names = Names::new(alloc);
+    match read_market(alloc, market, quotes, fixings, &mut names) {
+        Ok(market) => push_market(alloc, &names, &market, &mut out)?,
+        Err(fault) => out.extend_from_slice(format!(in alloc; "{fault}\n")?.as_bytes())?,
+    }
+    Ok(out)
+}

@@ -1,0 +1,111 @@
+// What is wrong with a market.
+ghost use Rattle.std.specs.Prelude.{◌≡◌};
+
+use std::alloc::{AllocError, AllocFailed};
+use std::fmt;
+use thiserror::Error;
+
+/// What is wrong with an entry of a market: the first of a table's steps that fails, and within one key the first in
+/// this order. (This project's profile.)
+#[derive(Clone, Copy, Debug, PartialEq, Eq)]
+pub enum MarketKind {
+    /// A file of the section is over 8,388,608 bytes.
+    TooLong,
+    /// The text is no TOML, or no UTF-8.
+    Toml,
+    /// A key is missing, is not listed for its kind of table, or has a value of another TOML type.
+    Key,
+    /// A text in a name's place is no name.
+    Name,
+    /// The new name is taken in its list, or is `today`.
+    Taken,
+    /// A name stands for nothing earlier.
+    Unknown,
+    /// What is named is of a kind that the place does not take.
+    Kind,
+    /// A decimal, an integer or a tenor is not in its form or its limit.
+    Number,
+    /// A text in a day's place is no day in range.
+    Date,
+    /// A word is not one of those listed.
+    Choice,
+    /// All seven weekdays are holidays.
+    Weekend,
+    /// A list has too few or too many parts, or names a member twice.
+    Parts,
+    /// The schedule is refused.
+    Plan,
+    /// A payment or fixing day of a leg leaves the range of days.
+    Range,
+    /// An instrument has too many flows.
+    Flows,
+    /// A fixing's day is stored already.
+    Exists,
+    /// The first record is not the stated one.
+    Header,
+    /// A record has another number of fields.
+    Record,
+    /// One object more than there may be is made.
+    Limit,
+}
+
+// A fault prints as its word.
+impl fmt::Display for MarketKind {
+    ghost use Rattle.std.specs.Prelude.{Some};
+    ghost use Rattle.market_tables.specs.MarketKind.{kind_text};
+
+    ghost output = { λ k. Some (kind_text k) };
+
+    fn fmt<W: fmt::Write>(&self, f: &mut fmt::Formatter<W>) -> fmt::Result {
+        match self {
+            MarketKind::TooLong => write!(f, "toolong"),
+            MarketKind::Toml => write!(f, "toml"),
+            MarketKind::Key => write!(f, "key"),
+            MarketKind::Name => write!(f, "name"),
+            MarketKind::Taken => write!(f, "taken"),
+            MarketKind::Unknown => write!(f, "unknown"),
+            MarketKind::Kind => write!(f, "kind"),
+            MarketKind::Number => write!(f, "number"),
+            MarketKind::Date => write!(f, "date"),
+            MarketKind::Choice => write!(f, "choice"),
+            MarketKind::Weekend => write!(f, "weekend"),
+            MarketKind::Parts => write!(f, "parts"),
+            MarketKind::Plan => write!(f, "plan"),
+            MarketKind::Range => write!(f, "range"),
+            MarketKind::Flows => write!(f, "flows"),
+            MarketKind::Exists => write!(f, "exists"),
+            MarketKind::Header => write!(f, "header"),
+            MarketKind::Record => write!(f, "record"),
+            MarketKind::Limit => write!(f, "limit"),
+        }
+    }
+}
+
+/// Why one table or one record is not read: its first fault, or want of memory.
+#[derive(Clone, Copy, Debug, Error, PartialEq, Eq)]
+pub enum TableFault {
+    #[error("{0}")]
+    Kind(MarketKind),
+    #[error("out of memory")]
+    NoMemory,
+}
+
+impl From<AllocError> for TableFault {
+    ghost use Rattle.market_tables.specs.declared.fault.TableFault.TheVariants.{NoMemory};
+
+    ghost from_gives = { λ _ e. e ≡ NoMemory };
+
+    fn from(_e: AllocError) -> TableFault {
+        TableFault::NoMemory
+    }
+}
+
+impl<T: Drop> From<AllocFailed<T>> for TableFault {
+    ghost use Rattle.market_tables.specs.declared.fault.TableFault.TheVariants.{NoMemory};
+
+    ghost from_gives = { λ _ e. e ≡ NoMemory };
+
+    fn from(_e: AllocFailed<T>) -> TableFault {
+        TableFault::NoMemory
+    }
+}

@@ -1,0 +1,48 @@
+// A text that is a name.
+ghost use Rattle.std.specs.Prelude.{◌≡◌};
+ghost use Rattle.desk_names.specs.Name.{IsName};
+ghost use Rattle.market_tables.specs.Given.{Gives};
+ghost use Rattle.market_tables.specs.Values.{name_of};
+
+use crate::{MarketKind, TableFault};
+use desk_names::is_name;
+use std::alloc::Global;
+use std::marker::Model;
+
+/// A text that was found to be a name. A clause sees its bytes.
+#[derive(Drop)]
+pub struct NameText {
+    text: Vec<u8>,
+}
+
+impl Model for NameText {
+    ghost use Rattle.std.specs.Prelude.{List, ℕ};
+    ghost use Rattle.desk_names.specs.Name.{IsName};
+
+    ghost Value = { List ℕ };
+
+    ghost view = { λ n. n.text.items };
+
+    ghost invariant = { λ n. IsName n.text.items };
+}
+
+impl NameText {
+    /// The name that a text is, or the fault `Name`.
+    pub fn read(alloc: Global, text: &[u8]) -> Result<NameText, TableFault>
+        ensures { Gives (λ name. name) result (name_of text.now) }
+    {
+        if !is_name(text) {
+            return Err(TableFault::Kind(MarketKind::Name));
+        }
+        let text = text.to_vec(alloc)?;
+        Ok(NameText { text })
+    }
+
+    /// The bytes of the name.
+    pub fn text(&self) -> &[u8]
+        ensures text { result.now ≡ self.now }
+        ensures named { IsName result.now }
+    {
+        self.text.as_slice()
+    }
+}

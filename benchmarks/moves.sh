@@ -1,10 +1,12 @@
 #!/usr/bin/env bash
-# Counts the instructions of the built program on three scripts, in a folder of its own. It checks no figure.
+# Counts the instructions of the built program on five scripts, in a folder of its own. It checks no figure.
 #
 #   one stock    200,000 times its quote moves and it is asked: instructions of a pair, and the dearest functions
 #   many stocks  20,000 times one quote moves and its stock is asked, with 2 stocks and with 2,000, each on its own quote:
 #                instructions of a pair with many over one with two (a session has at most 4,096 objects)
 #   a chain      4,000 composites, each on the one before: asked, its quote moved, asked
+#   reversed     the same chain, each composite made before the one that it holds: its quote moved, asked
+#   a wide one   a thousand stocks under one composite: 20 times their quote moves and it is asked
 #
 # The instructions of making the objects are counted apart, and taken off.
 #
@@ -25,7 +27,14 @@ def moves(n):
 
 chain = "quote q 1\nstock c0 q\n" + "".join(
     f"composite c{k}\nmember c{k} c{k - 1} 1\n" for k in range(1, 4001))
+reversed_chain = "quote q 1\n" + "".join(f"composite c{k}\n" for k in range(4000, 0, -1)) + "stock c0 q\n" + "".join(
+    f"member c{k} c{k - 1} 1\n" for k in range(1, 4001))
+wide = "quote q 1\n" + "".join(f"stock s{k} q\n" for k in range(1000)) + "composite c\n" + "".join(
+    f"member c s{k} 1\n" for k in range(1000)) + "ask c\n"
 scripts = {
+    "reversed_made": reversed_chain + "ask c4000\n",
+    "reversed": reversed_chain + "ask c4000\nset q 2\nask c4000\n",
+    "wide_made": wide, "wide": wide + "".join(f"set q {k + 2}\nask c\n" for k in range(20)),
     "one_made": stocks(1), "one": stocks(1) + moves(200_000),
     "two_made": stocks(2), "two": stocks(2) + moves(20_000),
     "many_made": stocks(2_000), "many": stocks(2_000) + moves(20_000),
@@ -51,3 +60,5 @@ echo "many stocks: $two instructions a pair with 2 stocks, $many with 2,000"
 made=$(count chain_made) asked=$(count chain_asked) moved=$(count chain)
 echo "a chain of 4,000: first ask $((asked - made)) instructions, move and second ask $((moved - asked))"
 tail -n 1 chain.out
+echo "the chain reversed: move and ask $(( $(count reversed) - $(count reversed_made) ))"
+echo "a thousand stocks under one composite: $(( ($(count wide) - $(count wide_made)) / 20 )) instructions a move and ask"

@@ -4,7 +4,7 @@
 //! `Quotes`. A clause asks what stands at a number by `entry`, and speaks of a changed board by `IsPut`.
 #![tactic(auto)]
 
-ghost use Rattle.std.specs.Prelude.{◌≡◌, ◌≢◌, ◌≤◌, ℕ, length, None, Some, OnOk, OnErr, not};
+ghost use Rattle.std.specs.Prelude.{◌≡◌, ◌≢◌, ◌≤◌, ◌<◌, ℕ, length, None, Some, OnOk, OnErr, not};
 ghost use Rattle.quote_board.specs.Board.{entry, is_equal, IsPut, IsSame};
 
 use desk_names::ObjId;
@@ -36,13 +36,29 @@ impl Quotes {
         }
     }
 
+    /// Makes room for a quote of this number. The board stays as it was.
+    pub fn reserve(&mut self, quote: ObjId) -> Result<(), AllocError>
+        ensures room { OnOk result (quote < length self.new) }
+        ensures same { IsSame self.old self.new }
+    {
+        grow(&mut self.entries, quote.place() + 1)
+    }
+
+    /// Writes a quote with its value or with none, where room was made for it.
+    pub fn put(&mut self, quote: ObjId, value: Option<Rate>)
+        requires room { quote < length self.old }
+        ensures { IsPut quote (Some value) self.old self.new }
+    {
+        self.entries[quote.place()] = Some(value);
+    }
+
     /// Writes a quote with its value or with none. Where memory is wanting, the board stays as it was.
     pub fn add(&mut self, quote: ObjId, value: Option<Rate>) -> Result<(), AllocError>
         ensures added { OnOk result (IsPut quote (Some value) self.old self.new) }
         ensures same { OnErr result (IsSame self.old self.new) }
     {
-        grow(&mut self.entries, quote.place() + 1)?;
-        self.entries[quote.place()] = Some(value);
+        self.reserve(quote)?;
+        self.put(quote, value);
         Ok(())
     }
 
@@ -70,12 +86,13 @@ impl Quotes {
         }
     }
 
-    /// Takes a quote out.
+    /// Takes a quote out, if there is one.
     pub fn remove(&mut self, quote: ObjId)
-        requires { entry self.old quote ≢ None }
         ensures { IsPut quote None self.old self.new }
     {
-        self.entries[quote.place()] = None;
+        if quote.place() < self.entries.len() {
+            self.entries[quote.place()] = None;
+        }
     }
 }
 

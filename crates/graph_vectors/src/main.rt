@@ -1,11 +1,14 @@
 //! Tells graphs of stated shapes from their bottom and counts whom the notice reached: prints each row of `shapes.csv`
-//! that differs, and how many agree. Then moves a holder between targets by the rows of `moves.csv`.
+//! that differs, and how many agree. Then moves a holder between targets by the rows of `moves.csv`, and holds
+//! notices back by the rows of `deferrals.txt`.
 #![tactic(auto)]
 
+mod deferrals;
 mod moves;
 mod nets;
 mod shapes;
 
+use deferrals::deferral_agrees;
 use moves::moves_agree;
 use shapes::shape_agrees;
 use std::alloc::Global;
@@ -16,7 +19,9 @@ fn main(rt: HostRuntime) -> io::Result<()> {
     compare(&rt, rt.alloc(), &shapes)?;
     let moves = fs::read_to_string(&rt, "moves.csv")?;
     let agree = moves_agree(rt.alloc(), &moves).unwrap_or(false);
-    println!(rt; "moves: agree {agree}")
+    println!(rt; "moves: agree {agree}")?;
+    let deferrals = fs::read_to_string(&rt, "deferrals.txt")?;
+    compare_deferrals(&rt, rt.alloc(), &deferrals)
 }
 
 // Prints each shape that differs, and how many agree and differ.
@@ -32,4 +37,19 @@ fn compare(rt: &impl Print, alloc: Global, rows: &str) -> io::Result<()> {
         }
     }
     println!(rt; "shapes: {agree} agree, {differ} differ")
+}
+
+// Prints each row of steps that differs, and how many agree and differ.
+fn compare_deferrals(rt: &impl Print, alloc: Global, rows: &str) -> io::Result<()> {
+    let mut agree = 0u64;
+    let mut differ = 0u64;
+    for row in rows.lines() {
+        if deferral_agrees(alloc, row).unwrap_or(false) {
+            agree = agree.saturating_add(1);
+        } else {
+            differ = differ.saturating_add(1);
+            println!(rt; "deferrals: {row}")?;
+        }
+    }
+    println!(rt; "deferrals: {agree} agree, {differ} differ")
 }

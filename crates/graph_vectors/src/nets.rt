@@ -7,8 +7,8 @@ use desk_names::ObjId;
 use observer_graph::{Flags, Graph, Role};
 use std::alloc::AllocError;
 
-// A lazy node whose value is current.
-const CURRENT: Flags = Flags {
+/// A lazy node whose value is current.
+pub(crate) const CURRENT: Flags = Flags {
     current: true,
     frozen: false,
     forward: false,

@@ -1,12 +1,14 @@
 -- What the calls of a graph say, where its pairs, sources and roles are those of a caller's own edges: the caller's
 -- walk that computes.
-use Rattle.std.proofs.Common.{◌≡◌, ◌⊎◌, inl, inr, ℕ, ◌<◌, Bool, true, List, sym, ◌∙◌}
-use Rattle.std.specs.Prelude.{◌↔◌, ◌==◌}
+use Rattle.std.proofs.Common.{◌≡◌, ◌⊎◌, inl, inr, ℕ, ◌<◌, Bool, true, false, List, refl, sym, ◌∙◌, ap, subst}
+use Rattle.std.specs.Prelude.{◌↔◌, ◌==◌, not}
+use Rattle.std.proofs.lemmas.Bool.{false_from_ne_true, false≢true}
 use Rattle.walks.specs.Walk.{Among, Below, below_by, Falls}
 use Rattle.walks.specs.Walk.Below.{next, beyond}
 use Rattle.walks.proofs.Walks.{only_below}
-use Rattle.walks.proofs.Ranks.{below_true, below_wider}
+use Rattle.walks.proofs.Ranks.{below_meets, below_true, below_wider, meets_below}
 use Rattle.observer_graph.specs.GraphView.{GraphView, IsPair, is_source, subjects_of}
+use Rattle.observer_graph.specs.Late.{IsClear, IsLateOf, is_frozen, is_held_back}
 use Rattle.observer_graph.specs.Notice.{IsTold, Reaches, passes_at}
 
 -- the same, where each edge is an edge there
@@ -49,5 +51,55 @@ reaches_exactly graph reads rank n falls small edges from to = (
     | inl same ↦ inl same
     | inr e ↦ inr (below_there reads (subjects_of graph) (λ y. y == to) (λ y. true) (λ z x a. (edges z x).1 a) from
         (only_below reads (λ y. y == to) (λ y. true) n from e))
+  ],
+)
+
+-- what makes a node late, and whether it is clear, where the caller knows which nodes are sources and which are frozen
+pub late_exactly : (graph : GraphView) (reads : ℕ → List ℕ) (source frozen : ℕ → Bool) (rank : ℕ → ℕ) (n : ℕ)
+    → Falls reads rank → ((o : ℕ) → rank o < n)
+    → AreEdges graph reads → ((o : ℕ) → is_source graph o ≡ source o) → ((o : ℕ) → is_frozen graph o ≡ frozen o)
+    → (o x : ℕ) → IsLateOf graph o x ↔ ((source x ≡ true)
+    × ((o ≡ x) ⊎ (below_by reads (λ y. y == x) (λ y. not (frozen y)) n o ≡ true)))
+late_exactly graph reads source frozen rank n falls small edges sources frozens o x = (
+  λ late. (
+    sym (sources x) ∙ late.0,
+    elim late.1 [
+      | inl same ↦ inl same
+      | inr below ↦ inr (below_true reads (λ y. y == x) (λ y. not (frozen y)) rank falls n o (small o)
+          (below_wider reads (λ y. y == x) (λ y. y == x) (λ y. not (is_frozen graph y)) (λ y. not (frozen y)) (λ y e. e)
+          (λ y e. sym (ap not (frozens y)) ∙ e) o (below_there (subjects_of graph) reads (λ y. y == x)
+          (λ y. not (is_frozen graph y)) (λ z y a. (edges z y).0 a) o below)))
+    ],
+  ),
+  λ late. (
+    sources x ∙ late.0,
+    elim late.1 [
+      | inl same ↦ inl same
+      | inr e ↦ inr (below_there reads (subjects_of graph) (λ y. y == x) (λ y. not (is_frozen graph y))
+          (λ z y a. (edges z y).1 a) o
+          (below_wider reads (λ y. y == x) (λ y. y == x) (λ y. not (frozen y)) (λ y. not (is_frozen graph y)) (λ y f. f)
+          (λ y f. ap not (frozens y) ∙ f) o (only_below reads (λ y. y == x) (λ y. not (frozen y)) n o e)))
+    ],
+  ),
+)
+
+pub clear_exactly : (graph : GraphView) (reads : ℕ → List ℕ) (held : ℕ → Bool) (rank : ℕ → ℕ) (n : ℕ)
+    → Falls reads rank → ((o : ℕ) → rank o < n)
+    → AreEdges graph reads → ((o : ℕ) → is_held_back graph o ≡ held o) → (o : ℕ)
+    → IsClear graph o ↔ ((held o ≡ false) × (below_by reads held (λ y. true) n o ≡ false))
+clear_exactly graph reads held rank n falls small edges helds o = (
+  λ clear. (
+    sym (helds o) ∙ clear o (inl refl),
+    false_from_ne_true (below_by reads held (λ y. true) n o) (λ e.
+        let m = below_meets reads held (λ y. true) o (only_below reads held (λ y. true) n o e) in
+        false≢true (sym (clear m.0 ((reaches_exactly graph reads rank n falls small edges o m.0).1 (inr (below_true reads
+        (λ y. y == m.0) (λ y. true) rank falls n o (small o) m.2)))) ∙ helds m.0 ∙ m.1)),
+  ),
+  λ free x reached. elim reached [
+    | inl same ↦ subst (λ (z : ℕ). is_held_back graph z ≡ false) same (helds o ∙ free.0)
+    | inr below ↦ helds x ∙ false_from_ne_true (held x) (λ e. false≢true (sym free.1
+        ∙ below_true reads held (λ y. true) rank falls n o (small o)
+        (meets_below reads held (λ y. true) x o e
+        (below_there (subjects_of graph) reads (λ y. y == x) (λ y. true) (λ z y a. (edges z y).0 a) o below))))
   ],
 )

@@ -1,4 +1,7 @@
 pub mod Exactly
+pub mod Exposed
+pub mod Lateness
+pub mod Frozen
 pub mod Members
 pub mod Marks
 pub mod Edits

@@ -49,3 +49,7 @@ with_flags o flags graph = record graph { nodes = slice_set graph.nodes o (flagg
 -- the node is a marked source too
 abbrev pub with_source : ℕ → GraphView → GraphView
 with_source o graph = record graph { sources = slice_set graph.sources o true }
+
+-- the node is no marked source
+abbrev pub without_source : ℕ → GraphView → GraphView
+without_source o graph = record graph { sources = slice_set graph.sources o false }

@@ -1,4 +1,5 @@
 pub mod GraphView
+pub mod Late
 pub mod Lists
 pub mod Notice
 pub mod Change

@@ -1,10 +1,13 @@
 // The graph of observers and its calls.
 ghost use Rattle.std.specs.Prelude.{◌≡◌, ◌↔◌, ◌<◌, ◌≤◌, ℕ, [], length, IsTrue, IfOk, OnOk, OnErr, is_some};
 ghost use Rattle.walks.specs.Walk.{Among};
+ghost use Rattle.observer_graph.specs.declared.node.Role.TheVariants.{Lazy};
 ghost use Rattle.observer_graph.specs.GraphView.{IsLive, IsLazy, IsPair, IsWhole, node_at, flags_at};
 ghost use Rattle.observer_graph.specs.Notice.{IsLeast, Reaches, Tells, with_stale};
-ghost use Rattle.observer_graph.specs.Change.{AddsNode, AddsPair, TakesPair, TakesNode, flagged, with_node, with_flags, with_source};
+ghost use Rattle.observer_graph.specs.Late.{IsClear, IsLateOf};
+ghost use Rattle.observer_graph.specs.Change.{AddsNode, AddsPair, TakesPair, TakesNode, flagged, with_node, with_flags, with_source, without_source};
 
+use crate::beneath::{are_free, go_down, is_frozen, least_marked, recounted};
 use crate::lists::least_of;
 use crate::node::{Flags, Node, Role};
 use crate::node_set::NodeSet;
@@ -24,19 +27,23 @@ pub struct Graph {
     nodes: Vec<Option<Node>>,
     pairs: Pairs,
     sources: NodeSet,
+    // How many nodes are frozen.
+    frozen: usize,
     // Those whom a notice reaches or who lie beneath a node, during a call; empty between calls.
     wave: NodeSet,
 }
 
 impl Model for Graph {
+    ghost use Rattle.std.specs.Prelude.{◌≡◌};
     ghost use Rattle.observer_graph.specs.GraphView.{GraphView};
+    ghost use Rattle.observer_graph.specs.Late.{frozen_count};
     ghost use Rattle.observer_graph.specs.Stands.{Stands};
 
     ghost Value = { GraphView };
 
     ghost view = { λ g. record { nodes = g.nodes.items; subjects = g.pairs.subjects; sources = g.sources.marks } };
 
-    ghost invariant = { λ g. Stands g.nodes.items g.pairs g.sources g.wave };
+    ghost invariant = { λ g. Stands g.nodes.items g.pairs g.sources g.wave × (g.frozen ≡ frozen_count g.nodes.items) };
 }
 
 impl Graph {
@@ -48,6 +55,7 @@ impl Graph {
             nodes: Vec::new(alloc),
             pairs: Pairs::new(alloc),
             sources: NodeSet::new(alloc),
+            frozen: 0,
             wave: NodeSet::new(alloc),
         }
     }
@@ -131,6 +139,8 @@ impl Graph {
         requires { IsLive self.old node }
         ensures { TakesNode self.old self.new node }
     {
+        let was = is_frozen(&self.nodes[node.place()]);
+        self.frozen = recounted(self.frozen, was, false);
         self.pairs.cut(node);
         self.sources.remove(node);
         self.nodes[node.place()] = None;
@@ -169,6 +179,17 @@ impl Graph {
         }
     }
 
+    /// Whether a node is lazy; no node is that does not live.
+    pub fn is_lazy(&self, node: ObjId) -> bool
+        ensures { IsTrue result ↔ IsLazy (node_at self.now node) }
+    {
+        match self.nodes.get(node.place()) {
+            Some(Some(live)) => takes_flags(live.role),
+            Some(None) => false,
+            None => false,
+        }
+    }
+
     /// Whether a node is current; no node is that does not live.
     pub fn is_current(&self, node: ObjId) -> bool
         ensures { result ≡ (flags_at self.now node).current }
@@ -196,6 +217,8 @@ impl Graph {
         requires { IsLazy (node_at self.old node) }
         ensures { self.new ≡ with_flags node flags self.old }
     {
+        let was = is_frozen(&self.nodes[node.place()]);
+        self.frozen = recounted(self.frozen, was, flags.frozen);
         set_flags_of(&mut self.nodes[node.place()], flags);
     }
 
@@ -215,6 +238,46 @@ impl Graph {
         self.sources.insert(node);
     }
 
+    /// The next notice does not start from this node. Takes no memory, and time in proportion to the sources.
+    pub fn unmark(&mut self, node: ObjId)
+        requires { IsLive self.old node }
+        ensures { self.new ≡ without_source node self.old }
+    {
+        self.sources.remove(node);
+    }
+
+    /// The least marked source that is a node, or lies beneath it on a path whose inner nodes are not frozen. Takes no
+    /// memory, and time in proportion to what lies beneath; where no node is marked, none.
+    pub fn least_source(&mut self, node: ObjId) -> Option<ObjId>
+        requires { IsLive self.old node }
+        ensures answer { IsLeast (IsLateOf self.old node) result }
+        ensures same { self.new ≡ self.old }
+    {
+        if self.sources.len() == 0 {
+            return None;
+        }
+        go_down(&self.pairs, &self.nodes, node, &mut self.wave);
+        let least = least_marked(&self.sources, self.wave.items());
+        self.wave.clear();
+        least
+    }
+
+    /// Whether neither a node nor any node beneath it is frozen or a marked source. Takes no memory, and time in
+    /// proportion to what lies beneath; where no node is frozen or marked, none.
+    pub fn all_clear(&mut self, node: ObjId) -> bool
+        requires { IsLive self.old node }
+        ensures answer { IsTrue result ↔ IsClear self.old node }
+        ensures same { self.new ≡ self.old }
+    {
+        if self.frozen == 0 && self.sources.len() == 0 {
+            return true;
+        }
+        go_down(&self.pairs, &self.nodes, node, &mut self.wave);
+        let clear = are_free(&self.nodes, &self.sources, self.wave.items());
+        self.wave.clear();
+        clear
+    }
+
     /// A notice from all marked sources together: whom it reaches is no longer current, and no source stays marked.
     /// Who is told, and who passes it on, goes by the flags before the call. Takes no memory, and time in
     /// proportion to the sources, to those who are told and to their pairs.
@@ -225,6 +288,17 @@ impl Graph {
         unsettle(&mut self.nodes, &self.wave);
         self.wave.clear();
         self.sources.clear();
+    }
+}
+
+// Whether a node in this role has flags.
+fn takes_flags(role: Role) -> bool
+    ensures { IsTrue result ↔ (role ≡ Lazy) }
+{
+    match role {
+        Role::Source => false,
+        Role::Forwarder => false,
+        Role::Lazy => true,
     }
 }
 

@@ -1,9 +1,10 @@
 //! Who observes whom, and whom a notice reaches: the graph of observers (QuantLib's `Observable` and `LazyObject`).
 //! Nodes are numbered from 0 in order of creation. A subject and one of its observers are a pair, each pair there once.
 //!
-//! `Graph`, `Role`, `Flags`. Words of `specs/`: `GraphView`, `IsPair`, `IsTold`, `Reaches`.
+//! `Graph`, `Role`, `Flags`. Words of `specs/`: `GraphView`, `IsPair`, `IsTold`, `Reaches`, `IsLateOf`, `IsClear`.
 #![tactic(auto)]
 
+mod beneath;
 mod graph;
 mod lists;
 mod node;

@@ -95,8 +95,8 @@ pub fn least_of(nodes: &[ObjId]) -> Option<ObjId>
     least
 }
 
-// The lesser of two nodes, if there are two.
-fn lesser(least: Option<ObjId>, node: ObjId) -> ObjId
+/// The lesser of two nodes, if there are two.
+pub fn lesser(least: Option<ObjId>, node: ObjId) -> ObjId
     ensures { result ≡ lesser least node }
 {
     match least {

@@ -2,20 +2,27 @@ use Rattle.std.proofs.Common.{◌∙◌, ◌<◌, ◌^◌, ◌++◌, [], ◌∷�
 use Rattle.observer_graph.specs.declared.node.Node.{Node}
 use Rattle.observer_graph.specs.GraphView.{GraphView}
 use Rattle.observer_graph.proofs.Wholes.{stands_added, off_flags}
+use Rattle.observer_graph.specs.Late.{frozen_count}
+use Rattle.observer_graph.proofs.Frozen.{count_last}
 use Rattle.observer_graph.proofs.graph.Graph.add.Goals as goal
 
 pub invariant_of-self-2 : goal.invariant_of-self-2
-invariant_of-self-2 c = stands_added c.self.inside.nodes.items c.push_reserved.new.self.items c.self.inside.pairs
-    c.grow.new.self c.self.inside.sources c.grow-2.new.self c.self.inside.wave c.grow-3.new.self c.args.role
-    c.default.result
-    c.self.invariant (subst (λ (v : GraphView). length v.nodes < 2 ^ 16) (sym c.self.view_is) c.requires)
-    (off_flags c.default.result c.default.ensures)
-    (c.push_reserved.ensures.items ∙ ap (λ (l : List (Option Node)). l ++ Some
-    (record { role = c.args.role; flags = c.default.result }) ∷ []) c.in_ok-reserve.ensures.items)
-    (c.grow.ensures ∙ ap (λ (l : List (List ℕ)). l ++ [] ∷ []) c.in_ok-reserve-2.ensures.subjects)
-    (c.grow-2.ensures.marks ∙ ap (λ (l : List Bool). l ++ false ∷ []) c.in_ok-reserve-3.ensures.marks)
-    (c.grow-3.ensures.marks ∙ ap (λ (l : List Bool). l ++ false ∷ []) c.in_ok-reserve-4.ensures.marks)
-    (c.grow-3.ensures.items ∙ c.in_ok-reserve-4.ensures.items)
+invariant_of-self-2 c = (
+  stands_added c.self.inside.nodes.items c.push_reserved.new.self.items c.self.inside.pairs
+      c.grow.new.self c.self.inside.sources c.grow-2.new.self c.self.inside.wave c.grow-3.new.self c.args.role
+      c.default.result
+      c.self.invariant.0 (subst (λ (v : GraphView). length v.nodes < 2 ^ 16) (sym c.self.view_is) c.requires)
+      (off_flags c.default.result c.default.ensures)
+      (c.push_reserved.ensures.items ∙ ap (λ (l : List (Option Node)). l ++ Some
+      (record { role = c.args.role; flags = c.default.result }) ∷ []) c.in_ok-reserve.ensures.items)
+      (c.grow.ensures ∙ ap (λ (l : List (List ℕ)). l ++ [] ∷ []) c.in_ok-reserve-2.ensures.subjects)
+      (c.grow-2.ensures.marks ∙ ap (λ (l : List Bool). l ++ false ∷ []) c.in_ok-reserve-3.ensures.marks)
+      (c.grow-3.ensures.marks ∙ ap (λ (l : List Bool). l ++ false ∷ []) c.in_ok-reserve-4.ensures.marks)
+      (c.grow-3.ensures.items ∙ c.in_ok-reserve-4.ensures.items),
+  c.self.invariant.1 ∙ sym (ap frozen_count (c.push_reserved.ensures.items ∙ ap (λ (l : List (Option Node)). l ++ Some
+      (record { role = c.args.role; flags = c.default.result }) ∷ []) c.in_ok-reserve.ensures.items)
+      ∙ count_last c.self.inside.nodes.items (Some (record { role = c.args.role; flags = c.default.result })) c.default.ensures.1.0),
+)
 
 pub returns-clause-whole : goal.returns-clause-whole
-returns-clause-whole c = (invariant_of-self-2 c).whole
+returns-clause-whole c = (invariant_of-self-2 c).0.whole

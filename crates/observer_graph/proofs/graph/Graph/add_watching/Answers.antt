@@ -9,26 +9,28 @@ use Rattle.observer_graph.specs.Walks.{graph_of}
 use Rattle.observer_graph.specs.Change.{AddsNode}
 use Rattle.observer_graph.proofs.Wholes.{live_within, off_flags}
 use Rattle.observer_graph.proofs.Linked.{stands_linked, adds_node}
+use Rattle.observer_graph.specs.Late.{frozen_count}
+use Rattle.observer_graph.proofs.Frozen.{count_last}
 use Rattle.observer_graph.proofs.graph.Graph.add_watching.Goals as goal
 
 pub insert_all-requires : goal.insert_all-requires
 insert_all-requires c = λ o a.
     let w = live_within c.self.inside.nodes.items o (subst (λ (v : GraphView). IsLive v o) (sym c.self.view_is) (c.requires.live o a)) in
-    let m = ap length c.in_ok-reserve-4.ensures.marks in let r = c.self.invariant.room in omega arith
+    let m = ap length c.in_ok-reserve-4.ensures.marks in let r = c.self.invariant.0.room in omega arith
 
 pub grow_linked-linked-requires-clause-within : goal.grow_linked-linked-requires-clause-within
 grow_linked-linked-requires-clause-within c = λ x a.
     let named : Among x c.args.subjects.now = elim ((c.insert_all.ensures.items x).0 (subst (Among x) c.items.ensures.items a)) [
-      | inl was ↦ absurd (subst (Among x) (c.in_ok-reserve-4.ensures.items ∙ c.self.invariant.empty) was)
+      | inl was ↦ absurd (subst (Among x) (c.in_ok-reserve-4.ensures.items ∙ c.self.invariant.0.empty) was)
       | inr new ↦ new
     ] in
     let w = live_within c.self.inside.nodes.items x (subst (λ (v : GraphView). IsLive v x) (sym c.self.view_is) (c.requires.live x named)) in
-    let m = ap length c.in_ok-reserve-2.ensures.subjects in let l = c.self.invariant.whole.lists in omega arith
+    let m = ap length c.in_ok-reserve-2.ensures.subjects in let l = c.self.invariant.0.whole.lists in omega arith
 
 named_are : (c : goal.After-grow-2) → (x : ℕ) → Among x c.items.result.now ↔ Among x c.args.subjects.now
 named_are c x = (
   λ a. elim ((c.insert_all.ensures.items x).0 (subst (Among x) c.items.ensures.items a)) [
-    | inl was ↦ absurd (subst (Among x) (c.in_ok-reserve-4.ensures.items ∙ c.self.invariant.empty) was)
+    | inl was ↦ absurd (subst (Among x) (c.in_ok-reserve-4.ensures.items ∙ c.self.invariant.0.empty) was)
     | inr new ↦ new
   ],
   λ a. subst (Among x) (sym c.items.ensures.items) ((c.insert_all.ensures.items x).1 (inr a)),
@@ -44,20 +46,24 @@ sources_are : (c : goal.After-grow-2) → c.grow.new.self.marks ≡ c.self.insid
 sources_are c = c.grow.ensures.marks ∙ ap (λ (l : List Bool). l ++ false ∷ []) c.in_ok-reserve-3.ensures.marks
 
 pub invariant_of-self-2 : goal.invariant_of-self-2
-invariant_of-self-2 c = stands_linked c.self.inside.nodes.items c.push_reserved.new.self.items c.self.inside.pairs c.grow_linked-linked.new.self
-    c.self.inside.sources c.grow.new.self c.self.inside.wave c.grow-2.new.self c.args.role c.default.result c.items.result.now
-    c.self.invariant (subst (λ (v : GraphView). length v.nodes < 2 ^ 16) (sym c.self.view_is) c.requires.room)
-    (off_flags c.default.result c.default.ensures) (nodes_are c)
-    (subst IsOnce (sym c.items.ensures.items) c.items.ensures.set.once)
-    (λ x a. subst (λ (v : GraphView). IsLive v x) (sym c.self.view_is) (c.requires.live x ((named_are c x).0 a)))
-    (pairs_are c) (sources_are c)
-    (ap length c.grow-2.ensures.marks ∙ length-append c.clear.new.self.marks (false ∷ []) ∙ ap (λ (n : ℕ). n + 1) (c.clear.ensures.len ∙ c.insert_all.ensures.room ∙ ap length c.in_ok-reserve-4.ensures.marks ∙ c.self.invariant.room))
-    (c.grow-2.ensures.items ∙ c.clear.ensures.items)
+invariant_of-self-2 c = (
+  stands_linked c.self.inside.nodes.items c.push_reserved.new.self.items c.self.inside.pairs c.grow_linked-linked.new.self
+      c.self.inside.sources c.grow.new.self c.self.inside.wave c.grow-2.new.self c.args.role c.default.result c.items.result.now
+      c.self.invariant.0 (subst (λ (v : GraphView). length v.nodes < 2 ^ 16) (sym c.self.view_is) c.requires.room)
+      (off_flags c.default.result c.default.ensures) (nodes_are c)
+      (subst IsOnce (sym c.items.ensures.items) c.items.ensures.set.once)
+      (λ x a. subst (λ (v : GraphView). IsLive v x) (sym c.self.view_is) (c.requires.live x ((named_are c x).0 a)))
+      (pairs_are c) (sources_are c)
+      (ap length c.grow-2.ensures.marks ∙ length-append c.clear.new.self.marks (false ∷ []) ∙ ap (λ (n : ℕ). n + 1) (c.clear.ensures.len ∙ c.insert_all.ensures.room ∙ ap length c.in_ok-reserve-4.ensures.marks ∙ c.self.invariant.0.room))
+      (c.grow-2.ensures.items ∙ c.clear.ensures.items),
+  c.self.invariant.1 ∙ sym (ap frozen_count (nodes_are c)
+      ∙ count_last c.self.inside.nodes.items (Some (record { role = c.args.role; flags = c.default.result })) c.default.ensures.1.0),
+)
 
 pub returns-clause-ok : goal.returns-clause-ok
 returns-clause-ok c = subst (λ (v : GraphView). AddsNode c.args.role c.args.subjects.now v (graph_of c.push_reserved.new.self.items c.grow_linked-linked.new.self.subjects c.grow.new.self.marks)) c.self.view_is
     (adds_node c.self.inside.nodes.items c.push_reserved.new.self.items c.self.inside.pairs.subjects c.grow_linked-linked.new.self.subjects c.self.inside.sources.marks c.grow.new.self.marks
-    c.args.role c.default.result c.items.result.now c.args.subjects.now c.self.invariant.whole (off_flags c.default.result c.default.ensures) (nodes_are c) (named_are c) (pairs_are c) (sources_are c))
+    c.args.role c.default.result c.items.result.now c.args.subjects.now c.self.invariant.0.whole (off_flags c.default.result c.default.ensures) (nodes_are c) (named_are c) (pairs_are c) (sources_are c))
 
 pub returns-clause-whole : goal.returns-clause-whole
-returns-clause-whole c = (invariant_of-self-2 c).whole
+returns-clause-whole c = (invariant_of-self-2 c).0.whole

@@ -1,6 +1,7 @@
-use Rattle.std.proofs.Common.{sym, subst}
+use Rattle.std.proofs.Common.{sym, subst, ◌∙◌}
 use Rattle.observer_graph.specs.GraphView.{GraphView, IsLive}
 use Rattle.observer_graph.proofs.Wholes.{live_within, node_read, stands_stale}
+use Rattle.observer_graph.proofs.Frozen.{count_stale}
 use Rattle.observer_graph.proofs.graph.Graph.outdate.Goals as goal
 
 pub invariant_of-self : goal.invariant_of-self
@@ -12,6 +13,8 @@ invariant_of-self c =
       node_read c.self.inside.nodes.items c.place.result c.args.node c.index_mut.result.now
           c.place.ensures low c.index_mut.ensures.value,
       c.place.ensures,
+    ) (
+      stands_stale c.self.inside.nodes.items c.self.inside.pairs c.self.inside.sources c.self.inside.wave c.args.node
+          live c.self.invariant.0,
+      c.self.invariant.1 ∙ sym (count_stale c.self.inside.nodes.items c.args.node low),
     )
-    (stands_stale c.self.inside.nodes.items c.self.inside.pairs c.self.inside.sources c.self.inside.wave c.args.node
-    live c.self.invariant)

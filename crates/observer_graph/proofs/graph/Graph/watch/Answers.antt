@@ -8,15 +8,17 @@ use Rattle.observer_graph.proofs.Wholes.{either, stands_pairs, live_linked}
 use Rattle.observer_graph.proofs.graph.Graph.watch.Goals as goal
 
 pub invariant_of-self : goal.invariant_of-self
-invariant_of-self c =
-    stands_pairs c.self.inside.nodes.items c.self.inside.pairs c.link.new.self c.self.inside.sources
-    c.self.inside.wave c.self.invariant c.link.ensures.len c.link.ensures.once
-    (live_linked (graph_of c.self.inside.nodes.items c.self.inside.pairs.subjects c.self.inside.sources.marks)
-    c.link.new.self.subjects c.args.subject c.args.observer c.self.invariant.whole
-    (subst (λ (v : GraphView). IsLive v c.args.subject) (sym c.self.view_is) c.requires.subject)
-    (subst (λ (v : GraphView). IsLive v c.args.observer) (sym c.self.view_is) c.requires.observer)
-    (either c.link.result c.link.ensures.ok c.link.ensures.err (λ pairs x o a. (pairs x o).0 a)
-    (λ same x o a. inl (subst (λ (l : List (List ℕ)). Among x (list_at l o)) same a))))
+invariant_of-self c = (
+  stands_pairs c.self.inside.nodes.items c.self.inside.pairs c.link.new.self c.self.inside.sources
+      c.self.inside.wave c.self.invariant.0 c.link.ensures.len c.link.ensures.once
+      (live_linked (graph_of c.self.inside.nodes.items c.self.inside.pairs.subjects c.self.inside.sources.marks)
+      c.link.new.self.subjects c.args.subject c.args.observer c.self.invariant.0.whole
+      (subst (λ (v : GraphView). IsLive v c.args.subject) (sym c.self.view_is) c.requires.subject)
+      (subst (λ (v : GraphView). IsLive v c.args.observer) (sym c.self.view_is) c.requires.observer)
+      (either c.link.result c.link.ensures.ok c.link.ensures.err (λ pairs x o a. (pairs x o).0 a)
+      (λ same x o a. inl (subst (λ (l : List (List ℕ)). Among x (list_at l o)) same a)))),
+  c.self.invariant.1,
+)
 
 pub returns-clause-ok : goal.returns-clause-ok
 returns-clause-ok c = rw (← c.self.view_is) (on_ok_weaker c.link.result
@@ -25,4 +27,4 @@ returns-clause-ok c = rw (← c.self.view_is) (on_ok_weaker c.link.result
     c.link.ensures.ok)
 
 pub returns-clause-whole : goal.returns-clause-whole
-returns-clause-whole c = (invariant_of-self c).whole
+returns-clause-whole c = (invariant_of-self c).0.whole

@@ -1,12 +1,11 @@
 -- What stands after a link, an engine, a fixing and another day.
-use Rattle.std.proofs.Common.{◌≡◌, ℕ, Bool, true, false, List, [], Option, Some, None, refl, sym, ◌∙◌, ap, subst}
+use Rattle.std.proofs.Common.{◌≡◌, ℕ, Bool, true, false, List, Option, Some, sym, ◌∙◌, ap, subst}
 use Rattle.std.specs.Prelude.{ℤ, ◌==◌, if◌then◌else◌}
 use Rattle.std.specs.Option.{option_eq}
 use Rattle.std.specs.Ordering.{int_eq}
 use Rattle.desk_terms.specs.declared.terms.Terms.{Terms}
 use Rattle.desk_terms.specs.declared.terms.Terms.TheVariants.{Handle, Index, Flows}
 use Rattle.desk_terms.specs.Terms.{kind_of}
-use Rattle.desk_terms.specs.Reading.{Calc}
 use Rattle.flow_terms.specs.Fixings.{with_fixing}
 use Rattle.desk_model.specs.declared.kept.Kept.{Kept}
 use Rattle.desk_model.specs.declared.slot.Slot.{Slot}
@@ -18,10 +17,9 @@ use Rattle.desk_model.specs.Held.Changeable.{HasValue, HasTarget, HasFixings, Ha
 use Rattle.desk_model.specs.Links.{IsLinked, IsWhole, IsKinded, IsRanged}
 use Rattle.desk_model.specs.Laws.{Keeps}
 use Rattle.desk_model.specs.Sound.{IsSound, KeepsCurrent}
-use Rattle.desk_model.specs.Effect.{notified, revised, number_eq, target_set, relinked, priced_by_engine, engine_set, fixing_stored, fixing_added, with_today, today_set}
+use Rattle.desk_model.specs.Effect.{notified, revised, number_eq, target_set, relinked, priced_by_engine, engine_set, fixing_stored, fixing_added, today_set}
 use Rattle.desk_model.proofs.Commands.{TermsOf, terms_hold, kind_there, same_handle}
 use Rattle.desk_model.proofs.Changes.{today_keeps}
-use Rattle.desk_model.proofs.KindsKept.{today_kinded}
 use Rattle.desk_model.proofs.Carried.{sound_kept}
 use Rattle.desk_model.proofs.Stores.{told_kept}
 use Rattle.desk_model.proofs.Tells.{unsettled_flags}

@@ -1,3 +1,4 @@
+pub mod Boarded
 pub mod Commanded
 pub mod Dropped
 pub mod Empty
@@ -12,10 +13,12 @@ pub mod Linked
 pub mod Loop
 pub mod Members
 pub mod Remembered
+pub mod Repriced
 pub mod Revised
 pub mod Rewatched
 pub mod Reweighted
 pub mod Stacks
+pub mod Stored
 pub mod Telling
 pub mod Touched
 pub mod Unheld

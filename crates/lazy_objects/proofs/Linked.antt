@@ -1,6 +1,6 @@
 -- The graph of a desk after a link.
-use Rattle.std.proofs.Common.{◌≡◌, ◌≢◌, ◌⊎◌, inl, inr, ℕ, ◌<◌, Bool, true, false, List, [], ◌∷◌, length, Option, None, Some, refl, sym, ◌∙◌, ap, subst}
-use Rattle.std.specs.Prelude.{ℤ, ◌↔◌, ◌==◌, slice_index_or, slice_set, is_some, IfSome, if◌then◌else◌}
+use Rattle.std.proofs.Common.{◌≡◌, ◌⊎◌, inl, inr, ℕ, ◌<◌, Bool, true, false, List, length, Option, None, Some, refl, sym, ◌∙◌, ap, subst}
+use Rattle.std.specs.Prelude.{ℤ, ◌↔◌, slice_index_or, slice_set, is_some, IfSome, if◌then◌else◌}
 use Rattle.std.specs.Option.{option_eq}
 use Rattle.std.proofs.lemmas.Bool.{cases_lt, eq-eqb, false≢true}
 use Rattle.std.proofs.lemmas.List.{get_or_past}
@@ -12,8 +12,8 @@ use Rattle.desk_terms.specs.declared.terms.HandleKind.TheVariants as handle
 use Rattle.desk_model.specs.declared.kept.Kept.{Kept}
 use Rattle.desk_model.specs.declared.slot.Slot.{Slot}
 use Rattle.desk_model.specs.declared.slot.Slot.TheVariants.{Live, Free, Today, Watcher}
-use Rattle.desk_model.specs.Market.{Market, slot_at, terms_in, is_given, edges_of}
-use Rattle.desk_model.specs.Held.{Changeable, changeable}
+use Rattle.desk_model.specs.Market.{slot_at, terms_in, edges_of}
+use Rattle.desk_model.specs.Held.{changeable}
 use Rattle.desk_model.specs.State.{State}
 use Rattle.desk_model.specs.Told.{tell}
 use Rattle.desk_model.specs.Links.{IsLinked, AreOfKind}
@@ -24,11 +24,11 @@ use Rattle.desk_model.proofs.KindsKept.{relink_kinded}
 use Rattle.observer_graph.specs.declared.node.Role.{Role}
 use Rattle.observer_graph.specs.declared.node.Role.TheVariants.{Forwarder}
 use Rattle.lazy_objects.specs.Slots.{market_of, state_of}
-use Rattle.lazy_objects.specs.Shape.{Shape, IsJoined, role_at, observed_by, slot_role}
-use Rattle.lazy_objects.specs.Store.{StoreView, Joins, Leaves, JoinsAny, LeavesAny}
+use Rattle.lazy_objects.specs.Shape.{IsJoined, role_at, observed_by, slot_role}
+use Rattle.lazy_objects.specs.Store.{StoreView, JoinsAny, LeavesAny}
 use Rattle.lazy_objects.specs.Scratch.{ScratchView}
 use Rattle.lazy_objects.specs.Stands.{Stands}
-use Rattle.lazy_objects.proofs.Joined.{joined_set, there_given, there_seen}
+use Rattle.lazy_objects.proofs.Joined.{joined_set, there_seen}
 use Rattle.lazy_objects.proofs.Revised.{Changed}
 use Rattle.lazy_objects.proofs.Commanded.{link_stands, commanded}
 
@@ -56,10 +56,10 @@ role_there (Live terms) kind target is = ap (λ (u : Terms). slot_role (Live u))
     some_terms a b e = cc
 
 -- two targets of which one is an object are the same
-same_target : (held target : Option ℕ) (x : ℕ) → held ≡ Some x → target ≡ Some x → option_eq number_eq held target ≡ true
+pub same_target : (held target : Option ℕ) (x : ℕ) → held ≡ Some x → target ≡ Some x → option_eq number_eq held target ≡ true
 same_target held target x is are = ap (λ (h : Option ℕ). option_eq number_eq h target) is ∙ ap (λ (t : Option ℕ). option_eq number_eq (Some x) t) are ∙ eq-eqb x x refl
 
-joins_pairs : (target : Option ℕ) (h : ℕ) (old new : StoreView) → JoinsAny target h old new → (x o : ℕ)
+pub joins_pairs : (target : Option ℕ) (h : ℕ) (old new : StoreView) → JoinsAny target h old new → (x o : ℕ)
     → Among x (observed_by new.shape o) ↔ (Among x (observed_by old.shape o) ⊎ ((target ≡ Some x) × (o ≡ h)))
 joins_pairs None h old new same x o = (
   λ a. inl (subst (λ (v : StoreView). Among x (observed_by v.shape o)) same a),
@@ -70,7 +70,7 @@ joins_pairs (Some y) h old new joins x o = (
   λ a. (joins.pairs x o).1 (elim a [ inl was ↦ inl was | inr p ↦ inr (same_some x y p.0, p.1) ]),
 )
 
-leaves_pairs : (held : Option ℕ) (h : ℕ) (old new : StoreView) → LeavesAny held h old new → (x o : ℕ)
+pub leaves_pairs : (held : Option ℕ) (h : ℕ) (old new : StoreView) → LeavesAny held h old new → (x o : ℕ)
     → Among x (observed_by new.shape o) ↔ (Among x (observed_by old.shape o) × ((held ≡ Some x) × (o ≡ h) → ⊥))
 leaves_pairs None h old new same x o = (
   λ a. (subst (λ (v : StoreView). Among x (observed_by v.shape o)) same a, λ p. none_some p.0),
@@ -88,7 +88,7 @@ pub joins_roles : (target : Option ℕ) (h : ℕ) (old new : StoreView) → Join
 joins_roles None h old new same = (ap (λ (v : StoreView). v.kept) same, ap (λ (v : StoreView). v.shape.roles) same)
 joins_roles (Some y) h old new joins = (joins.kept, joins.roles)
 
-leaves_roles : (held : Option ℕ) (h : ℕ) (old new : StoreView) → LeavesAny held h old new → (new.kept ≡ old.kept) × (new.shape.roles ≡ old.shape.roles)
+pub leaves_roles : (held : Option ℕ) (h : ℕ) (old new : StoreView) → LeavesAny held h old new → (new.kept ≡ old.kept) × (new.shape.roles ≡ old.shape.roles)
 leaves_roles None h old new same = (ap (λ (v : StoreView). v.kept) same, ap (λ (v : StoreView). v.shape.roles) same)
 leaves_roles (Some y) h old new leaves = (leaves.kept, leaves.roles)
 
@@ -152,7 +152,7 @@ unfolding relinked
 link_as s h kind held target b is e = ap (λ (t : Option Terms). target_set (changeable t) h target s) is ∙ ap (λ (c : Bool). if c then s else revised h (Handle kind target) s) e
 
 -- a change tells nothing of the market but the terms
-linked_before : (h : ℕ) (terms : Terms) (today : ℤ) (slots : List Slot) (kept : List Kept) → IsLinked (revised h terms (state_of today slots kept)).market → IsLinked (with_terms h terms (state_of today slots kept)).market
+pub linked_before : (h : ℕ) (terms : Terms) (today : ℤ) (slots : List Slot) (kept : List Kept) → IsLinked (revised h terms (state_of today slots kept)).market → IsLinked (with_terms h terms (state_of today slots kept)).market
 unfolding revised notified tell
 linked_before h terms today slots kept links = links
 

@@ -31,6 +31,7 @@ use Rattle.desk_model.proofs.Carried.{sound_kept}
 use Rattle.desk_model.proofs.Stores.{told_kept}
 use Rattle.desk_model.proofs.Tells.{unsettled_flags}
 use Rattle.lazy_objects.specs.Slots.{market_of, state_of, holds_value}
+use Rattle.lazy_objects.specs.Shape.{Shape, IsJoined}
 use Rattle.lazy_objects.specs.Scratch.{ScratchView, IsEmpty}
 use Rattle.lazy_objects.specs.Stands.{Stands}
 use Rattle.lazy_objects.proofs.Telling.{ranged_set, unwatched_set}
@@ -138,3 +139,8 @@ quote_changed today slots kept scratch q value new stands is other e =
       keeps = subst (KeepsCurrent (state_of today slots kept)) (sym e) current;
       sound = λ calc sound. subst (IsSound calc) (sym e) (sound_kept calc (state_of today slots kept) (revised q (terms_of.Quote value) (state_of today slots kept)) current sound);
     }
+
+-- what a change leaves of a desk
+pub record After (s new wanted : State) (scratch : ScratchView) (shape : Shape) : Type 0 where
+  pub changed : Changed s new wanted scratch
+  pub joined : IsJoined new.market shape

@@ -12,8 +12,8 @@ use Rattle.desk_terms.specs.Kind as kind
 use Rattle.desk_model.specs.declared.kept.Kept.{Kept}
 use Rattle.desk_model.specs.declared.slot.Slot.{Slot}
 use Rattle.desk_model.specs.declared.slot.Slot.TheVariants.{Live, Free, Today, Watcher}
-use Rattle.desk_model.specs.Market.{edges, terms_in, role_of, slot_at, is_watcher}
-use Rattle.desk_model.specs.State.{unpriced}
+use Rattle.desk_model.specs.Market.{edges, terms_in, role_of, slot_at, is_given, is_watcher}
+use Rattle.desk_model.specs.State.{State, unpriced}
 use Rattle.desk_model.specs.Told.{subjects, forwards, forwards_as, told, tell, unsettled, watchers_where}
 use Rattle.desk_model.specs.Links.{IsLinked, IsRanged, AreRanged}
 use Rattle.desk_model.specs.Effect.{revised, notified}
@@ -21,7 +21,7 @@ use Rattle.desk_model.proofs.Bounds.{ranks_of}
 use Rattle.desk_model.proofs.Stores.{told_kept, told_length}
 use Rattle.observer_graph.specs.declared.node.Role.{Role}
 use Rattle.observer_graph.proofs.Exactly.{below_there}
-use Rattle.lazy_objects.specs.Slots.{market_of, state_of, AreUnwatched}
+use Rattle.lazy_objects.specs.Slots.{market_of, state_of, outdated, AreUnwatched}
 use Rattle.lazy_objects.specs.Shape.{Shape, IsJoined, role_at, observed_by, node_role, slot_role}
 use Rattle.lazy_objects.specs.Store.{StoreView, Notices, IsNotified, stored_at, passes_by, notified_kept}
 use Rattle.lazy_objects.proofs.Kept.{same_lists}
@@ -130,14 +130,14 @@ module _ (today : ℤ) (slots : List Slot) (kept marked : List Kept) (shape : Sh
   tell_state none after n = ap (λ (k : List Kept). state_of today slots k) (tell_kept after n)
       ∙ ap (λ (w : List ℕ). record (state_of today slots (tell (λ y. y == x) (state_of today slots kept)).kept) { noticed = w }) (sym (no_watchers (λ o. list_any (λ w. w == o) [] || told (state_of today slots kept) (λ y. y == x) o) 0 slots none))
 
-pub revised_state : (today : ℤ) (slots slots2 : List Slot) (kept kept2 marked : List Kept) (shape : Shape) (after : StoreView) (x : ℕ) (terms : Terms) → slots2 ≡ slice_set slots x (Live terms)
+-- an object is not current, and its observers are told
+pub outdated_state : (today : ℤ) (slots : List Slot) (kept kept2 marked : List Kept) (shape : Shape) (after : StoreView) (x : ℕ)
     → kept2 ≡ slice_set kept x (record (slice_index_or kept x unpriced) { current = false }) → marked ≡ slice_set kept2 x (record (slice_index_or kept2 x unpriced) { source = true })
-    → IsLinked (market_of today slots2) → IsJoined (market_of today slots2) shape → x < length kept → ((y : ℕ) → (slice_index_or kept y unpriced).source ≡ false) → AreUnwatched slots2
-    → Notices (record { kept = marked; shape = shape }) after → state_of today slots2 after.kept ≡ revised x terms (state_of today slots kept)
-unfolding revised notified
-revised_state today slots slots2 kept kept2 marked shape after x terms is are marks links joined within unmarked none n =
-    tell_state today slots2 kept2 marked shape x links joined (subst (λ (l : ℕ). x < l) (sym (ap length are ∙ length-set kept x (record (slice_index_or kept x unpriced) { current = false }))) within) still marks none after n
-    ∙ ap (tell (λ y. y == x)) (ap (λ (l : List Slot). state_of today l kept2) is ∙ ap (state_of today (slice_set slots x (Live terms))) are)
+    → IsLinked (market_of today slots) → IsJoined (market_of today slots) shape → x < length kept → ((y : ℕ) → (slice_index_or kept y unpriced).source ≡ false) → AreUnwatched slots
+    → Notices (record { kept = marked; shape = shape }) after → state_of today slots after.kept ≡ tell (λ y. y == x) (outdated x (state_of today slots kept))
+outdated_state today slots kept kept2 marked shape after x are marks links joined within unmarked none n =
+    tell_state today slots kept2 marked shape x links joined (subst (λ (l : ℕ). x < l) (sym (ap length are ∙ length-set kept x (record (slice_index_or kept x unpriced) { current = false }))) within) still marks none after n
+    ∙ ap (λ (l : List Kept). tell (λ y. y == x) (state_of today slots l)) are
   where
     still : (y : ℕ) → (slice_index_or kept2 y unpriced).source ≡ false
     still y = ap (λ (l : List Kept). (slice_index_or l y unpriced).source) are ∙ elim (cases_eq y x) [
@@ -145,6 +145,12 @@ revised_state today slots slots2 kept kept2 marked shape after x terms is are ma
           ∙ ap (λ (k : Kept). k.source) (get_or-set_same kept x (record (slice_index_or kept x unpriced) { current = false }) unpriced within) ∙ unmarked x
       | inr other ↦ ap (λ (k : Kept). k.source) (get_or-set_other kept x y (record (slice_index_or kept x unpriced) { current = false }) unpriced other) ∙ unmarked y
     ]
+
+-- a change of terms, and then its notice
+pub revised_told : (today : ℤ) (slots slots2 : List Slot) (kept : List Kept) (new : State) (x : ℕ) (terms : Terms) → slots2 ≡ slice_set slots x (Live terms)
+    → new ≡ tell (λ y. y == x) (outdated x (state_of today slots2 kept)) → new ≡ revised x terms (state_of today slots kept)
+unfolding revised notified
+revised_told today slots slots2 kept new x terms is e = e ∙ ap (λ (l : List Slot). tell (λ y. y == x) (outdated x (state_of today l kept))) is
 
 pub ranged_set : (slots : List Slot) (today : ℤ) (x : ℕ) (terms : Terms) → x < length slots → AreRanged (market_of today slots) → IsRanged (Some terms) → AreRanged (market_of today (slice_set slots x (Live terms)))
 ranged_set slots today x terms within ranged own y = elim (cases_eq y x) [
@@ -157,3 +163,6 @@ unwatched_set slots x terms within none y = elim (cases_eq y x) [
   | inl same ↦ ap is_watcher (ap (λ (n : ℕ). slice_index_or (slice_set slots x (Live terms)) n Free) same ∙ get_or-set_same slots x (Live terms) Free within)
   | inr other ↦ ap is_watcher (get_or-set_other slots x y (Live terms) Free other) ∙ none y
 ]
+
+pub given_set : (slots slots2 : List Slot) (x : ℕ) (terms : Terms) → slots2 ≡ slice_set slots x (Live terms) → x < length slots → is_given (slice_index_or slots2 x Free) ≡ true
+given_set slots slots2 x terms is within = ap (λ (l : List Slot). is_given (slice_index_or l x Free)) is ∙ ap is_given (get_or-set_same slots x (Live terms) Free within)

@@ -1,5 +1,6 @@
 pub mod Asks
 pub mod Begun
+pub mod Objects
 pub mod Parts
 pub mod Reads
 pub mod Scratch

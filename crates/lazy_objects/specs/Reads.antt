@@ -1,5 +1,5 @@
 -- What one look at an object tells, over what is remembered.
-use Rattle.std.specs.Prelude.{◌≡◌, ℕ, Bool, List, length, Option, Some, None, slice_index_or, if◌then◌else◌}
+use Rattle.std.specs.Prelude.{◌≡◌, ℕ, ℤ, Bool, List, length, Option, Some, None, slice_index_or, if◌then◌else◌}
 use Rattle.desk_terms.specs.declared.terms.Terms.{Terms}
 use Rattle.desk_terms.specs.declared.terms.Terms.TheVariants.{Quote, Derived, Handle, Curve, Implied, Index, Engine, Stock, Composite, Flows}
 use Rattle.flow_terms.specs.declared.flows.FlowTerms.{FlowTerms}
@@ -37,10 +37,14 @@ forecast_index market flows (Some x) =
     then Some x
     else None
 
+-- what a quote with this value gives
+abbrev pub quote_entry : ℕ → Option ℤ → Entry
+quote_entry o None = Refuses (Unset o)
+quote_entry o (Some rate) = Gives rate
+
 abbrev pub given_by : (ℕ → Option Entry) → ℕ → Option Terms → Look
 given_by memo o None = Is (Refuses (Unset o))
-given_by memo o (Some (Quote None)) = Is (Refuses (Unset o))
-given_by memo o (Some (Quote (Some rate))) = Is (Gives rate)
+given_by memo o (Some (Quote value)) = Is (quote_entry o value)
 given_by memo o (Some (Derived minus first second)) = and_sum o minus (memo first) first (memo second) second
 given_by memo o (Some (Handle kind None)) = Is (Refuses (Empty o))
 given_by memo o (Some (Handle kind (Some target))) = and_is (memo target) target

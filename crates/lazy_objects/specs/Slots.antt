@@ -14,7 +14,8 @@ use Rattle.desk_model.specs.Held.{Changeable, changeable}
 use Rattle.desk_model.specs.Held.Changeable.{HasValue, HasTarget, HasFixings, HasParts, HasEngine, HasNone}
 use Rattle.desk_model.specs.declared.kept.Kept.{Kept}
 use Rattle.desk_model.specs.Market.{Market, is_watcher}
-use Rattle.desk_model.specs.State.{State, unpriced, last_of}
+use Rattle.desk_model.specs.State.{State, unpriced, kept_at, last_of}
+use Rattle.desk_model.specs.Effect.{with_kept}
 
 -- THE MARKET of a desk
 abbrev pub market_of : ℤ → List Slot → Market
@@ -23,6 +24,10 @@ market_of today slots = record { today = today; objects = slots }
 -- THE STATE of a desk: no command defers yet, and there are no watchers
 abbrev pub state_of : ℤ → List Slot → List Kept → State
 state_of today slots kept = record { market = market_of today slots; kept = kept; deferring = false; registrations = []; noticed = [] }
+
+-- the state in which an object is not current
+abbrev pub outdated : ℕ → State → State
+outdated x state = with_kept x (record (kept_at state x) { current = false }) state
 
 abbrev pub is_now : List Kept → ℕ → Bool
 is_now kept x = (slice_index_or kept x unpriced).current
@@ -52,6 +57,23 @@ holds_value value slot.Free = false
 holds_value value slot.Today = false
 holds_value value (slot.Watcher action) = false
 holds_value value (slot.Live terms) = is_value value (changeable (Some terms))
+
+-- the engine of an instrument, and whether rates are stored of an object
+abbrev pub engine_in : Changeable → Option ℕ
+engine_in (HasValue held) = None
+engine_in (HasTarget kind held) = None
+engine_in (HasFixings terms fixings) = None
+engine_in (HasParts parts) = None
+engine_in (HasEngine flows held) = held
+engine_in HasNone = None
+
+abbrev pub has_fixings : Changeable → Bool
+has_fixings (HasValue held) = false
+has_fixings (HasTarget kind held) = false
+has_fixings (HasFixings terms fixings) = true
+has_fixings (HasParts parts) = false
+has_fixings (HasEngine flows held) = false
+has_fixings HasNone = false
 
 -- none is a watcher
 abbrev pub AreUnwatched : List Slot → Type 0

@@ -79,3 +79,10 @@ JoinsAny (Some subject) observer old new = Joins old new subject observer
 abbrev pub LeavesAny : Option ℕ → ℕ → StoreView → StoreView → Type 0
 LeavesAny None observer old new = new ≡ old
 LeavesAny (Some subject) observer old new = Leaves old new subject observer
+
+-- an object observes this one, if there is one, in place of that one
+pub record Moves (held target : Option ℕ) (observer : ℕ) (old new : StoreView) : Type 0 where
+  pub kept : new.kept ≡ old.kept
+  pub roles : new.shape.roles ≡ old.shape.roles
+  pub own : (x : ℕ) → Among x (observed_by new.shape observer) ↔ ((Among x (observed_by old.shape observer) × (held ≢ Some x)) ⊎ (target ≡ Some x))
+  pub others : (o x : ℕ) → o ≢ observer → Among x (observed_by new.shape o) ↔ Among x (observed_by old.shape o)

@@ -16,13 +16,13 @@ ghost use Rattle.lazy_objects.specs.Reads.{Remembers};
 ghost use Rattle.lazy_objects.specs.Begun.{Begun};
 ghost use Rattle.lazy_objects.specs.Asks.{Asks, Stops, MayAsk, Stays, Computes};
 
-use crate::reader::terms_of;
+use crate::objects::Objects;
 use crate::scratch::Scratch;
 use crate::steps::next;
 use crate::store::Store;
 use crate::uses::index_named;
 use day_number::Day;
-use desk_model::{Next, Slot};
+use desk_model::Next;
 use desk_names::ObjId;
 use desk_terms::{Asked, Bench, Cause, InputList, Job, Mark, Terms, Value};
 use std::alloc::{AllocError, Global};
@@ -31,28 +31,28 @@ use std::alloc::{AllocError, Global};
 pub fn ask<B: Bench>(
     alloc: Global,
     today: Day,
-    slots: &[Slot],
+    objects: &Objects,
     store: &mut Store,
     scratch: &mut Scratch,
     object: ObjId,
     bench: &mut B,
 ) -> Result<Asked, AllocError>
-    requires may { MayAsk (B.calc bench.old) (state_of today slots.now store.old.kept) object }
-    requires empty { IsEmpty (length slots.now) scratch.old }
-    requires joined { IsJoined (market_of today slots.now) store.old.shape }
+    requires may { MayAsk (B.calc bench.old) (state_of today objects.now store.old.kept) object }
+    requires empty { IsEmpty (length objects.now) scratch.old }
+    requires joined { IsJoined (market_of today objects.now) store.old.shape }
     ensures same { B.calc bench.new ≡ B.calc bench.old }
-    ensures asks { IfOk result (λ answer. Asks (B.calc bench.old) object (state_of today slots.now store.old.kept) (state_of today slots.now store.new.kept) answer
+    ensures asks { IfOk result (λ answer. Asks (B.calc bench.old) object (state_of today objects.now store.old.kept) (state_of today objects.now store.new.kept) answer
         (B.count bench.old) (B.count bench.new) (B.log bench.old) (B.log bench.new)) }
-    ensures stops { OnErr result (Stops (B.calc bench.old) object (state_of today slots.now store.old.kept) (state_of today slots.now store.new.kept)
+    ensures stops { OnErr result (Stops (B.calc bench.old) object (state_of today objects.now store.old.kept) (state_of today objects.now store.new.kept)
         (B.count bench.old) (B.count bench.new) (B.log bench.old) (B.log bench.new)) }
-    ensures stays { Stays (B.calc bench.old) (state_of today slots.now store.new.kept) }
-    ensures empty { IsEmpty (length slots.now) scratch.new }
+    ensures stays { Stays (B.calc bench.old) (state_of today objects.now store.new.kept) }
+    ensures empty { IsEmpty (length objects.now) scratch.new }
     ensures shape { store.new.shape ≡ store.old.shape }
 {
     if store.is_current(object) {
         return Ok(answered(None, 0));
     }
-    let answer = compute_all(alloc, today, slots, store, scratch, object, bench);
+    let answer = compute_all(alloc, today, objects, store, scratch, object, bench);
     scratch.clear();
     answer
 }
@@ -61,38 +61,38 @@ pub fn ask<B: Bench>(
 fn compute_all<B: Bench>(
     alloc: Global,
     today: Day,
-    slots: &[Slot],
+    objects: &Objects,
     store: &mut Store,
     scratch: &mut Scratch,
     object: ObjId,
     bench: &mut B,
 ) -> Result<Asked, AllocError>
-    requires may { MayAsk (B.calc bench.old) (state_of today slots.now store.old.kept) object }
+    requires may { MayAsk (B.calc bench.old) (state_of today objects.now store.old.kept) object }
     requires stale { is_now store.old.kept object ≡ false }
-    requires remembers { Remembers (market_of today slots.now) scratch.old.entries }
-    requires begun { Begun slots.now store.old.kept scratch.old.positions }
-    requires joined { IsJoined (market_of today slots.now) store.old.shape }
+    requires remembers { Remembers (market_of today objects.now) scratch.old.entries }
+    requires begun { Begun objects.now store.old.kept scratch.old.positions }
+    requires joined { IsJoined (market_of today objects.now) store.old.shape }
     ensures same { B.calc bench.new ≡ B.calc bench.old }
-    ensures asks { IfOk result (λ answer. Asks (B.calc bench.old) object (state_of today slots.now store.old.kept) (state_of today slots.now store.new.kept) answer
+    ensures asks { IfOk result (λ answer. Asks (B.calc bench.old) object (state_of today objects.now store.old.kept) (state_of today objects.now store.new.kept) answer
         (B.count bench.old) (B.count bench.new) (B.log bench.old) (B.log bench.new)) }
-    ensures stops { OnErr result (Stops (B.calc bench.old) object (state_of today slots.now store.old.kept) (state_of today slots.now store.new.kept)
+    ensures stops { OnErr result (Stops (B.calc bench.old) object (state_of today objects.now store.old.kept) (state_of today objects.now store.new.kept)
         (B.count bench.old) (B.count bench.new) (B.log bench.old) (B.log bench.new)) }
-    ensures stays { Stays (B.calc bench.old) (state_of today slots.now store.new.kept) }
+    ensures stays { Stays (B.calc bench.old) (state_of today objects.now store.new.kept) }
     ensures shape { store.new.shape ≡ store.old.shape }
-    ensures long { (length scratch.new.entries ≡ length slots.now) × (length scratch.new.positions ≡ length slots.now) }
+    ensures long { (length scratch.new.entries ≡ length objects.now) × (length scratch.new.positions ≡ length objects.now) }
 {
     let mut stack: Vec<ObjId> = Vec::new(alloc);
     stack.push(object)?;
     let mut runs: u64 = 0;
     while let Some(top) = stack.pop() {
-        match next(alloc, today, slots, store, scratch, top)? {
+        match next(alloc, today, objects, store, scratch, top)? {
             Next::Stops(cause) => return Ok(answered(Some(cause), runs)),
             Next::First(needed) => {
                 stack.push(top)?;
                 stack.push(needed)?;
             }
             Next::Ready(inputs) => {
-                let cause = compute(alloc, today, slots, store, top, &inputs, bench)?;
+                let cause = compute(alloc, today, objects, store, top, &inputs, bench)?;
                 runs += 1;
                 if cause.is_some() {
                     return Ok(answered(cause, runs));
@@ -107,28 +107,28 @@ fn compute_all<B: Bench>(
 fn compute<'a, B: Bench>(
     alloc: Global,
     today: Day,
-    slots: &'a [Slot],
+    objects: &'a Objects,
     store: &mut Store,
     object: ObjId,
     inputs: &'a InputList,
     bench: &mut B,
 ) -> Result<Option<Cause>, AllocError>
-    requires lazy { is_lazy_at (market_of today slots.now) object ≡ true }
+    requires lazy { is_lazy_at (market_of today objects.now) object ≡ true }
     requires role { role_at store.old.shape object ≡ Some role.Lazy }
-    requires fits { (terms : Terms) → terms_at (market_of today slots.now) object ≡ Some terms → IsWellFormed (reading_at (market_of today slots.now) object terms inputs.now) }
+    requires fits { (terms : Terms) → terms_at (market_of today objects.now) object ≡ Some terms → IsWellFormed (reading_at (market_of today objects.now) object terms inputs.now) }
     ensures same { B.calc bench.new ≡ B.calc bench.old }
-    ensures computes { IfOk result (λ cause. Computes (B.calc bench.old) (market_of today slots.now) object inputs.now store.old.kept store.new.kept cause
+    ensures computes { IfOk result (λ cause. Computes (B.calc bench.old) (market_of today objects.now) object inputs.now store.old.kept store.new.kept cause
         (B.count bench.old) (B.count bench.new) (B.log bench.old) (B.log bench.new)) }
     ensures err { OnErr result ((store.new.kept ≡ store.old.kept) × (B.count bench.new ≡ counted (B.count bench.old) 1) × (B.log bench.new ≡ B.log bench.old)) }
     ensures shape { store.new.shape ≡ store.old.shape }
 {
-    let terms = lazy_terms(today, slots, object);
+    let terms = objects.own_terms(object);
     let job = Job {
         object,
         terms,
         inputs,
         today,
-        index: index_named(today, slots, terms),
+        index: index_named(today, objects, terms),
     };
     match bench.price(alloc, &job) {
         Ok(value) => {
@@ -139,17 +139,6 @@ fn compute<'a, B: Bench>(
             Some(cause) => Ok(Some(cause)),
             None => Err(AllocError),
         },
-    }
-}
-
-// The terms of an object that is priced.
-fn lazy_terms(today: Day, slots: &[Slot], object: ObjId) -> &Terms
-    requires { is_lazy_at (market_of today slots.now) object ≡ true }
-    ensures { terms_at (market_of today slots.now) object ≡ Some result.now }
-{
-    match terms_of(slots, object) {
-        Some(terms) => terms,
-        None => unreachable!(),
     }
 }
 

@@ -1,15 +1,18 @@
 // The objects of a session. A clause sees the desk as its state.
-ghost use Rattle.std.specs.Prelude.{◌≡◌, ◌≢◌, ℕ, Option, ◌⊎◌, ◌<◌, ◌^◌, ◌==◌, ◌||◌, true, false, pos, Some, None, length, IfOk, OnOk, OnErr, slice_index_or};
+ghost use Rattle.std.specs.Prelude.{◌≡◌, ◌≢◌, ◌↔◌, ℕ, ℤ, Option, Err, ◌⊎◌, ◌<◌, ◌^◌, ◌==◌, ◌||◌, true, false, pos, Some, None, length, IfOk, OnOk, OnErr};
 ghost use Rattle.std.specs.Option.{option_copied};
 ghost use Rattle.desk_terms.specs.Reading.{Calc, AreInRange};
-ghost use Rattle.desk_model.specs.Market.{kind_in, kind_at, terms_at, slot_at, is_given, least_user};
-ghost use Rattle.desk_model.specs.declared.slot.Slot.TheVariants.{Free};
+ghost use Rattle.desk_model.specs.Market.{kind_at, terms_at, slot_at, is_given, least_user};
+ghost use Rattle.desk_model.specs.Uses.{index_at, fixings_in};
 ghost use Rattle.desk_model.specs.State.{kept_at};
 ghost use Rattle.desk_model.specs.Sound.{IsSound, KeepsCurrent};
-ghost use Rattle.desk_model.specs.Links.{AreOfKind, is_lazy_at, reaches, serves_as};
-ghost use Rattle.desk_model.specs.Effect.{start, made, quote_set, relinked, member_set, today_set, dropped};
-ghost use Rattle.desk_terms.specs.declared.kind.Kind.TheVariants.{Quote, Composite};
-ghost use Rattle.desk_terms.specs.declared.kind.Wanted.TheVariants.{Member};
+ghost use Rattle.desk_model.specs.Links.{AreOfKind, Serve, is_lazy_at, reaches, serves_as};
+ghost use Rattle.desk_model.specs.Effect.{start, made, quote_set, relinked, engine_set, member_set, fixing_added, today_set, dropped};
+ghost use Rattle.desk_terms.specs.declared.kind.Kind.TheVariants.{Quote, Index, Composite, Flows};
+ghost use Rattle.desk_terms.specs.declared.kind.Wanted.TheVariants.{Member, Engine};
+ghost use Rattle.desk_terms.specs.Terms.{optional_reference};
+ghost use Rattle.flow_terms.specs.Fixings.{IsRate, fixing_on};
+ghost use Rattle.flow_terms.specs.declared.fixings.FixFault.TheVariants.{Exists};
 ghost use Rattle.desk_terms.specs.declared.terms.HandleKind.{HandleKind};
 ghost use Rattle.desk_terms.specs.declared.terms.Terms.TheVariants.{Handle};
 ghost use Rattle.desk_model.specs.Laws.{MayLink};
@@ -17,16 +20,18 @@ ghost use Rattle.lazy_objects.specs.Slots.{is_handle};
 ghost use Rattle.lazy_objects.specs.Asks.{Asks, Stops};
 
 use crate::asking::ask;
-use crate::changes::{has_value, revise, tell_today};
-use crate::edges::{role_of, watched};
+use crate::changes::{revise, tell_changed, tell_today};
+use crate::edges::watched;
+use crate::engines::{engine_of, watch_instead};
 use crate::links::{link_of, unwatch_any, watch_any};
+use crate::objects::Objects;
 use crate::scratch::Scratch;
 use crate::store::Store;
+use crate::uses::index_of;
 use crate::weights::{has_weight, parts_of, rewatch, with_member};
 use day_number::Day;
-use desk_model::Slot;
 use desk_names::ObjId;
-use desk_terms::{Asked, Bench, Kind, Terms, Value};
+use desk_terms::{Asked, Bench, FixFault, Kind, Terms, Value};
 use fixed_amount::Rate;
 use observer_graph::Role;
 use std::alloc::{AllocError, Global};
@@ -38,7 +43,7 @@ use std::marker::Model;
 pub struct Desk {
     alloc: Global,
     today: Day,
-    slots: Vec<Slot>,
+    objects: Objects,
     store: Store,
     scratch: Scratch,
 }
@@ -51,9 +56,9 @@ impl Model for Desk {
 
     ghost Value = { State };
 
-    ghost view = { λ d. state_of d.today d.slots.items d.store.kept };
+    ghost view = { λ d. state_of d.today d.objects d.store.kept };
 
-    ghost invariant = { λ d. Stands (state_of d.today d.slots.items d.store.kept) d.scratch × IsJoined (market_of d.today d.slots.items) d.store.shape };
+    ghost invariant = { λ d. Stands (state_of d.today d.objects d.store.kept) d.scratch × IsJoined (market_of d.today d.objects) d.store.shape };
 }
 
 impl Desk {
@@ -62,8 +67,7 @@ impl Desk {
         ensures start { IfOk result (λ desk. desk ≡ start today) }
         ensures sound { IfOk result (λ desk. (calc : Calc) → IsSound calc desk) }
     {
-        let mut slots: Vec<Slot> = Vec::new(alloc);
-        slots.push(Slot::Today)?;
+        let objects = Objects::new(alloc)?;
         let mut store = Store::new(alloc);
         store.add(Role::Source, &[])?;
         let mut scratch = Scratch::new(alloc);
@@ -72,7 +76,7 @@ impl Desk {
         Ok(Desk {
             alloc,
             today,
-            slots,
+            objects,
             store,
             scratch,
         })
@@ -91,12 +95,10 @@ impl Desk {
         ensures keeps { KeepsCurrent self.old self.new }
         ensures sound { (calc : Calc) → IsSound calc self.old → IsSound calc self.new }
     {
-        let object = ObjId(self.slots.len() as u32);
+        let object = ObjId(self.objects.len() as u32);
         let watched = watched(self.alloc, &terms)?;
-        self.slots.reserve(1)?;
         self.scratch.reserve()?;
-        self.store.add(role_of(&terms), &watched)?;
-        self.slots.push_reserved(Slot::Live(terms));
+        self.objects.add(terms, &mut self.store, &watched)?;
         self.scratch.grow();
         Ok(object)
     }
@@ -108,16 +110,9 @@ impl Desk {
         ensures keeps { KeepsCurrent self.old self.new }
         ensures sound { (calc : Calc) → IsSound calc self.old → IsSound calc self.new }
     {
-        if has_value(&self.slots, quote, &value) {
-            return;
+        if self.objects.set(quote, value) {
+            tell_changed(self.today, &self.objects, &mut self.store, quote);
         }
-        revise(
-            self.today,
-            &mut self.slots,
-            &mut self.store,
-            quote,
-            Terms::Quote(value),
-        );
     }
 
     /// A handle stands for another target, or for none (QuantLib's `RelinkableHandle::linkTo`). The target is live, is what
@@ -132,7 +127,7 @@ impl Desk {
         ensures keeps { KeepsCurrent self.old self.new }
         ensures sound { (calc : Calc) → IsSound calc self.old → IsSound calc self.new }
     {
-        let link = link_of(&self.slots, handle);
+        let link = link_of(&self.objects, handle);
         if link.target == target {
             return Ok(());
         }
@@ -140,7 +135,7 @@ impl Desk {
         unwatch_any(&mut self.store, link.target, handle);
         revise(
             self.today,
-            &mut self.slots,
+            &mut self.objects,
             &mut self.store,
             handle,
             Terms::Handle {
@@ -148,6 +143,40 @@ impl Desk {
                 target,
             },
         );
+        Ok(())
+    }
+
+    /// An instrument is priced by another engine, or by none (QuantLib's `Instrument::setPricingEngine`). It is not current
+    /// and its observers are told, also where the engine is the one held. Where memory is wanting, nothing is changed.
+    pub fn set_engine(&mut self, instrument: ObjId, engine: Option<ObjId>) -> Result<(), AllocError>
+        requires instrument { kind_at self.old.market instrument ≡ Some Flows }
+        requires engine { Serve self.old.market (optional_reference Engine engine) }
+        ensures set { OnOk result (self.new ≡ engine_set instrument engine self.old) }
+        ensures same { OnErr result (self.new ≡ self.old) }
+        ensures keeps { KeepsCurrent self.old self.new }
+        ensures sound { (calc : Calc) → IsSound calc self.old → IsSound calc self.new }
+    {
+        let held = engine_of(&self.objects, instrument);
+        watch_instead(&mut self.store, &held, &engine, instrument)?;
+        self.objects.set_engine(instrument, engine);
+        tell_changed(self.today, &self.objects, &mut self.store, instrument);
+        Ok(())
+    }
+
+    /// Stores the rate of an index for a day that has none, and tells its observers (QuantLib's `Index::addFixing`). The
+    /// rate is at most 10 either way. Where the day has a rate, the refusal names it, and where memory is wanting or the
+    /// day has a rate nothing is changed.
+    pub fn add_fixing(&mut self, index: ObjId, day: Day, rate: Rate) -> Result<(), FixFault>
+        requires index { kind_at self.old.market index ≡ Some Index }
+        requires rate { IsRate rate }
+        ensures exists { (kept : ℤ) → (result ≡ Err (Exists kept)) ↔ (fixing_on (fixings_in (index_at self.old.market (Some index))) day ≡ Some kept) }
+        ensures added { OnOk result (self.new ≡ fixing_added index day rate self.old) }
+        ensures same { OnErr result (self.new ≡ self.old) }
+        ensures keeps { KeepsCurrent self.old self.new }
+        ensures sound { (calc : Calc) → IsSound calc self.old → IsSound calc self.new }
+    {
+        self.objects.store_fixing(index, day, rate)?;
+        tell_changed(self.today, &self.objects, &mut self.store, index);
         Ok(())
     }
 
@@ -161,7 +190,7 @@ impl Desk {
             return;
         }
         self.today = day;
-        tell_today(day, &self.slots, &mut self.store);
+        tell_today(day, &self.objects, &mut self.store);
     }
 
     /// Gives an instrument a weight in a composite: one that is no member joins at the end, a member keeps its place,
@@ -181,7 +210,7 @@ impl Desk {
         ensures keeps { KeepsCurrent self.old self.new }
         ensures sound { (calc : Calc) → IsSound calc self.old → IsSound calc self.new }
     {
-        let parts = parts_of(&self.slots, composite);
+        let parts = parts_of(&self.objects, composite);
         if has_weight(parts, member, weight) {
             return Ok(());
         }
@@ -189,7 +218,7 @@ impl Desk {
         rewatch(&mut self.store, parts, composite, member, weight)?;
         revise(
             self.today,
-            &mut self.slots,
+            &mut self.objects,
             &mut self.store,
             composite,
             Terms::Composite(changed),
@@ -206,7 +235,7 @@ impl Desk {
         ensures keeps { KeepsCurrent self.old self.new }
         ensures sound { (calc : Calc) → IsSound calc self.old → IsSound calc self.new }
     {
-        self.slots[object.place()] = Slot::Free;
+        self.objects.remove(object);
         self.store.forget(object);
     }
 
@@ -225,7 +254,7 @@ impl Desk {
         ask(
             self.alloc,
             self.today,
-            &self.slots,
+            &self.objects,
             &mut self.store,
             &mut self.scratch,
             object,
@@ -264,27 +293,27 @@ impl Desk {
         self.store.last(object)
     }
 
+    /// The rate that an index has stored for a day; none where it has none, and where the object is no index.
+    pub fn fixing(&self, index: ObjId, day: Day) -> Option<Rate>
+        ensures { result ≡ fixing_on (fixings_in (index_at self.now.market (Some index))) day }
+    {
+        match index_of(&self.objects, index) {
+            Some(index) => index.fixings.get(day),
+            None => None,
+        }
+    }
+
     /// How many numbers were given, that of `today` among them.
     pub fn len(&self) -> usize
         ensures { result ≡ length self.now.market.objects }
     {
-        self.slots.len()
+        self.objects.len()
     }
 
     /// What an object is; none where no live object has the number.
     pub fn kind(&self, object: ObjId) -> Option<Kind>
         ensures { result ≡ kind_at self.now.market object }
     {
-        kind_of(&self.slots, object)
-    }
-}
-
-// What an object is.
-fn kind_of(slots: &[Slot], object: ObjId) -> Option<Kind>
-    ensures { result ≡ kind_in (slice_index_or slots.now object Free) }
-{
-    match slots.get(object.place()) {
-        Some(slot) => slot.kind(),
-        None => None,
+        self.objects.kind(object)
     }
 }

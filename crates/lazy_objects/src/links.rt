@@ -8,9 +8,8 @@ ghost use Rattle.lazy_objects.specs.Slots.{is_handle};
 ghost use Rattle.lazy_objects.specs.Shape.{role_at, observed_by};
 ghost use Rattle.lazy_objects.specs.Store.{JoinsAny, LeavesAny};
 
-use crate::reader::terms_of;
+use crate::objects::Objects;
 use crate::store::Store;
-use desk_model::Slot;
 use desk_names::ObjId;
 use desk_terms::{HandleKind, Terms};
 use std::alloc::AllocError;
@@ -23,30 +22,27 @@ pub struct Link {
 }
 
 /// What a handle stands for now.
-pub fn link_of(slots: &[Slot], handle: ObjId) -> Link
-    requires { is_handle (terms_in (slice_index_or slots.now handle Free)) ≡ true }
-    ensures { terms_in (slice_index_or slots.now handle Free) ≡ Some (Handle result.kind result.target) }
+pub fn link_of(objects: &Objects, handle: ObjId) -> Link
+    requires { is_handle (terms_in (slice_index_or objects.now handle Free)) ≡ true }
+    ensures { terms_in (slice_index_or objects.now handle Free) ≡ Some (Handle result.kind result.target) }
 {
-    match terms_of(slots, handle) {
-        None => unreachable!(),
-        Some(terms) => match terms {
-            Terms::Handle {
-                target_kind,
-                target,
-            } => Link {
-                kind: *target_kind,
-                target: *target,
-            },
-            Terms::Quote(_)
-            | Terms::Derived { .. }
-            | Terms::Curve(_)
-            | Terms::Implied { .. }
-            | Terms::Index(..)
-            | Terms::Engine { .. }
-            | Terms::Stock { .. }
-            | Terms::Composite(_)
-            | Terms::Flows(..) => unreachable!(),
+    match objects.own_terms(handle) {
+        Terms::Handle {
+            target_kind,
+            target,
+        } => Link {
+            kind: *target_kind,
+            target: *target,
         },
+        Terms::Quote(_)
+        | Terms::Derived { .. }
+        | Terms::Curve(_)
+        | Terms::Implied { .. }
+        | Terms::Index(..)
+        | Terms::Engine { .. }
+        | Terms::Stock { .. }
+        | Terms::Composite(_)
+        | Terms::Flows(..) => unreachable!(),
     }
 }
 

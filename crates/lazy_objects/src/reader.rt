@@ -1,17 +1,18 @@
 // What objects give where others name them, by an explicit stack: each is worked out at most once in an ask.
 ghost use Rattle.std.specs.Prelude.{◌≡◌, ◌<◌, length, None, Some, IfOk, slice_index_or};
-ghost use Rattle.std.specs.Option.{option_copied};
 ghost use Rattle.desk_model.specs.Market.{terms_in};
 ghost use Rattle.desk_model.specs.declared.slot.Slot.TheVariants.{Free};
 ghost use Rattle.desk_model.specs.Uses.{input_at, derived_entry, rate_entry};
 ghost use Rattle.desk_model.specs.Links.{IsLinked};
 ghost use Rattle.std.specs.Prelude.{ℤ, ◌-ℤ◌, ◌+ℤ◌, if◌then◌else◌};
 ghost use Rattle.lazy_objects.specs.Slots.{market_of};
-ghost use Rattle.lazy_objects.specs.Reads.{recalled, Remembers, given_by, and_sum, and_is};
+ghost use Rattle.lazy_objects.specs.Objects.{quoted};
+ghost use Rattle.lazy_objects.specs.Reads.{recalled, Remembers, given_by, quote_entry, and_sum, and_is};
 
+use crate::objects::Objects;
 use crate::scratch::Scratch;
 use day_number::Day;
-use desk_model::{Entry, Slot};
+use desk_model::Entry;
 use desk_names::ObjId;
 use desk_terms::{Cause, Terms};
 use fixed_amount::Rate;
@@ -30,15 +31,15 @@ pub enum Look {
 pub fn read(
     alloc: Global,
     today: Day,
-    slots: &[Slot],
+    objects: &Objects,
     scratch: &mut Scratch,
     object: ObjId,
 ) -> Result<Entry, AllocError>
-    requires linked { IsLinked (market_of today slots.now) }
-    requires within { object < length slots.now }
-    requires remembers { Remembers (market_of today slots.now) scratch.old.entries }
-    ensures entry { IfOk result (λ entry. entry ≡ input_at (market_of today slots.now) object) }
-    ensures remembers { Remembers (market_of today slots.now) scratch.new.entries }
+    requires linked { IsLinked (market_of today objects.now) }
+    requires within { object < length objects.now }
+    requires remembers { Remembers (market_of today objects.now) scratch.old.entries }
+    ensures entry { IfOk result (λ entry. entry ≡ input_at (market_of today objects.now) object) }
+    ensures remembers { Remembers (market_of today objects.now) scratch.new.entries }
     ensures positions { scratch.new.positions ≡ scratch.old.positions }
 {
     match scratch.entry(object) {
@@ -48,7 +49,7 @@ pub fn read(
     let mut stack: Vec<ObjId> = Vec::new(alloc);
     stack.push(object)?;
     while let Some(top) = stack.pop() {
-        match look_at(slots, scratch, top) {
+        match look_at(objects, scratch, top) {
             Look::First(needed) => {
                 stack.push(top)?;
                 stack.push(needed)?;
@@ -62,47 +63,44 @@ pub fn read(
     }
 }
 
-/// The terms of an object, if it has any.
-pub fn terms_of(slots: &[Slot], object: ObjId) -> Option<&Terms>
-    ensures { option_copied result ≡ terms_in (slice_index_or slots.now object Free) }
-{
-    match slots.get(object.place()) {
-        Some(slot) => terms_in(slot),
-        None => None,
-    }
-}
-
-// The terms that stand at a number.
-fn terms_in(slot: &Slot) -> Option<&Terms>
-    ensures { option_copied result ≡ terms_in slot.now }
-{
-    match slot {
-        Slot::Free => None,
-        Slot::Today => None,
-        Slot::Watcher(_) => None,
-        Slot::Live(terms) => Some(terms),
-    }
-}
-
 // What an object gives over what is remembered, or the first object that has to be read before.
-fn look_at(slots: &[Slot], scratch: &Scratch, object: ObjId) -> Look
-    ensures { result ≡ given_by (recalled scratch.now.entries) object (terms_in (slice_index_or slots.now object Free)) }
+fn look_at(objects: &Objects, scratch: &Scratch, object: ObjId) -> Look
+    ensures { result ≡ given_by (recalled scratch.now.entries) object (terms_in (slice_index_or objects.now object Free)) }
 {
-    match terms_of(slots, object) {
+    match objects.terms(object) {
         None => Look::Is(Entry::Refuses(Cause::Unset(object))),
-        Some(terms) => given_by(scratch, object, terms),
+        Some(terms) => match terms {
+            Terms::Quote(_) => Look::Is(quoted(object, objects.value(object))),
+            Terms::Derived { .. }
+            | Terms::Handle { .. }
+            | Terms::Index(..)
+            | Terms::Engine { .. }
+            | Terms::Curve(_)
+            | Terms::Implied { .. }
+            | Terms::Stock { .. }
+            | Terms::Composite(_)
+            | Terms::Flows(..) => given_by(scratch, object, terms),
+        },
     }
 }
 
-// What an object with these terms gives.
+// What a quote with this value gives.
+fn quoted(object: ObjId, value: Option<Rate>) -> Entry
+    ensures { result ≡ quote_entry object value }
+{
+    match value {
+        None => Entry::Refuses(Cause::Unset(object)),
+        Some(rate) => Entry::Gives(rate),
+    }
+}
+
+// What an object that is no quote gives, with these terms.
 fn given_by(scratch: &Scratch, object: ObjId, terms: &Terms) -> Look
+    requires { quoted terms.now ≡ None }
     ensures { result ≡ given_by (recalled scratch.now.entries) object (Some terms.now) }
 {
     match terms {
-        Terms::Quote(value) => match value {
-            None => Look::Is(Entry::Refuses(Cause::Unset(object))),
-            Some(rate) => Look::Is(Entry::Gives(*rate)),
-        },
+        Terms::Quote(_) => unreachable!(),
         Terms::Derived {
             minus,
             first,

@@ -1,5 +1,5 @@
 // What an ask does next at an object.
-ghost use Rattle.std.specs.Prelude.{◌≡◌, true, ◌<◌, ◌≤◌, take, [], ◌∷◌, length, Some, None, Ok, Err, IfOk, slice_index_or};
+ghost use Rattle.std.specs.Prelude.{◌≡◌, true, ◌<◌, ◌≤◌, take, length, Some, None, Ok, Err, IfOk, slice_index_or};
 ghost use Rattle.desk_terms.specs.declared.value.Value.{Value};
 ghost use Rattle.desk_model.specs.Uses.{member_entries, uses};
 ghost use Rattle.desk_model.specs.Fresh.{input_of};
@@ -9,13 +9,14 @@ ghost use Rattle.lazy_objects.specs.Reads.{Remembers};
 ghost use Rattle.lazy_objects.specs.Begun.{AreSettled, Begun};
 ghost use Rattle.lazy_objects.specs.Slots.{market_of, is_now, answer_of, answered, answered_of};
 
-use crate::reader::{read, terms_of};
+use crate::objects::Objects;
+use crate::reader::read;
 use crate::scratch::Scratch;
 use crate::store::Store;
 use crate::uses::{flow_entries, helper_entries};
 use curve_points::copy_curve;
 use day_number::Day;
-use desk_model::{Entry, Next, Slot};
+use desk_model::{Entry, Next};
 use desk_names::ObjId;
 use desk_terms::{Cause, Input, InputList, Part, Terms, Value};
 use std::alloc::{AllocError, Global};
@@ -88,23 +89,6 @@ fn all_members(alloc: Global, store: &Store, parts: &[Part]) -> Result<Next, All
     Ok(Next::Ready(inputs))
 }
 
-// What an ask does next where a price takes one entry.
-fn next_entry(alloc: Global, store: &Store, entry: Entry) -> Result<Next, AllocError>
-    ensures { IfOk result (λ next. next ≡ next_of (is_now store.now.kept) (answer_of store.now.kept) (entry ∷ [])) }
-{
-    let mut inputs = InputList::new(alloc);
-    match entry {
-        Entry::Gives(rate) => inputs.push(Input::Rate(rate))?,
-        Entry::Refuses(cause) => return Ok(Next::Stops(cause)),
-        Entry::Needs(object) => match answer(store, object) {
-            Some(Ok(value)) => inputs.push(as_input(alloc, value)?)?,
-            Some(Err(cause)) => return Ok(Next::Stops(cause)),
-            None => return Ok(Next::First(object)),
-        },
-    }
-    Ok(Next::Ready(inputs))
-}
-
 // What an ask does next where a price takes these entries.
 fn next_entries(alloc: Global, store: &Store, entries: &[Entry]) -> Result<Next, AllocError>
     ensures { IfOk result (λ next. next ≡ next_of (is_now store.now.kept) (answer_of store.now.kept) entries.now) }
@@ -130,51 +114,48 @@ fn next_entries(alloc: Global, store: &Store, entries: &[Entry]) -> Result<Next,
 pub fn next(
     alloc: Global,
     today: Day,
-    slots: &[Slot],
+    objects: &Objects,
     store: &Store,
     scratch: &mut Scratch,
     object: ObjId,
 ) -> Result<Next, AllocError>
-    requires lazy { is_lazy_at (market_of today slots.now) object ≡ true }
-    requires kinds { IsKinded (market_of today slots.now) }
-    requires linked { IsLinked (market_of today slots.now) }
-    requires remembers { Remembers (market_of today slots.now) scratch.old.entries }
-    requires begun { Begun slots.now store.now.kept scratch.old.positions }
-    ensures remembers { Remembers (market_of today slots.now) scratch.new.entries }
-    ensures begun { Begun slots.now store.now.kept scratch.new.positions }
-    ensures next { IfOk result (λ next. next ≡ next_of (is_now store.now.kept) (answer_of store.now.kept) (uses (market_of today slots.now) object)) }
+    requires lazy { is_lazy_at (market_of today objects.now) object ≡ true }
+    requires kinds { IsKinded (market_of today objects.now) }
+    requires linked { IsLinked (market_of today objects.now) }
+    requires remembers { Remembers (market_of today objects.now) scratch.old.entries }
+    requires begun { Begun objects.now store.now.kept scratch.old.positions }
+    ensures remembers { Remembers (market_of today objects.now) scratch.new.entries }
+    ensures begun { Begun objects.now store.now.kept scratch.new.positions }
+    ensures next { IfOk result (λ next. next ≡ next_of (is_now store.now.kept) (answer_of store.now.kept) (uses (market_of today objects.now) object)) }
 {
-    match terms_of(slots, object) {
-        None => unreachable!(),
-        Some(terms) => match terms {
-            Terms::Stock { quote } => {
-                let entry = read(alloc, today, slots, scratch, *quote)?;
-                next_entry(alloc, store, entry)
-            }
-            Terms::Composite(parts) => {
-                let mut at = scratch.position(object);
-                let next = next_member(alloc, store, parts.items(), &mut at)?;
-                scratch.advance(object, at)?;
-                Ok(next)
-            }
-            Terms::Implied { curve, .. } => {
-                let entry = read(alloc, today, slots, scratch, *curve)?;
-                next_entry(alloc, store, entry)
-            }
-            Terms::Curve(curve) => {
-                let helpers = curve.helpers.items();
-                let entries = helper_entries(alloc, today, slots, scratch, helpers)?;
-                next_entries(alloc, store, &entries)
-            }
-            Terms::Flows(flows, engine) => {
-                let entries = flow_entries(alloc, today, slots, scratch, object, flows, *engine)?;
-                next_entries(alloc, store, &entries)
-            }
-            Terms::Quote(_)
-            | Terms::Derived { .. }
-            | Terms::Handle { .. }
-            | Terms::Index(..)
-            | Terms::Engine { .. } => unreachable!(),
-        },
+    match objects.own_terms(object) {
+        Terms::Stock { quote } => {
+            let entry = read(alloc, today, objects, scratch, *quote)?;
+            next_entries(alloc, store, &[entry])
+        }
+        Terms::Composite(parts) => {
+            let mut at = scratch.position(object);
+            let next = next_member(alloc, store, parts.items(), &mut at)?;
+            scratch.advance(object, at)?;
+            Ok(next)
+        }
+        Terms::Implied { curve, .. } => {
+            let entry = read(alloc, today, objects, scratch, *curve)?;
+            next_entries(alloc, store, &[entry])
+        }
+        Terms::Curve(curve) => {
+            let helpers = curve.helpers.items();
+            let entries = helper_entries(alloc, today, objects, scratch, helpers)?;
+            next_entries(alloc, store, &entries)
+        }
+        Terms::Flows(flows, engine) => {
+            let entries = flow_entries(alloc, today, objects, scratch, object, flows, *engine)?;
+            next_entries(alloc, store, &entries)
+        }
+        Terms::Quote(_)
+        | Terms::Derived { .. }
+        | Terms::Handle { .. }
+        | Terms::Index(..)
+        | Terms::Engine { .. } => unreachable!(),
     }
 }

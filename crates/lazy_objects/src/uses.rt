@@ -12,10 +12,11 @@ ghost use Rattle.desk_model.specs.Uses.{input_at, helper_entries, index_in, inde
 ghost use Rattle.lazy_objects.specs.Slots.{market_of};
 ghost use Rattle.lazy_objects.specs.Reads.{Remembers, forecast_index};
 
-use crate::reader::{read, terms_of};
+use crate::objects::Objects;
+use crate::reader::read;
 use crate::scratch::Scratch;
 use day_number::Day;
-use desk_model::{Entry, Slot};
+use desk_model::Entry;
 use desk_names::ObjId;
 use desk_terms::{Cause, FlowTerms, Helper, IndexUse, Terms, expired, needs_forecast};
 use std::alloc::{AllocError, Global};
@@ -24,21 +25,21 @@ use std::alloc::{AllocError, Global};
 pub fn helper_entries(
     alloc: Global,
     today: Day,
-    slots: &[Slot],
+    objects: &Objects,
     scratch: &mut Scratch,
     helpers: &[Helper],
 ) -> Result<Vec<Entry>, AllocError>
-    requires linked { IsLinked (market_of today slots.now) }
-    requires within { (x : ℕ) → Among x (named (helper_references helpers.now)) → x < length slots.now }
-    requires remembers { Remembers (market_of today slots.now) scratch.old.entries }
-    ensures entries { IfOk result (λ entries. entries.items ≡ helper_entries (input_at (market_of today slots.now)) helpers.now) }
-    ensures remembers { Remembers (market_of today slots.now) scratch.new.entries }
+    requires linked { IsLinked (market_of today objects.now) }
+    requires within { (x : ℕ) → Among x (named (helper_references helpers.now)) → x < length objects.now }
+    requires remembers { Remembers (market_of today objects.now) scratch.old.entries }
+    ensures entries { IfOk result (λ entries. entries.items ≡ helper_entries (input_at (market_of today objects.now)) helpers.now) }
+    ensures remembers { Remembers (market_of today objects.now) scratch.new.entries }
     ensures positions { scratch.new.positions ≡ scratch.old.positions }
 {
     let _cause: Option<Cause> = None;
     let mut entries: Vec<Entry> = Vec::new(alloc);
     for at in 0..helpers.len() {
-        let entry = read(alloc, today, slots, scratch, helpers[at].quote)?;
+        let entry = read(alloc, today, objects, scratch, helpers[at].quote)?;
         entries.push(entry)?;
     }
     Ok(entries)
@@ -49,18 +50,18 @@ pub fn helper_entries(
 pub fn flow_entries(
     alloc: Global,
     today: Day,
-    slots: &[Slot],
+    objects: &Objects,
     scratch: &mut Scratch,
     object: ObjId,
     flows: &FlowTerms,
     engine: Option<ObjId>,
 ) -> Result<Vec<Entry>, AllocError>
-    requires terms { terms_at (market_of today slots.now) object ≡ Some (Flows flows.now engine) }
-    requires linked { IsLinked (market_of today slots.now) }
-    requires kinds { AreOfKind (market_of today slots.now) (Some (Flows flows.now engine)) }
-    requires remembers { Remembers (market_of today slots.now) scratch.old.entries }
-    ensures entries { IfOk result (λ entries. entries.items ≡ uses (market_of today slots.now) object) }
-    ensures remembers { Remembers (market_of today slots.now) scratch.new.entries }
+    requires terms { terms_at (market_of today objects.now) object ≡ Some (Flows flows.now engine) }
+    requires linked { IsLinked (market_of today objects.now) }
+    requires kinds { AreOfKind (market_of today objects.now) (Some (Flows flows.now engine)) }
+    requires remembers { Remembers (market_of today objects.now) scratch.old.entries }
+    ensures entries { IfOk result (λ entries. entries.items ≡ uses (market_of today objects.now) object) }
+    ensures remembers { Remembers (market_of today objects.now) scratch.new.entries }
     ensures positions { scratch.new.positions ≡ scratch.old.positions }
 {
     let mut entries: Vec<Entry> = Vec::new(alloc);
@@ -70,10 +71,10 @@ pub fn flow_entries(
     match engine {
         None => entries.push(Entry::Refuses(Cause::NoEngine(object)))?,
         Some(engine) => {
-            let discount = read(alloc, today, slots, scratch, engine)?;
+            let discount = read(alloc, today, objects, scratch, engine)?;
             entries.push(discount)?;
-            if let Some(index) = forecast_index(today, slots, flows) {
-                let forecast = read(alloc, today, slots, scratch, index)?;
+            if let Some(index) = forecast_index(today, objects, flows) {
+                let forecast = read(alloc, today, objects, scratch, index)?;
                 entries.push(forecast)?;
             }
         }
@@ -82,13 +83,13 @@ pub fn flow_entries(
 }
 
 // The index of flows, where a rate has to be forecast.
-fn forecast_index(today: Day, slots: &[Slot], flows: &FlowTerms) -> Option<ObjId>
-    requires { Serve (market_of today slots.now) (optional_reference Index flows.now.index) }
-    ensures { result ≡ forecast_index (market_of today slots.now) flows.now flows.now.index }
+fn forecast_index(today: Day, objects: &Objects, flows: &FlowTerms) -> Option<ObjId>
+    requires { Serve (market_of today objects.now) (optional_reference Index flows.now.index) }
+    ensures { result ≡ forecast_index (market_of today objects.now) flows.now flows.now.index }
 {
     match flows.index {
         None => None,
-        Some(index) => match index_of(slots, index) {
+        Some(index) => match index_of(objects, index) {
             None => unreachable!(),
             Some(used) => {
                 if needs_forecast(flows, used.fixings, today) {
@@ -102,13 +103,13 @@ fn forecast_index(today: Day, slots: &[Slot], flows: &FlowTerms) -> Option<ObjId
 }
 
 /// The index that terms name, as their price sees it.
-pub fn index_named<'a>(today: Day, slots: &'a [Slot], terms: &Terms) -> Option<IndexUse<'a>>
-    ensures { index_reading result ≡ index_at (market_of today slots.now) (named_index terms.now) }
+pub fn index_named<'a>(today: Day, objects: &'a Objects, terms: &Terms) -> Option<IndexUse<'a>>
+    ensures { index_reading result ≡ index_at (market_of today objects.now) (named_index terms.now) }
 {
     match terms {
         Terms::Flows(flows, _) => match flows.index {
             None => None,
-            Some(index) => index_of(slots, index),
+            Some(index) => index_of(objects, index),
         },
         Terms::Quote(_)
         | Terms::Derived { .. }
@@ -122,11 +123,11 @@ pub fn index_named<'a>(today: Day, slots: &'a [Slot], terms: &Terms) -> Option<I
     }
 }
 
-// An index, as a price sees it.
-fn index_of(slots: &[Slot], object: ObjId) -> Option<IndexUse<'_>>
-    ensures { index_reading result ≡ index_in object (terms_in (slice_index_or slots.now object Free)) }
+/// An index, as a price sees it; none where another object stands.
+pub fn index_of(objects: &Objects, object: ObjId) -> Option<IndexUse<'_>>
+    ensures { index_reading result ≡ index_in object (terms_in (slice_index_or objects.now object Free)) }
 {
-    match terms_of(slots, object) {
+    match objects.terms(object) {
         None => None,
         Some(terms) => index_held(object, terms),
     }

@@ -10,18 +10,17 @@ ghost use Rattle.desk_model.specs.Held.{changeable, weight_of, has_member, witho
 ghost use Rattle.desk_model.specs.declared.slot.Slot.TheVariants.{Free};
 ghost use Rattle.lazy_objects.specs.Parts.{parts_in, parts_held};
 
-use crate::reader::terms_of;
+use crate::objects::Objects;
 use crate::store::Store;
-use desk_model::Slot;
 use desk_names::ObjId;
 use desk_terms::{Part, PartList, Terms};
 use std::alloc::{AllocError, Global};
 
 /// The parts of a composite; none where something else stands.
-pub fn parts_of(slots: &[Slot], composite: ObjId) -> &[Part]
-    ensures { result.now ≡ parts_in (slice_index_or slots.now composite Free) }
+pub fn parts_of(objects: &Objects, composite: ObjId) -> &[Part]
+    ensures { result.now ≡ parts_in (slice_index_or objects.now composite Free) }
 {
-    match terms_of(slots, composite) {
+    match objects.terms(composite) {
         Some(terms) => parts_held(terms),
         None => &[],
     }

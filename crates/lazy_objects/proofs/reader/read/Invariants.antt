@@ -4,7 +4,7 @@ use Rattle.lazy_objects.proofs.Remembered.{Works, unread_of}
 use Rattle.lazy_objects.proofs.reader.read.Given as goal
 
 abbrev pub invariant-loop-top : goal.invariant-loop-top
-invariant-loop-top l = Works (market_of l.fn.today l.slots) l.fn.object l.stack.items l.scratch.entries × (l.scratch.positions ≡ l.initial.scratch.positions)
+invariant-loop-top l = Works (market_of l.fn.today l.objects) l.fn.object l.stack.items l.scratch.entries × (l.scratch.positions ≡ l.initial.scratch.positions)
 
 abbrev pub decreases-loop-top : goal.decreases-loop-top
-decreases-loop-top l = unread_of l.scratch.entries * (length l.slots + 3) + (length l.slots + 2 - length l.stack.items)
+decreases-loop-top l = unread_of l.scratch.entries * (length l.objects + 3) + (length l.objects + 2 - length l.stack.items)

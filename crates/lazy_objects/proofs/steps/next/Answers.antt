@@ -8,9 +8,9 @@ use Rattle.lazy_objects.proofs.Inputs.{stock_within, helpers_within}
 use Rattle.lazy_objects.proofs.steps.next.Goals as goal
 
 pub read-requires-clause-within : goal.read-requires-clause-within
-read-requires-clause-within c = stock_within (market_of c.args.today c.args.slots.now) c.args.object c.in-Stock.quote c.in-Some.terms.now c.requires.linked c.in-Some.ensures c.in-Stock.is
+read-requires-clause-within c = stock_within (market_of c.args.today c.args.objects.now) c.args.object c.in-Stock.quote c.own_terms.result.now c.requires.linked (sym c.own_terms.ensures) c.in-Stock.is
 
 pub helper_entries-requires-clause-within : goal.helper_entries-requires-clause-within
 helper_entries-requires-clause-within c =
-    subst (λ (l : List Helper). (x : ℕ) → Among x (named (helper_references l)) → x < length c.args.slots.now) (sym c.items-helpers.ensures)
-    (helpers_within (market_of c.args.today c.args.slots.now) c.args.object c.in-Curve.curve c.in-Some.terms.now c.requires.linked c.in-Some.ensures c.in-Curve.is)
+    subst (λ (l : List Helper). (x : ℕ) → Among x (named (helper_references l)) → x < length c.args.objects.now) (sym c.items-helpers.ensures)
+    (helpers_within (market_of c.args.today c.args.objects.now) c.args.object c.in-Curve.curve c.own_terms.result.now c.requires.linked (sym c.own_terms.ensures) c.in-Curve.is)

@@ -5,6 +5,6 @@ use Rattle.lazy_objects.specs.Reads.{Remembers}
 use Rattle.lazy_objects.proofs.uses.helper_entries.Given as goal
 
 abbrev pub invariant-loop-at : goal.invariant-loop-at
-invariant-loop-at l = (l.entries.items ++ helper_entries (input_at (market_of l.today l.slots)) (drop l.at l.helpers) ≡ helper_entries (input_at (market_of l.today l.slots)) l.helpers)
-    × Remembers (market_of l.today l.slots) l.scratch.entries
+invariant-loop-at l = (l.entries.items ++ helper_entries (input_at (market_of l.today l.objects)) (drop l.at l.helpers) ≡ helper_entries (input_at (market_of l.today l.objects)) l.helpers)
+    × Remembers (market_of l.today l.objects) l.scratch.entries
     × (l.scratch.positions ≡ l.initial.scratch.positions)

@@ -2,7 +2,6 @@ use Rattle.std.proofs.Common.{ℕ, List, [], ◌∷◌, ◌++◌, Option, None, 
 use Rattle.desk_model.specs.declared.kept.Kept.{Kept}
 use Rattle.desk_model.specs.declared.entry.Entry.{Entry}
 use Rattle.desk_model.specs.declared.slot.Slot.{Slot}
-use Rattle.desk_model.specs.declared.slot.Slot.TheVariants.{Today}
 use Rattle.desk_model.specs.State.{State, unpriced}
 use Rattle.desk_model.specs.Sound.{IsSound}
 use Rattle.desk_model.proofs.Starts.{sound_start}
@@ -15,11 +14,11 @@ use Rattle.lazy_objects.proofs.desk.Desk.new.Goals as goal
 
 pub invariant_of-result : goal.invariant_of-result
 invariant_of-result c =
-    let slots = c.in_ok-push.ensures.items ∙ ap (λ (l : List Slot). l ++ Today ∷ []) c.new-slots.ensures.items in
+    let slots = c.in_ok-objects.ensures in
     let kept = c.in_ok-add.ensures.added.kept ∙ ap (λ (l : List Kept). l ++ unpriced ∷ []) c.new-store.ensures.kept in
     let entries = c.grow.ensures.entries ∙ ap (λ (l : List (Option Entry)). l ++ None ∷ []) c.in_ok-reserve.ensures.entries in
     let positions = c.grow.ensures.positions ∙ ap (λ (l : List ℕ). l ++ 0 ∷ []) c.in_ok-reserve.ensures.positions in (
-      subst (λ (t : State). Stands t c.grow.new.self) (sym (start_state c.args.today c.push.new.self.items c.add.new.self.kept slots kept))
+      subst (λ (t : State). Stands t c.grow.new.self) (sym (start_state c.args.today c.in_ok-objects.objects c.add.new.self.kept slots kept))
           (started c.args.today c.grow.new.self (empty_grown 0 c.new-scratch.result c.grow.new.self (empty_none c.new-scratch.result c.new-scratch.ensures.entries c.new-scratch.ensures.positions) entries positions)),
       subst (λ (l : List Slot). IsJoined (market_of c.args.today l) c.add.new.self.shape) (sym slots)
           (joined_start c.args.today c.new-store.result c.add.new.self c.new-store.ensures.kept c.new-store.ensures.roles c.new-store.ensures.subjects c.in_ok-add.ensures.added),
@@ -27,6 +26,6 @@ invariant_of-result c =
 
 pub returns-clause-sound : goal.returns-clause-sound
 returns-clause-sound c calc =
-    let slots = c.in_ok-push.ensures.items ∙ ap (λ (l : List Slot). l ++ Today ∷ []) c.new-slots.ensures.items in
+    let slots = c.in_ok-objects.ensures in
     let kept = c.in_ok-add.ensures.added.kept ∙ ap (λ (l : List Kept). l ++ unpriced ∷ []) c.new-store.ensures.kept in
-    subst (IsSound calc) (sym (start_state c.args.today c.push.new.self.items c.add.new.self.kept slots kept)) (sound_start calc c.args.today)
+    subst (IsSound calc) (sym (start_state c.args.today c.in_ok-objects.objects c.add.new.self.kept slots kept)) (sound_start calc c.args.today)

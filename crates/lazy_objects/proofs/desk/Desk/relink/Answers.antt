@@ -1,128 +1,116 @@
-use Rattle.std.proofs.Common.{◌≡◌, ℕ, Bool, true, false, List, Option, None, Some, length, refl, sym, ◌∙◌, ap, subst}
-use Rattle.std.specs.Prelude.{slice_index_or, slice_set, is_some, IfSome}
-use Rattle.std.specs.Vec.{with_items}
-use Rattle.std.specs.Option.{option_eq}
-use Rattle.std.proofs.lemmas.List.{with_items_is}
-use Rattle.desk_terms.specs.declared.terms.Terms.{Terms}
+use Rattle.std.proofs.Common.{◌≡◌, ℕ, true, List, Option, None, Some, refl, sym, ◌∙◌, ap, subst}
+use Rattle.std.specs.Prelude.{slice_index_or, is_some}
 use Rattle.desk_terms.specs.declared.terms.Terms.TheVariants.{Handle}
 use Rattle.desk_terms.specs.declared.terms.HandleKind.{HandleKind}
 use Rattle.desk_model.specs.declared.kept.Kept.{Kept}
-use Rattle.desk_model.specs.declared.slot.Slot.{Slot}
-use Rattle.desk_model.specs.declared.slot.Slot.TheVariants.{Free, Live}
-use Rattle.desk_model.specs.Market.{Market, terms_in, terms_at}
+use Rattle.desk_model.specs.Market.{Market, terms_at}
 use Rattle.desk_model.specs.State.{State, unpriced}
-use Rattle.desk_model.specs.Links.{IsLinked, AreOfKind}
+use Rattle.desk_model.specs.Links.{AreOfKind}
 use Rattle.desk_model.specs.Laws.{MayLink}
 use Rattle.desk_model.specs.Sound.{IsSound, KeepsCurrent}
 use Rattle.desk_model.specs.Effect.{revised, relinked}
 use Rattle.observer_graph.specs.declared.node.Role.{Role}
 use Rattle.lazy_objects.specs.Slots.{market_of, state_of}
-use Rattle.lazy_objects.specs.Shape.{Shape, IsJoined, role_at}
+use Rattle.lazy_objects.specs.Shape.{Shape, IsJoined}
 use Rattle.lazy_objects.proofs.Joined.{unmarked, revised_market}
 use Rattle.lazy_objects.proofs.Linked.{handle_there, target_there, held_there, target_new, joined_linked, linked_kept, joins_roles, link_as, link_links, link_changed}
 use Rattle.lazy_objects.proofs.desk.Desk.relink.Goals as goal
 
 pub returns-then-eq-clause-set : goal.returns-then-eq-clause-set
 returns-then-eq-clause-set c =
-    let is = ap (λ (l : List Slot). terms_in (slice_index_or l c.args.handle Free)) (sym c.deref.ensures.value) ∙ c.link_of-link.ensures in
+    let is = c.link_of-link.ensures in
     subst (λ (s : State). s ≡ relinked c.args.handle c.args.target s) c.self.view_is
-    (sym (link_as (state_of c.self.inside.today c.self.inside.slots.items c.self.inside.store.kept) c.args.handle c.link_of-link.result.kind c.link_of-link.result.target c.args.target true is (sym c.eq.ensures ∙ c.if-eq.true)))
+    (sym (link_as (state_of c.self.inside.today c.self.inside.objects c.self.inside.store.kept) c.args.handle c.link_of-link.result.kind c.link_of-link.result.target c.args.target true is (sym c.eq.ensures ∙ c.if-eq.true)))
 
 pub watch_any-requires-clause-subject : goal.watch_any-requires-clause-subject
 watch_any-requires-clause-subject c =
-    let is = ap (λ (l : List Slot). terms_in (slice_index_or l c.args.handle Free)) (sym c.deref.ensures.value) ∙ c.link_of-link.ensures in
-    target_there c.self.inside.today c.self.inside.slots.items c.args.handle c.link_of-link.result.kind c.link_of-link.result.target c.args.target c.self.inside.store c.self.invariant.1 is
+    let is = c.link_of-link.ensures in
+    target_there c.self.inside.today c.self.inside.objects c.args.handle c.link_of-link.result.kind c.link_of-link.result.target c.args.target c.self.inside.store c.self.invariant.1 is
     (subst (λ (t : State). MayLink t.market c.args.handle c.args.target) (sym c.self.view_is) c.requires.open)
 
 pub watch_any-requires-clause-observer : goal.watch_any-requires-clause-observer
 watch_any-requires-clause-observer c =
-    let is = ap (λ (l : List Slot). terms_in (slice_index_or l c.args.handle Free)) (sym c.deref.ensures.value) ∙ c.link_of-link.ensures in
-    handle_there c.self.inside.today c.self.inside.slots.items c.args.handle c.link_of-link.result.kind c.link_of-link.result.target c.args.target c.self.inside.store c.self.invariant.1 is
+    let is = c.link_of-link.ensures in
+    handle_there c.self.inside.today c.self.inside.objects c.args.handle c.link_of-link.result.kind c.link_of-link.result.target c.args.target c.self.inside.store c.self.invariant.1 is
 
 pub watch_any-requires-clause-new : goal.watch_any-requires-clause-new
 watch_any-requires-clause-new c =
-    let is = ap (λ (l : List Slot). terms_in (slice_index_or l c.args.handle Free)) (sym c.deref.ensures.value) ∙ c.link_of-link.ensures in
-    target_new c.self.inside.today c.self.inside.slots.items c.args.handle c.link_of-link.result.kind c.link_of-link.result.target c.args.target c.self.inside.store c.self.invariant.1 is (sym c.eq.ensures ∙ c.if-eq.false)
+    let is = c.link_of-link.ensures in
+    target_new c.self.inside.today c.self.inside.objects c.args.handle c.link_of-link.result.kind c.link_of-link.result.target c.args.target c.self.inside.store c.self.invariant.1 is (sym c.eq.ensures ∙ c.if-eq.false)
 
 pub unwatch_any-requires-clause-subject : goal.unwatch_any-requires-clause-subject
 unwatch_any-requires-clause-subject c =
-    let is = ap (λ (l : List Slot). terms_in (slice_index_or l c.args.handle Free)) (sym c.deref.ensures.value) ∙ c.link_of-link.ensures in
-    held_there c.self.inside.today c.self.inside.slots.items c.args.handle c.link_of-link.result.kind c.link_of-link.result.target c.args.target c.self.inside.store c.self.invariant.1 is c.self.invariant.0.whole.links c.watch_any.new.store (joins_roles c.args.target c.args.handle c.self.inside.store c.watch_any.new.store c.in_ok-watch_any.ensures.joins).1
+    let is = c.link_of-link.ensures in
+    held_there c.self.inside.today c.self.inside.objects c.args.handle c.link_of-link.result.kind c.link_of-link.result.target c.args.target c.self.inside.store c.self.invariant.1 is c.self.invariant.0.whole.links c.watch_any.new.store (joins_roles c.args.target c.args.handle c.self.inside.store c.watch_any.new.store c.in_ok-watch_any.ensures.joins).1
 
 pub unwatch_any-requires-clause-observer : goal.unwatch_any-requires-clause-observer
 unwatch_any-requires-clause-observer c =
-    let is = ap (λ (l : List Slot). terms_in (slice_index_or l c.args.handle Free)) (sym c.deref.ensures.value) ∙ c.link_of-link.ensures in
+    let is = c.link_of-link.ensures in
     ap (λ (l : List (Option Role)). is_some (slice_index_or l c.args.handle None)) (joins_roles c.args.target c.args.handle c.self.inside.store c.watch_any.new.store c.in_ok-watch_any.ensures.joins).1
-    ∙ handle_there c.self.inside.today c.self.inside.slots.items c.args.handle c.link_of-link.result.kind c.link_of-link.result.target c.args.target c.self.inside.store c.self.invariant.1 is
+    ∙ handle_there c.self.inside.today c.self.inside.objects c.args.handle c.link_of-link.result.kind c.link_of-link.result.target c.args.target c.self.inside.store c.self.invariant.1 is
 
 pub revise-requires-clause-joined : goal.revise-requires-clause-joined
 revise-requires-clause-joined c =
-    let is = ap (λ (l : List Slot). terms_in (slice_index_or l c.args.handle Free)) (sym c.deref.ensures.value) ∙ c.link_of-link.ensures in
+    let is = c.link_of-link.ensures in
     let differs = sym c.eq.ensures ∙ c.if-eq.false in
-    subst (λ (l : List Slot). IsJoined (market_of c.self.inside.today (slice_set l c.args.handle (Live (Handle c.link_of-link.result.kind c.args.target)))) c.unwatch_any.new.store.shape) (sym c.deref_mut.ensures.value)
-    (joined_linked c.self.inside.today c.self.inside.slots.items c.args.handle c.link_of-link.result.kind c.link_of-link.result.target c.args.target c.self.inside.store c.self.invariant.1 is c.watch_any.new.store c.unwatch_any.new.store differs c.in_ok-watch_any.ensures.joins c.unwatch_any.ensures)
+    (joined_linked c.self.inside.today c.self.inside.objects c.args.handle c.link_of-link.result.kind c.link_of-link.result.target c.args.target c.self.inside.store c.self.invariant.1 is c.watch_any.new.store c.unwatch_any.new.store differs c.in_ok-watch_any.ensures.joins c.unwatch_any.ensures)
 
 pub revise-requires-clause-unmarked : goal.revise-requires-clause-unmarked
 revise-requires-clause-unmarked c = λ x. ap (λ (l : List Kept). (slice_index_or l x unpriced).source) (linked_kept c.link_of-link.result.target c.args.target c.args.handle c.self.inside.store c.watch_any.new.store c.unwatch_any.new.store c.in_ok-watch_any.ensures.joins c.unwatch_any.ensures).0
-    ∙ unmarked (state_of c.self.inside.today c.self.inside.slots.items c.self.inside.store.kept) c.self.invariant.0.unheld x
+    ∙ unmarked (state_of c.self.inside.today c.self.inside.objects c.self.inside.store.kept) c.self.invariant.0.unheld x
 
 pub revise-requires-clause-linked : goal.revise-requires-clause-linked
 revise-requires-clause-linked c =
-    let is = ap (λ (l : List Slot). terms_in (slice_index_or l c.args.handle Free)) (sym c.deref.ensures.value) ∙ c.link_of-link.ensures in
+    let is = c.link_of-link.ensures in
     let may = subst (λ (t : State). MayLink t.market c.args.handle c.args.target) (sym c.self.view_is) c.requires.open in
     let differs = sym c.eq.ensures ∙ c.if-eq.false in
-    subst (λ (l : List Slot). IsLinked (market_of c.self.inside.today (slice_set l c.args.handle (Live (Handle c.link_of-link.result.kind c.args.target))))) (sym c.deref_mut.ensures.value)
-    (link_links c.self.inside.today c.self.inside.slots.items c.self.inside.store.kept c.self.inside.scratch c.self.invariant.0 c.args.handle c.link_of-link.result.kind c.link_of-link.result.target c.args.target is may differs)
+    (link_links c.self.inside.today c.self.inside.objects c.self.inside.store.kept c.self.inside.scratch c.self.invariant.0 c.args.handle c.link_of-link.result.kind c.link_of-link.result.target c.args.target is may differs)
 
 pub invariant_of-self-2 : goal.invariant_of-self-2
 invariant_of-self-2 c =
-    let is = ap (λ (l : List Slot). terms_in (slice_index_or l c.args.handle Free)) (sym c.deref.ensures.value) ∙ c.link_of-link.ensures in
+    let is = c.link_of-link.ensures in
     let may = subst (λ (t : State). MayLink t.market c.args.handle c.args.target) (sym c.self.view_is) c.requires.open in
     let differs = sym c.eq.ensures ∙ c.if-eq.false in
     let kinds = subst (λ (t : State). (k : HandleKind) (u : Option ℕ) → terms_at t.market c.args.handle ≡ Some (Handle k u) → AreOfKind t.market (Some (Handle k c.args.target))) (sym c.self.view_is) c.requires.kinds in
-    let slots = with_items_is c.self.inside.slots c.revise.new.slots (c.revise.ensures.long ∙ c.deref_mut.ensures.len) in
-    let e = ap (λ (l : List Slot). state_of c.self.inside.today l c.revise.new.store.kept) slots ∙ c.revise.ensures.state ∙ ap (λ (l : List Slot). revised c.args.handle (Handle c.link_of-link.result.kind c.args.target) (state_of c.self.inside.today l c.unwatch_any.new.store.kept)) c.deref_mut.ensures.value
-    ∙ ap (λ (k : List Kept). revised c.args.handle (Handle c.link_of-link.result.kind c.args.target) (state_of c.self.inside.today c.self.inside.slots.items k)) (linked_kept c.link_of-link.result.target c.args.target c.args.handle c.self.inside.store c.watch_any.new.store c.unwatch_any.new.store c.in_ok-watch_any.ensures.joins c.unwatch_any.ensures).0 in
-    let d = link_changed c.self.inside.today c.self.inside.slots.items c.self.inside.store.kept c.self.inside.scratch c.self.invariant.0 c.args.handle c.link_of-link.result.kind c.link_of-link.result.target c.args.target is may differs kinds (state_of c.self.inside.today (with_items c.self.inside.slots c.revise.new.slots).items c.revise.new.store.kept) e in
-    let market = ap (λ (t : State). t.market) e ∙ revised_market c.args.handle (Handle c.link_of-link.result.kind c.args.target) (state_of c.self.inside.today c.self.inside.slots.items c.self.inside.store.kept) refl in (
+    let e = c.revise.ensures.state
+    ∙ ap (λ (k : List Kept). revised c.args.handle (Handle c.link_of-link.result.kind c.args.target) (state_of c.self.inside.today c.self.inside.objects k)) (linked_kept c.link_of-link.result.target c.args.target c.args.handle c.self.inside.store c.watch_any.new.store c.unwatch_any.new.store c.in_ok-watch_any.ensures.joins c.unwatch_any.ensures).0 in
+    let d = link_changed c.self.inside.today c.self.inside.objects c.self.inside.store.kept c.self.inside.scratch c.self.invariant.0 c.args.handle c.link_of-link.result.kind c.link_of-link.result.target c.args.target is may differs kinds (state_of c.self.inside.today c.revise.new.objects c.revise.new.store.kept) e in
+    let market = ap (λ (t : State). t.market) e ∙ revised_market c.args.handle (Handle c.link_of-link.result.kind c.args.target) (state_of c.self.inside.today c.self.inside.objects c.self.inside.store.kept) refl in (
       d.stands,
-      subst (λ (h : Shape). IsJoined (market_of c.self.inside.today (with_items c.self.inside.slots c.revise.new.slots).items) h) (sym c.revise.ensures.shape)
+      subst (λ (h : Shape). IsJoined (market_of c.self.inside.today c.revise.new.objects) h) (sym c.revise.ensures.shape)
           (subst (λ (m : Market). IsJoined m c.unwatch_any.new.store.shape) (sym market)
-          (joined_linked c.self.inside.today c.self.inside.slots.items c.args.handle c.link_of-link.result.kind c.link_of-link.result.target c.args.target c.self.inside.store c.self.invariant.1 is c.watch_any.new.store c.unwatch_any.new.store differs c.in_ok-watch_any.ensures.joins c.unwatch_any.ensures)),
+          (joined_linked c.self.inside.today c.self.inside.objects c.args.handle c.link_of-link.result.kind c.link_of-link.result.target c.args.target c.self.inside.store c.self.invariant.1 is c.watch_any.new.store c.unwatch_any.new.store differs c.in_ok-watch_any.ensures.joins c.unwatch_any.ensures)),
     )
 
 pub returns-clause-set : goal.returns-clause-set
 returns-clause-set c =
-    let is = ap (λ (l : List Slot). terms_in (slice_index_or l c.args.handle Free)) (sym c.deref.ensures.value) ∙ c.link_of-link.ensures in
+    let is = c.link_of-link.ensures in
     let may = subst (λ (t : State). MayLink t.market c.args.handle c.args.target) (sym c.self.view_is) c.requires.open in
     let differs = sym c.eq.ensures ∙ c.if-eq.false in
     let kinds = subst (λ (t : State). (k : HandleKind) (u : Option ℕ) → terms_at t.market c.args.handle ≡ Some (Handle k u) → AreOfKind t.market (Some (Handle k c.args.target))) (sym c.self.view_is) c.requires.kinds in
-    let slots = with_items_is c.self.inside.slots c.revise.new.slots (c.revise.ensures.long ∙ c.deref_mut.ensures.len) in
-    let e = ap (λ (l : List Slot). state_of c.self.inside.today l c.revise.new.store.kept) slots ∙ c.revise.ensures.state ∙ ap (λ (l : List Slot). revised c.args.handle (Handle c.link_of-link.result.kind c.args.target) (state_of c.self.inside.today l c.unwatch_any.new.store.kept)) c.deref_mut.ensures.value
-    ∙ ap (λ (k : List Kept). revised c.args.handle (Handle c.link_of-link.result.kind c.args.target) (state_of c.self.inside.today c.self.inside.slots.items k)) (linked_kept c.link_of-link.result.target c.args.target c.args.handle c.self.inside.store c.watch_any.new.store c.unwatch_any.new.store c.in_ok-watch_any.ensures.joins c.unwatch_any.ensures).0 in
-    let d = link_changed c.self.inside.today c.self.inside.slots.items c.self.inside.store.kept c.self.inside.scratch c.self.invariant.0 c.args.handle c.link_of-link.result.kind c.link_of-link.result.target c.args.target is may differs kinds (state_of c.self.inside.today (with_items c.self.inside.slots c.revise.new.slots).items c.revise.new.store.kept) e in
+    let e = c.revise.ensures.state
+    ∙ ap (λ (k : List Kept). revised c.args.handle (Handle c.link_of-link.result.kind c.args.target) (state_of c.self.inside.today c.self.inside.objects k)) (linked_kept c.link_of-link.result.target c.args.target c.args.handle c.self.inside.store c.watch_any.new.store c.unwatch_any.new.store c.in_ok-watch_any.ensures.joins c.unwatch_any.ensures).0 in
+    let d = link_changed c.self.inside.today c.self.inside.objects c.self.inside.store.kept c.self.inside.scratch c.self.invariant.0 c.args.handle c.link_of-link.result.kind c.link_of-link.result.target c.args.target is may differs kinds (state_of c.self.inside.today c.revise.new.objects c.revise.new.store.kept) e in
     d.state ∙ ap (relinked c.args.handle c.args.target) c.self.view_is
 
 pub returns-clause-keeps : goal.returns-clause-keeps
 returns-clause-keeps c =
-    let is = ap (λ (l : List Slot). terms_in (slice_index_or l c.args.handle Free)) (sym c.deref.ensures.value) ∙ c.link_of-link.ensures in
+    let is = c.link_of-link.ensures in
     let may = subst (λ (t : State). MayLink t.market c.args.handle c.args.target) (sym c.self.view_is) c.requires.open in
     let differs = sym c.eq.ensures ∙ c.if-eq.false in
     let kinds = subst (λ (t : State). (k : HandleKind) (u : Option ℕ) → terms_at t.market c.args.handle ≡ Some (Handle k u) → AreOfKind t.market (Some (Handle k c.args.target))) (sym c.self.view_is) c.requires.kinds in
-    let slots = with_items_is c.self.inside.slots c.revise.new.slots (c.revise.ensures.long ∙ c.deref_mut.ensures.len) in
-    let e = ap (λ (l : List Slot). state_of c.self.inside.today l c.revise.new.store.kept) slots ∙ c.revise.ensures.state ∙ ap (λ (l : List Slot). revised c.args.handle (Handle c.link_of-link.result.kind c.args.target) (state_of c.self.inside.today l c.unwatch_any.new.store.kept)) c.deref_mut.ensures.value
-    ∙ ap (λ (k : List Kept). revised c.args.handle (Handle c.link_of-link.result.kind c.args.target) (state_of c.self.inside.today c.self.inside.slots.items k)) (linked_kept c.link_of-link.result.target c.args.target c.args.handle c.self.inside.store c.watch_any.new.store c.unwatch_any.new.store c.in_ok-watch_any.ensures.joins c.unwatch_any.ensures).0 in
-    let d = link_changed c.self.inside.today c.self.inside.slots.items c.self.inside.store.kept c.self.inside.scratch c.self.invariant.0 c.args.handle c.link_of-link.result.kind c.link_of-link.result.target c.args.target is may differs kinds (state_of c.self.inside.today (with_items c.self.inside.slots c.revise.new.slots).items c.revise.new.store.kept) e in
-    subst (λ (t : State). KeepsCurrent t (state_of c.self.inside.today (with_items c.self.inside.slots c.revise.new.slots).items c.revise.new.store.kept)) c.self.view_is d.keeps
+    let e = c.revise.ensures.state
+    ∙ ap (λ (k : List Kept). revised c.args.handle (Handle c.link_of-link.result.kind c.args.target) (state_of c.self.inside.today c.self.inside.objects k)) (linked_kept c.link_of-link.result.target c.args.target c.args.handle c.self.inside.store c.watch_any.new.store c.unwatch_any.new.store c.in_ok-watch_any.ensures.joins c.unwatch_any.ensures).0 in
+    let d = link_changed c.self.inside.today c.self.inside.objects c.self.inside.store.kept c.self.inside.scratch c.self.invariant.0 c.args.handle c.link_of-link.result.kind c.link_of-link.result.target c.args.target is may differs kinds (state_of c.self.inside.today c.revise.new.objects c.revise.new.store.kept) e in
+    subst (λ (t : State). KeepsCurrent t (state_of c.self.inside.today c.revise.new.objects c.revise.new.store.kept)) c.self.view_is d.keeps
 
 pub returns-clause-sound : goal.returns-clause-sound
 returns-clause-sound c calc sound =
-    let is = ap (λ (l : List Slot). terms_in (slice_index_or l c.args.handle Free)) (sym c.deref.ensures.value) ∙ c.link_of-link.ensures in
+    let is = c.link_of-link.ensures in
     let may = subst (λ (t : State). MayLink t.market c.args.handle c.args.target) (sym c.self.view_is) c.requires.open in
     let differs = sym c.eq.ensures ∙ c.if-eq.false in
     let kinds = subst (λ (t : State). (k : HandleKind) (u : Option ℕ) → terms_at t.market c.args.handle ≡ Some (Handle k u) → AreOfKind t.market (Some (Handle k c.args.target))) (sym c.self.view_is) c.requires.kinds in
-    let slots = with_items_is c.self.inside.slots c.revise.new.slots (c.revise.ensures.long ∙ c.deref_mut.ensures.len) in
-    let e = ap (λ (l : List Slot). state_of c.self.inside.today l c.revise.new.store.kept) slots ∙ c.revise.ensures.state ∙ ap (λ (l : List Slot). revised c.args.handle (Handle c.link_of-link.result.kind c.args.target) (state_of c.self.inside.today l c.unwatch_any.new.store.kept)) c.deref_mut.ensures.value
-    ∙ ap (λ (k : List Kept). revised c.args.handle (Handle c.link_of-link.result.kind c.args.target) (state_of c.self.inside.today c.self.inside.slots.items k)) (linked_kept c.link_of-link.result.target c.args.target c.args.handle c.self.inside.store c.watch_any.new.store c.unwatch_any.new.store c.in_ok-watch_any.ensures.joins c.unwatch_any.ensures).0 in
-    let d = link_changed c.self.inside.today c.self.inside.slots.items c.self.inside.store.kept c.self.inside.scratch c.self.invariant.0 c.args.handle c.link_of-link.result.kind c.link_of-link.result.target c.args.target is may differs kinds (state_of c.self.inside.today (with_items c.self.inside.slots c.revise.new.slots).items c.revise.new.store.kept) e in
+    let e = c.revise.ensures.state
+    ∙ ap (λ (k : List Kept). revised c.args.handle (Handle c.link_of-link.result.kind c.args.target) (state_of c.self.inside.today c.self.inside.objects k)) (linked_kept c.link_of-link.result.target c.args.target c.args.handle c.self.inside.store c.watch_any.new.store c.unwatch_any.new.store c.in_ok-watch_any.ensures.joins c.unwatch_any.ensures).0 in
+    let d = link_changed c.self.inside.today c.self.inside.objects c.self.inside.store.kept c.self.inside.scratch c.self.invariant.0 c.args.handle c.link_of-link.result.kind c.link_of-link.result.target c.args.target is may differs kinds (state_of c.self.inside.today c.revise.new.objects c.revise.new.store.kept) e in
     d.sound calc (subst (IsSound calc) (sym c.self.view_is) sound)

@@ -1,6 +1,4 @@
-use Rattle.std.proofs.Common.{◌≡◌, ℕ, true, None, sym, ◌∙◌, ap, subst}
-use Rattle.std.specs.Prelude.{slice_set}
-use Rattle.desk_model.specs.declared.slot.Slot.TheVariants.{Free}
+use Rattle.std.proofs.Common.{◌≡◌, true, None, sym, ◌∙◌, ap, subst}
 use Rattle.desk_model.specs.Market.{is_given, slot_at, least_user}
 use Rattle.desk_model.specs.State.{State}
 use Rattle.desk_model.specs.Sound.{IsSound, KeepsCurrent}
@@ -13,31 +11,31 @@ use Rattle.lazy_objects.proofs.desk.Desk.remove.Goals as goal
 pub invariant_of-self : goal.invariant_of-self
 invariant_of-self c =
     let unused = subst (λ (t : State). least_user t.market c.args.object ≡ None) (sym c.self.view_is) c.requires.unused in
-    let slots = ap (λ (n : ℕ). slice_set c.self.inside.slots.items n Free) c.place.ensures in
-    let d = drops c.self.inside.today c.self.inside.slots.items (slice_set c.self.inside.slots.items c.place.result Free) c.self.inside.store.kept c.forget.new.self.kept c.self.inside.scratch c.args.object c.self.invariant.0 c.requires.apart unused slots c.forget.ensures.kept in
+    let slots = c.remove.ensures in
+    let d = drops c.self.inside.today c.self.inside.objects c.remove.new.self c.self.inside.store.kept c.forget.new.self.kept c.self.inside.scratch c.args.object c.self.invariant.0 c.requires.apart unused slots c.forget.ensures.kept in
     let live = subst (λ (t : State). is_given (slot_at t.market c.args.object) ≡ true) (sym c.self.view_is) c.requires.live in (
       d.stands,
-      joined_dropped c.self.inside.today c.self.inside.slots.items (slice_set c.self.inside.slots.items c.place.result Free) c.args.object c.self.inside.store c.forget.new.self c.self.invariant.1
-          (given_within c.self.inside.slots.items c.args.object live) unused c.forget.ensures slots,
+      joined_dropped c.self.inside.today c.self.inside.objects c.remove.new.self c.args.object c.self.inside.store c.forget.new.self c.self.invariant.1
+          (given_within c.self.inside.objects c.args.object live) unused c.forget.ensures slots,
     )
 
 pub returns-clause-removed : goal.returns-clause-removed
 returns-clause-removed c =
     let unused = subst (λ (t : State). least_user t.market c.args.object ≡ None) (sym c.self.view_is) c.requires.unused in
-    let slots = ap (λ (n : ℕ). slice_set c.self.inside.slots.items n Free) c.place.ensures in
-    let d = drops c.self.inside.today c.self.inside.slots.items (slice_set c.self.inside.slots.items c.place.result Free) c.self.inside.store.kept c.forget.new.self.kept c.self.inside.scratch c.args.object c.self.invariant.0 c.requires.apart unused slots c.forget.ensures.kept in
+    let slots = c.remove.ensures in
+    let d = drops c.self.inside.today c.self.inside.objects c.remove.new.self c.self.inside.store.kept c.forget.new.self.kept c.self.inside.scratch c.args.object c.self.invariant.0 c.requires.apart unused slots c.forget.ensures.kept in
     d.state ∙ ap (dropped c.args.object) c.self.view_is
 
 pub returns-clause-keeps : goal.returns-clause-keeps
 returns-clause-keeps c =
     let unused = subst (λ (t : State). least_user t.market c.args.object ≡ None) (sym c.self.view_is) c.requires.unused in
-    let slots = ap (λ (n : ℕ). slice_set c.self.inside.slots.items n Free) c.place.ensures in
-    let d = drops c.self.inside.today c.self.inside.slots.items (slice_set c.self.inside.slots.items c.place.result Free) c.self.inside.store.kept c.forget.new.self.kept c.self.inside.scratch c.args.object c.self.invariant.0 c.requires.apart unused slots c.forget.ensures.kept in
-    subst (λ (t : State). KeepsCurrent t (state_of c.self.inside.today (slice_set c.self.inside.slots.items c.place.result Free) c.forget.new.self.kept)) c.self.view_is d.keeps
+    let slots = c.remove.ensures in
+    let d = drops c.self.inside.today c.self.inside.objects c.remove.new.self c.self.inside.store.kept c.forget.new.self.kept c.self.inside.scratch c.args.object c.self.invariant.0 c.requires.apart unused slots c.forget.ensures.kept in
+    subst (λ (t : State). KeepsCurrent t (state_of c.self.inside.today c.remove.new.self c.forget.new.self.kept)) c.self.view_is d.keeps
 
 pub returns-clause-sound : goal.returns-clause-sound
 returns-clause-sound c calc sound =
     let unused = subst (λ (t : State). least_user t.market c.args.object ≡ None) (sym c.self.view_is) c.requires.unused in
-    let slots = ap (λ (n : ℕ). slice_set c.self.inside.slots.items n Free) c.place.ensures in
-    let d = drops c.self.inside.today c.self.inside.slots.items (slice_set c.self.inside.slots.items c.place.result Free) c.self.inside.store.kept c.forget.new.self.kept c.self.inside.scratch c.args.object c.self.invariant.0 c.requires.apart unused slots c.forget.ensures.kept in
+    let slots = c.remove.ensures in
+    let d = drops c.self.inside.today c.self.inside.objects c.remove.new.self c.self.inside.store.kept c.forget.new.self.kept c.self.inside.scratch c.args.object c.self.invariant.0 c.requires.apart unused slots c.forget.ensures.kept in
     d.sound calc (subst (IsSound calc) (sym c.self.view_is) sound)

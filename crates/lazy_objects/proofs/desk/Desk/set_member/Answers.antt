@@ -1,25 +1,19 @@
 use Rattle.std.proofs.Common.{◌≡◌, List, sym, refl, ◌∙◌, ap, subst, true, w64}
-use Rattle.std.specs.Prelude.{◌↔◌, slice_index_or, slice_set}
+use Rattle.std.specs.Prelude.{◌↔◌, slice_index_or}
 use Rattle.walks.specs.Walk.{Among}
 use Rattle.desk_terms.specs.declared.kind.Kind.TheVariants.{Composite}
 use Rattle.desk_terms.specs.Terms.{part_references}
 use Rattle.desk_model.specs.declared.kept.Kept.{Kept}
 use Rattle.desk_model.specs.Market.{Market, named}
 use Rattle.std.specs.Ordering.{int_eq}
-use Rattle.std.specs.Vec.{with_items}
-use Rattle.std.proofs.lemmas.List.{with_items_is}
 use Rattle.std.proofs.lemmas.Int.{to_z-of_z}
 use Rattle.desk_terms.specs.declared.terms.Terms.TheVariants as terms_of
 use Rattle.desk_terms.specs.declared.terms.Part.{Part}
-use Rattle.desk_model.specs.declared.slot.Slot.{Slot}
-use Rattle.desk_model.specs.declared.slot.Slot.TheVariants.{Free, Live}
 use Rattle.desk_model.specs.State.{State, unpriced}
 use Rattle.desk_model.specs.Held.{weight_of, with_member}
-use Rattle.desk_model.specs.Links.{IsLinked}
 use Rattle.desk_model.specs.Sound.{IsSound, KeepsCurrent}
 use Rattle.desk_model.specs.Effect.{revised, member_set}
 use Rattle.lazy_objects.specs.Slots.{market_of, state_of}
-use Rattle.lazy_objects.specs.Parts.{parts_in}
 use Rattle.lazy_objects.specs.Shape.{Shape, IsJoined, observed_by}
 use Rattle.lazy_objects.specs.Store.{IsRewatched}
 use Rattle.lazy_objects.proofs.Joined.{joined_composite, composite_watches, unmarked, revised_market}
@@ -31,97 +25,91 @@ pub returns-then-has_weight-clause-set : goal.returns-then-has_weight-clause-set
 returns-then-has_weight-clause-set c =
     let is = subst (λ (t : State). MayWeigh t.market c.args.composite c.args.member c.args.weight) (sym c.self.view_is) (c.requires.composite, c.requires.member, c.requires.open) in
     let bits = to_z-of_z w64 c.args.weight c.ranges.weight in
-    let parts = c.parts_of-parts.ensures ∙ ap (λ (l : List Slot). parts_in (slice_index_or l c.args.composite Free)) c.deref.ensures.value in
+    let parts = c.parts_of-parts.ensures in
     let held = ap (λ (p : List Part). int_eq (weight_of p c.args.member) c.args.weight) (sym parts) ∙ ap (int_eq (weight_of c.parts_of-parts.result.now c.args.member)) (sym bits) ∙ sym c.has_weight.ensures ∙ c.if-has_weight.true in
     subst (λ (s : State). s ≡ member_set c.args.composite c.args.member c.args.weight s) c.self.view_is
-    (sym (weight_as (state_of c.self.inside.today c.self.inside.slots.items c.self.inside.store.kept) c.args.composite c.args.member c.args.weight is.0 true held))
+    (sym (weight_as (state_of c.self.inside.today c.self.inside.objects c.self.inside.store.kept) c.args.composite c.args.member c.args.weight is.0 true held))
 
 pub revise-requires-clause-linked : goal.revise-requires-clause-linked
 revise-requires-clause-linked c =
     let is = subst (λ (t : State). MayWeigh t.market c.args.composite c.args.member c.args.weight) (sym c.self.view_is) (c.requires.composite, c.requires.member, c.requires.open) in
     let bits = to_z-of_z w64 c.args.weight c.ranges.weight in
-    let parts = c.parts_of-parts.ensures ∙ ap (λ (l : List Slot). parts_in (slice_index_or l c.args.composite Free)) c.deref.ensures.value in
+    let parts = c.parts_of-parts.ensures in
     let differs = ap (λ (p : List Part). int_eq (weight_of p c.args.member) c.args.weight) (sym parts) ∙ ap (int_eq (weight_of c.parts_of-parts.result.now c.args.member)) (sym bits) ∙ sym c.has_weight.ensures ∙ c.if-has_weight.false in
     let reweighed = c.in_ok-changed.ensures ∙ ap (with_member c.parts_of-parts.result.now c.args.member) bits ∙ ap (λ (p : List Part). with_member p c.args.member c.args.weight) parts in
-    subst (λ (l : List Slot). IsLinked (market_of c.self.inside.today (slice_set l c.args.composite (Live (terms_of.Composite c.in_ok-changed.changed))))) (sym c.deref_mut.ensures.value)
-    (member_links c.self.inside.today c.self.inside.slots.items c.self.inside.store.kept c.self.inside.scratch c.self.invariant.0 c.args.composite c.args.member c.args.weight is differs c.in_ok-changed.changed reweighed)
+    (member_links c.self.inside.today c.self.inside.objects c.self.inside.store.kept c.self.inside.scratch c.self.invariant.0 c.args.composite c.args.member c.args.weight is differs c.in_ok-changed.changed reweighed)
 
 pub rewatch-requires-clause-watched : goal.rewatch-requires-clause-watched
 rewatch-requires-clause-watched c = λ x.
     let is = subst (λ (t : State). MayWeigh t.market c.args.composite c.args.member c.args.weight) (sym c.self.view_is) (c.requires.composite, c.requires.member, c.requires.open) in
-    let parts = c.parts_of-parts.ensures ∙ ap (λ (l : List Slot). parts_in (slice_index_or l c.args.composite Free)) c.deref.ensures.value in
+    let parts = c.parts_of-parts.ensures in
     subst (λ (p : List Part). Among x (observed_by c.self.inside.store.shape c.args.composite) ↔ Among x (named (part_references p))) (sym parts)
-    (composite_watches c.self.inside.today c.self.inside.slots.items c.self.inside.store.shape c.args.composite c.self.invariant.1 is.0 x)
+    (composite_watches c.self.inside.today c.self.inside.objects c.self.inside.store.shape c.args.composite c.self.invariant.1 is.0 x)
 
 pub revise-requires-clause-joined : goal.revise-requires-clause-joined
 revise-requires-clause-joined c =
     let is = subst (λ (t : State). MayWeigh t.market c.args.composite c.args.member c.args.weight) (sym c.self.view_is) (c.requires.composite, c.requires.member, c.requires.open) in
     let rewatched = subst (λ (p : List Part). IsRewatched c.args.composite p c.self.inside.store c.rewatch.new.store) (sym c.in_ok-changed.ensures) c.in_ok-rewatch.ensures.rewatched in
-    subst (λ (l : List Slot). IsJoined (market_of c.self.inside.today (slice_set l c.args.composite (Live (terms_of.Composite c.in_ok-changed.changed)))) c.rewatch.new.store.shape) (sym c.deref_mut.ensures.value)
-    (joined_composite c.self.inside.today c.self.inside.slots.items c.self.inside.store c.rewatch.new.store c.args.composite c.in_ok-changed.changed c.self.invariant.1 (kind_within c.self.inside.slots.items c.self.inside.today c.args.composite Composite is.0) is.0 rewatched)
+    (joined_composite c.self.inside.today c.self.inside.objects c.self.inside.store c.rewatch.new.store c.args.composite c.in_ok-changed.changed c.self.invariant.1 (kind_within c.self.inside.objects c.self.inside.today c.args.composite Composite is.0) is.0 rewatched)
 
 pub revise-requires-clause-unmarked : goal.revise-requires-clause-unmarked
 revise-requires-clause-unmarked c = λ x. ap (λ (l : List Kept). (slice_index_or l x unpriced).source) c.in_ok-rewatch.ensures.rewatched.kept
-    ∙ unmarked (state_of c.self.inside.today c.self.inside.slots.items c.self.inside.store.kept) c.self.invariant.0.unheld x
+    ∙ unmarked (state_of c.self.inside.today c.self.inside.objects c.self.inside.store.kept) c.self.invariant.0.unheld x
 
 pub invariant_of-self-2 : goal.invariant_of-self-2
 invariant_of-self-2 c =
     let is = subst (λ (t : State). MayWeigh t.market c.args.composite c.args.member c.args.weight) (sym c.self.view_is) (c.requires.composite, c.requires.member, c.requires.open) in
     let bits = to_z-of_z w64 c.args.weight c.ranges.weight in
-    let parts = c.parts_of-parts.ensures ∙ ap (λ (l : List Slot). parts_in (slice_index_or l c.args.composite Free)) c.deref.ensures.value in
+    let parts = c.parts_of-parts.ensures in
     let differs = ap (λ (p : List Part). int_eq (weight_of p c.args.member) c.args.weight) (sym parts) ∙ ap (int_eq (weight_of c.parts_of-parts.result.now c.args.member)) (sym bits) ∙ sym c.has_weight.ensures ∙ c.if-has_weight.false in
     let reweighed = c.in_ok-changed.ensures ∙ ap (with_member c.parts_of-parts.result.now c.args.member) bits ∙ ap (λ (p : List Part). with_member p c.args.member c.args.weight) parts in
-    let slots = with_items_is c.self.inside.slots c.revise.new.slots (c.revise.ensures.long ∙ c.deref_mut.ensures.len) in
-    let e = ap (λ (l : List Slot). state_of c.self.inside.today l c.revise.new.store.kept) slots ∙ c.revise.ensures.state ∙ ap (λ (l : List Slot). revised c.args.composite (terms_of.Composite c.in_ok-changed.changed) (state_of c.self.inside.today l c.rewatch.new.store.kept)) c.deref_mut.ensures.value
-    ∙ ap (λ (k : List Kept). revised c.args.composite (terms_of.Composite c.in_ok-changed.changed) (state_of c.self.inside.today c.self.inside.slots.items k)) c.in_ok-rewatch.ensures.rewatched.kept in
-    let d = member_changed c.self.inside.today c.self.inside.slots.items c.self.inside.store.kept c.self.inside.scratch c.self.invariant.0 c.args.composite c.args.member c.args.weight is differs c.in_ok-changed.changed reweighed
-    (state_of c.self.inside.today (with_items c.self.inside.slots c.revise.new.slots).items c.revise.new.store.kept) e in
-    let market = ap (λ (t : State). t.market) e ∙ revised_market c.args.composite (terms_of.Composite c.in_ok-changed.changed) (state_of c.self.inside.today c.self.inside.slots.items c.self.inside.store.kept) refl in
+    let e = c.revise.ensures.state
+    ∙ ap (λ (k : List Kept). revised c.args.composite (terms_of.Composite c.in_ok-changed.changed) (state_of c.self.inside.today c.self.inside.objects k)) c.in_ok-rewatch.ensures.rewatched.kept in
+    let d = member_changed c.self.inside.today c.self.inside.objects c.self.inside.store.kept c.self.inside.scratch c.self.invariant.0 c.args.composite c.args.member c.args.weight is differs c.in_ok-changed.changed reweighed
+    (state_of c.self.inside.today c.revise.new.objects c.revise.new.store.kept) e in
+    let market = ap (λ (t : State). t.market) e ∙ revised_market c.args.composite (terms_of.Composite c.in_ok-changed.changed) (state_of c.self.inside.today c.self.inside.objects c.self.inside.store.kept) refl in
     let rewatched = subst (λ (p : List Part). IsRewatched c.args.composite p c.self.inside.store c.rewatch.new.store) (sym c.in_ok-changed.ensures) c.in_ok-rewatch.ensures.rewatched in (
       d.stands,
-      subst (λ (h : Shape). IsJoined (market_of c.self.inside.today (with_items c.self.inside.slots c.revise.new.slots).items) h) (sym c.revise.ensures.shape)
+      subst (λ (h : Shape). IsJoined (market_of c.self.inside.today c.revise.new.objects) h) (sym c.revise.ensures.shape)
           (subst (λ (m : Market). IsJoined m c.rewatch.new.store.shape) (sym market)
-          (joined_composite c.self.inside.today c.self.inside.slots.items c.self.inside.store c.rewatch.new.store c.args.composite c.in_ok-changed.changed c.self.invariant.1 (kind_within c.self.inside.slots.items c.self.inside.today c.args.composite Composite is.0) is.0 rewatched)),
+          (joined_composite c.self.inside.today c.self.inside.objects c.self.inside.store c.rewatch.new.store c.args.composite c.in_ok-changed.changed c.self.invariant.1 (kind_within c.self.inside.objects c.self.inside.today c.args.composite Composite is.0) is.0 rewatched)),
     )
 
 pub returns-clause-set : goal.returns-clause-set
 returns-clause-set c =
     let is = subst (λ (t : State). MayWeigh t.market c.args.composite c.args.member c.args.weight) (sym c.self.view_is) (c.requires.composite, c.requires.member, c.requires.open) in
     let bits = to_z-of_z w64 c.args.weight c.ranges.weight in
-    let parts = c.parts_of-parts.ensures ∙ ap (λ (l : List Slot). parts_in (slice_index_or l c.args.composite Free)) c.deref.ensures.value in
+    let parts = c.parts_of-parts.ensures in
     let differs = ap (λ (p : List Part). int_eq (weight_of p c.args.member) c.args.weight) (sym parts) ∙ ap (int_eq (weight_of c.parts_of-parts.result.now c.args.member)) (sym bits) ∙ sym c.has_weight.ensures ∙ c.if-has_weight.false in
     let reweighed = c.in_ok-changed.ensures ∙ ap (with_member c.parts_of-parts.result.now c.args.member) bits ∙ ap (λ (p : List Part). with_member p c.args.member c.args.weight) parts in
-    let slots = with_items_is c.self.inside.slots c.revise.new.slots (c.revise.ensures.long ∙ c.deref_mut.ensures.len) in
-    let e = ap (λ (l : List Slot). state_of c.self.inside.today l c.revise.new.store.kept) slots ∙ c.revise.ensures.state ∙ ap (λ (l : List Slot). revised c.args.composite (terms_of.Composite c.in_ok-changed.changed) (state_of c.self.inside.today l c.rewatch.new.store.kept)) c.deref_mut.ensures.value
-    ∙ ap (λ (k : List Kept). revised c.args.composite (terms_of.Composite c.in_ok-changed.changed) (state_of c.self.inside.today c.self.inside.slots.items k)) c.in_ok-rewatch.ensures.rewatched.kept in
-    let d = member_changed c.self.inside.today c.self.inside.slots.items c.self.inside.store.kept c.self.inside.scratch c.self.invariant.0 c.args.composite c.args.member c.args.weight is differs c.in_ok-changed.changed reweighed
-    (state_of c.self.inside.today (with_items c.self.inside.slots c.revise.new.slots).items c.revise.new.store.kept) e in
+    let e = c.revise.ensures.state
+    ∙ ap (λ (k : List Kept). revised c.args.composite (terms_of.Composite c.in_ok-changed.changed) (state_of c.self.inside.today c.self.inside.objects k)) c.in_ok-rewatch.ensures.rewatched.kept in
+    let d = member_changed c.self.inside.today c.self.inside.objects c.self.inside.store.kept c.self.inside.scratch c.self.invariant.0 c.args.composite c.args.member c.args.weight is differs c.in_ok-changed.changed reweighed
+    (state_of c.self.inside.today c.revise.new.objects c.revise.new.store.kept) e in
     d.state ∙ ap (member_set c.args.composite c.args.member c.args.weight) c.self.view_is
 
 pub returns-clause-keeps : goal.returns-clause-keeps
 returns-clause-keeps c =
     let is = subst (λ (t : State). MayWeigh t.market c.args.composite c.args.member c.args.weight) (sym c.self.view_is) (c.requires.composite, c.requires.member, c.requires.open) in
     let bits = to_z-of_z w64 c.args.weight c.ranges.weight in
-    let parts = c.parts_of-parts.ensures ∙ ap (λ (l : List Slot). parts_in (slice_index_or l c.args.composite Free)) c.deref.ensures.value in
+    let parts = c.parts_of-parts.ensures in
     let differs = ap (λ (p : List Part). int_eq (weight_of p c.args.member) c.args.weight) (sym parts) ∙ ap (int_eq (weight_of c.parts_of-parts.result.now c.args.member)) (sym bits) ∙ sym c.has_weight.ensures ∙ c.if-has_weight.false in
     let reweighed = c.in_ok-changed.ensures ∙ ap (with_member c.parts_of-parts.result.now c.args.member) bits ∙ ap (λ (p : List Part). with_member p c.args.member c.args.weight) parts in
-    let slots = with_items_is c.self.inside.slots c.revise.new.slots (c.revise.ensures.long ∙ c.deref_mut.ensures.len) in
-    let e = ap (λ (l : List Slot). state_of c.self.inside.today l c.revise.new.store.kept) slots ∙ c.revise.ensures.state ∙ ap (λ (l : List Slot). revised c.args.composite (terms_of.Composite c.in_ok-changed.changed) (state_of c.self.inside.today l c.rewatch.new.store.kept)) c.deref_mut.ensures.value
-    ∙ ap (λ (k : List Kept). revised c.args.composite (terms_of.Composite c.in_ok-changed.changed) (state_of c.self.inside.today c.self.inside.slots.items k)) c.in_ok-rewatch.ensures.rewatched.kept in
-    let d = member_changed c.self.inside.today c.self.inside.slots.items c.self.inside.store.kept c.self.inside.scratch c.self.invariant.0 c.args.composite c.args.member c.args.weight is differs c.in_ok-changed.changed reweighed
-    (state_of c.self.inside.today (with_items c.self.inside.slots c.revise.new.slots).items c.revise.new.store.kept) e in
-    subst (λ (t : State). KeepsCurrent t (state_of c.self.inside.today (with_items c.self.inside.slots c.revise.new.slots).items c.revise.new.store.kept)) c.self.view_is d.keeps
+    let e = c.revise.ensures.state
+    ∙ ap (λ (k : List Kept). revised c.args.composite (terms_of.Composite c.in_ok-changed.changed) (state_of c.self.inside.today c.self.inside.objects k)) c.in_ok-rewatch.ensures.rewatched.kept in
+    let d = member_changed c.self.inside.today c.self.inside.objects c.self.inside.store.kept c.self.inside.scratch c.self.invariant.0 c.args.composite c.args.member c.args.weight is differs c.in_ok-changed.changed reweighed
+    (state_of c.self.inside.today c.revise.new.objects c.revise.new.store.kept) e in
+    subst (λ (t : State). KeepsCurrent t (state_of c.self.inside.today c.revise.new.objects c.revise.new.store.kept)) c.self.view_is d.keeps
 
 pub returns-clause-sound : goal.returns-clause-sound
 returns-clause-sound c calc sound =
     let is = subst (λ (t : State). MayWeigh t.market c.args.composite c.args.member c.args.weight) (sym c.self.view_is) (c.requires.composite, c.requires.member, c.requires.open) in
     let bits = to_z-of_z w64 c.args.weight c.ranges.weight in
-    let parts = c.parts_of-parts.ensures ∙ ap (λ (l : List Slot). parts_in (slice_index_or l c.args.composite Free)) c.deref.ensures.value in
+    let parts = c.parts_of-parts.ensures in
     let differs = ap (λ (p : List Part). int_eq (weight_of p c.args.member) c.args.weight) (sym parts) ∙ ap (int_eq (weight_of c.parts_of-parts.result.now c.args.member)) (sym bits) ∙ sym c.has_weight.ensures ∙ c.if-has_weight.false in
     let reweighed = c.in_ok-changed.ensures ∙ ap (with_member c.parts_of-parts.result.now c.args.member) bits ∙ ap (λ (p : List Part). with_member p c.args.member c.args.weight) parts in
-    let slots = with_items_is c.self.inside.slots c.revise.new.slots (c.revise.ensures.long ∙ c.deref_mut.ensures.len) in
-    let e = ap (λ (l : List Slot). state_of c.self.inside.today l c.revise.new.store.kept) slots ∙ c.revise.ensures.state ∙ ap (λ (l : List Slot). revised c.args.composite (terms_of.Composite c.in_ok-changed.changed) (state_of c.self.inside.today l c.rewatch.new.store.kept)) c.deref_mut.ensures.value
-    ∙ ap (λ (k : List Kept). revised c.args.composite (terms_of.Composite c.in_ok-changed.changed) (state_of c.self.inside.today c.self.inside.slots.items k)) c.in_ok-rewatch.ensures.rewatched.kept in
-    let d = member_changed c.self.inside.today c.self.inside.slots.items c.self.inside.store.kept c.self.inside.scratch c.self.invariant.0 c.args.composite c.args.member c.args.weight is differs c.in_ok-changed.changed reweighed
-    (state_of c.self.inside.today (with_items c.self.inside.slots c.revise.new.slots).items c.revise.new.store.kept) e in
+    let e = c.revise.ensures.state
+    ∙ ap (λ (k : List Kept). revised c.args.composite (terms_of.Composite c.in_ok-changed.changed) (state_of c.self.inside.today c.self.inside.objects k)) c.in_ok-rewatch.ensures.rewatched.kept in
+    let d = member_changed c.self.inside.today c.self.inside.objects c.self.inside.store.kept c.self.inside.scratch c.self.invariant.0 c.args.composite c.args.member c.args.weight is differs c.in_ok-changed.changed reweighed
+    (state_of c.self.inside.today c.revise.new.objects c.revise.new.store.kept) e in
     d.sound calc (subst (IsSound calc) (sym c.self.view_is) sound)

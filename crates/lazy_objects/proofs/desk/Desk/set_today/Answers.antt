@@ -1,9 +1,5 @@
-use Rattle.std.proofs.Common.{◌≡◌, ℕ, List, sym, ◌∙◌, ap, subst}
-use Rattle.std.specs.Prelude.{◌==◌}
-use Rattle.desk_model.specs.declared.slot.Slot.{Slot}
+use Rattle.std.proofs.Common.{◌≡◌, sym, ◌∙◌, ap, subst}
 use Rattle.desk_model.specs.State.{State}
-use Rattle.desk_model.specs.Told.{tell}
-use Rattle.desk_model.specs.Links.{IsLinked}
 use Rattle.desk_model.specs.Sound.{IsSound, KeepsCurrent}
 use Rattle.desk_model.specs.Effect.{today_set}
 use Rattle.lazy_objects.specs.Slots.{market_of, state_of}
@@ -15,44 +11,42 @@ use Rattle.lazy_objects.proofs.desk.Desk.set_today.Goals as goal
 pub returns-then-eq-clause-set : goal.returns-then-eq-clause-set
 returns-then-eq-clause-set c =
     subst (λ (s : State). s ≡ today_set c.args.day s) c.self.view_is
-    (today_same c.self.inside.today c.self.inside.slots.items c.self.inside.store.kept c.self.inside.scratch c.self.invariant.0 c.args.day (sym c.eq.ensures ∙ c.if-eq.true))
+    (today_same c.self.inside.today c.self.inside.objects c.self.inside.store.kept c.self.inside.scratch c.self.invariant.0 c.args.day (sym c.eq.ensures ∙ c.if-eq.true))
 
 pub tell_today-requires-clause-joined : goal.tell_today-requires-clause-joined
 tell_today-requires-clause-joined c =
-    subst (λ (l : List Slot). IsJoined (market_of c.args.day l) c.self.inside.store.shape) (sym c.deref.ensures.value)
-    (joined_day c.self.inside.today c.args.day c.self.inside.slots.items c.self.inside.store.shape c.self.invariant.1)
+    (joined_day c.self.inside.today c.args.day c.self.inside.objects c.self.inside.store.shape c.self.invariant.1)
 
 pub tell_today-requires-clause-unmarked : goal.tell_today-requires-clause-unmarked
-tell_today-requires-clause-unmarked c = unmarked (state_of c.self.inside.today c.self.inside.slots.items c.self.inside.store.kept) c.self.invariant.0.unheld
+tell_today-requires-clause-unmarked c = unmarked (state_of c.self.inside.today c.self.inside.objects c.self.inside.store.kept) c.self.invariant.0.unheld
 
 pub tell_today-requires-clause-linked : goal.tell_today-requires-clause-linked
 tell_today-requires-clause-linked c =
-    subst (λ (l : List Slot). IsLinked (market_of c.args.day l)) (sym c.deref.ensures.value)
-    (links_day c.self.inside.today c.args.day c.self.inside.slots.items c.self.invariant.0.whole.links)
+    (links_day c.self.inside.today c.args.day c.self.inside.objects c.self.invariant.0.whole.links)
 
 pub invariant_of-self : goal.invariant_of-self
 invariant_of-self c =
-    let e = subst (λ (l : List Slot). state_of c.args.day l c.tell_today.new.store.kept ≡ tell (λ y. y == 0) (state_of c.args.day l c.self.inside.store.kept)) c.deref.ensures.value c.tell_today.ensures.state in
-    let d = today_changed c.self.inside.today c.self.inside.slots.items c.self.inside.store.kept c.self.inside.scratch c.self.invariant.0 c.args.day (state_of c.args.day c.self.inside.slots.items c.tell_today.new.store.kept) (sym c.eq.ensures ∙ c.if-eq.false) e in (
+    let e = c.tell_today.ensures.state in
+    let d = today_changed c.self.inside.today c.self.inside.objects c.self.inside.store.kept c.self.inside.scratch c.self.invariant.0 c.args.day (state_of c.args.day c.self.inside.objects c.tell_today.new.store.kept) (sym c.eq.ensures ∙ c.if-eq.false) e in (
       d.stands,
-      subst (λ (h : Shape). IsJoined (market_of c.args.day c.self.inside.slots.items) h) (sym c.tell_today.ensures.shape)
-          (joined_day c.self.inside.today c.args.day c.self.inside.slots.items c.self.inside.store.shape c.self.invariant.1),
+      subst (λ (h : Shape). IsJoined (market_of c.args.day c.self.inside.objects) h) (sym c.tell_today.ensures.shape)
+          (joined_day c.self.inside.today c.args.day c.self.inside.objects c.self.inside.store.shape c.self.invariant.1),
     )
 
 pub returns-clause-set : goal.returns-clause-set
 returns-clause-set c =
-    let e = subst (λ (l : List Slot). state_of c.args.day l c.tell_today.new.store.kept ≡ tell (λ y. y == 0) (state_of c.args.day l c.self.inside.store.kept)) c.deref.ensures.value c.tell_today.ensures.state in
-    let d = today_changed c.self.inside.today c.self.inside.slots.items c.self.inside.store.kept c.self.inside.scratch c.self.invariant.0 c.args.day (state_of c.args.day c.self.inside.slots.items c.tell_today.new.store.kept) (sym c.eq.ensures ∙ c.if-eq.false) e in
+    let e = c.tell_today.ensures.state in
+    let d = today_changed c.self.inside.today c.self.inside.objects c.self.inside.store.kept c.self.inside.scratch c.self.invariant.0 c.args.day (state_of c.args.day c.self.inside.objects c.tell_today.new.store.kept) (sym c.eq.ensures ∙ c.if-eq.false) e in
     d.state ∙ ap (today_set c.args.day) c.self.view_is
 
 pub returns-clause-keeps : goal.returns-clause-keeps
 returns-clause-keeps c =
-    let e = subst (λ (l : List Slot). state_of c.args.day l c.tell_today.new.store.kept ≡ tell (λ y. y == 0) (state_of c.args.day l c.self.inside.store.kept)) c.deref.ensures.value c.tell_today.ensures.state in
-    let d = today_changed c.self.inside.today c.self.inside.slots.items c.self.inside.store.kept c.self.inside.scratch c.self.invariant.0 c.args.day (state_of c.args.day c.self.inside.slots.items c.tell_today.new.store.kept) (sym c.eq.ensures ∙ c.if-eq.false) e in
-    subst (λ (t : State). KeepsCurrent t (state_of c.args.day c.self.inside.slots.items c.tell_today.new.store.kept)) c.self.view_is d.keeps
+    let e = c.tell_today.ensures.state in
+    let d = today_changed c.self.inside.today c.self.inside.objects c.self.inside.store.kept c.self.inside.scratch c.self.invariant.0 c.args.day (state_of c.args.day c.self.inside.objects c.tell_today.new.store.kept) (sym c.eq.ensures ∙ c.if-eq.false) e in
+    subst (λ (t : State). KeepsCurrent t (state_of c.args.day c.self.inside.objects c.tell_today.new.store.kept)) c.self.view_is d.keeps
 
 pub returns-clause-sound : goal.returns-clause-sound
 returns-clause-sound c calc sound =
-    let e = subst (λ (l : List Slot). state_of c.args.day l c.tell_today.new.store.kept ≡ tell (λ y. y == 0) (state_of c.args.day l c.self.inside.store.kept)) c.deref.ensures.value c.tell_today.ensures.state in
-    let d = today_changed c.self.inside.today c.self.inside.slots.items c.self.inside.store.kept c.self.inside.scratch c.self.invariant.0 c.args.day (state_of c.args.day c.self.inside.slots.items c.tell_today.new.store.kept) (sym c.eq.ensures ∙ c.if-eq.false) e in
+    let e = c.tell_today.ensures.state in
+    let d = today_changed c.self.inside.today c.self.inside.objects c.self.inside.store.kept c.self.inside.scratch c.self.invariant.0 c.args.day (state_of c.args.day c.self.inside.objects c.tell_today.new.store.kept) (sym c.eq.ensures ∙ c.if-eq.false) e in
     d.sound calc (subst (IsSound calc) (sym c.self.view_is) sound)

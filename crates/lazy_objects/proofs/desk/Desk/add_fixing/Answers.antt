@@ -1,0 +1,139 @@
+use Rattle.std.proofs.Common.{arith, ◌≡◌, List, length, Some, sym, ◌∙◌, ap, subst}
+use Rattle.std.specs.Prelude.{Ok, Err}
+use Rattle.std.proofs.lemmas.Result.{err_from_is_err_and}
+use Rattle.std.proofs.lemmas.List.{length-set}
+use Rattle.desk_terms.specs.declared.terms.Terms.TheVariants.{Index}
+use Rattle.desk_terms.specs.declared.kind.Kind.TheVariants as kind
+use Rattle.flow_terms.specs.Fixings.{with_fixing}
+use Rattle.desk_model.specs.declared.slot.Slot.{Slot}
+use Rattle.desk_model.specs.declared.slot.Slot.TheVariants.{Live}
+use Rattle.desk_model.specs.Market.{kind_at}
+use Rattle.desk_model.specs.Uses.{index_at, fixings_in}
+use Rattle.desk_model.specs.State.{State}
+use Rattle.desk_model.specs.Links.{IsLinked}
+use Rattle.desk_model.specs.Sound.{IsSound, KeepsCurrent}
+use Rattle.desk_model.specs.Effect.{fixing_added}
+use Rattle.lazy_objects.specs.Slots.{market_of, state_of, AreUnwatched}
+use Rattle.lazy_objects.specs.Shape.{IsJoined}
+use Rattle.lazy_objects.proofs.Joined.{unmarked}
+use Rattle.lazy_objects.proofs.Telling.{given_set, unwatched_set}
+use Rattle.lazy_objects.proofs.Revised.{kind_within}
+use Rattle.lazy_objects.proofs.Ends.{keeps_same}
+use Rattle.lazy_objects.proofs.Stored.{index_there, fixings_are, refused_as, joined_fixing, fixing_links, fixing_left}
+use Rattle.lazy_objects.proofs.desk.Desk.add_fixing.Goals as goal
+
+pub returns-in_err-store_fixing-clause-exists : goal.returns-in_err-store_fixing-clause-exists
+returns-in_err-store_fixing-clause-exists c kept =
+    let is = subst (λ (t : State). kind_at t.market c.args.index ≡ Some kind.Index) (sym c.self.view_is) c.requires.index in
+    let f = index_there (market_of c.self.inside.today c.self.inside.objects) c.args.index is in
+    let p = err_from_is_err_and c.from_residual.result c.from_residual.ensures.1 in
+    refused_as f.1 (fixings_in (index_at c.args.self.now.market (Some c.args.index))) c.store_fixing.result c.from_residual.result c.args.day kept
+    (ap (λ (t : State). fixings_in (index_at t.market (Some c.args.index))) (sym c.self.view_is) ∙ fixings_are (market_of c.self.inside.today c.self.inside.objects) c.args.index f.0 f.1 f.2)
+    (p.1 ∙ ap Err p.2 ∙ sym c.in_err-store_fixing.was)
+    (c.store_fixing.ensures.exists f.0 f.1 f.2 kept)
+
+pub returns-in_err-store_fixing-clause-keeps : goal.returns-in_err-store_fixing-clause-keeps
+returns-in_err-store_fixing-clause-keeps c =
+    let same = c.in_err-store_fixing.ensures.same in
+    subst (λ (t : State). KeepsCurrent t (state_of c.self.inside.today c.store_fixing.new.self c.self.inside.store.kept)) c.self.view_is
+    (subst (λ (l : List Slot). KeepsCurrent (state_of c.self.inside.today c.self.inside.objects c.self.inside.store.kept) (state_of c.self.inside.today l c.self.inside.store.kept)) (sym same)
+    (keeps_same (state_of c.self.inside.today c.self.inside.objects c.self.inside.store.kept) c.self.inside.scratch c.self.invariant.0))
+
+pub tell_changed-requires-clause-within : goal.tell_changed-requires-clause-within
+tell_changed-requires-clause-within c =
+    let is = subst (λ (t : State). kind_at t.market c.args.index ≡ Some kind.Index) (sym c.self.view_is) c.requires.index in
+    let f = index_there (market_of c.self.inside.today c.self.inside.objects) c.args.index is in
+    let are = c.in_ok-store_fixing.ensures.added f.0 f.1 f.2 in
+    let long = ap (λ (l : List Slot). length l) are ∙ length-set c.self.inside.objects c.args.index (Live (Index f.0 (with_fixing f.1 c.args.day c.args.rate))) in
+    let within = kind_within c.self.inside.objects c.self.inside.today c.args.index kind.Index is in
+    omega (arith, long, within)
+
+pub tell_changed-requires-clause-kept : goal.tell_changed-requires-clause-kept
+tell_changed-requires-clause-kept c =
+    let is = subst (λ (t : State). kind_at t.market c.args.index ≡ Some kind.Index) (sym c.self.view_is) c.requires.index in
+    let f = index_there (market_of c.self.inside.today c.self.inside.objects) c.args.index is in
+    let are = c.in_ok-store_fixing.ensures.added f.0 f.1 f.2 in
+    c.self.invariant.0.whole.length ∙ sym (ap (λ (l : List Slot). length l) are ∙ length-set c.self.inside.objects c.args.index (Live (Index f.0 (with_fixing f.1 c.args.day c.args.rate))))
+
+pub tell_changed-requires-clause-live : goal.tell_changed-requires-clause-live
+tell_changed-requires-clause-live c =
+    let is = subst (λ (t : State). kind_at t.market c.args.index ≡ Some kind.Index) (sym c.self.view_is) c.requires.index in
+    let f = index_there (market_of c.self.inside.today c.self.inside.objects) c.args.index is in
+    let are = c.in_ok-store_fixing.ensures.added f.0 f.1 f.2 in
+    given_set c.self.inside.objects c.store_fixing.new.self c.args.index (Index f.0 (with_fixing f.1 c.args.day c.args.rate)) are (kind_within c.self.inside.objects c.self.inside.today c.args.index kind.Index is)
+
+pub tell_changed-requires-clause-joined : goal.tell_changed-requires-clause-joined
+tell_changed-requires-clause-joined c =
+    let is = subst (λ (t : State). kind_at t.market c.args.index ≡ Some kind.Index) (sym c.self.view_is) c.requires.index in
+    let f = index_there (market_of c.self.inside.today c.self.inside.objects) c.args.index is in
+    let are = c.in_ok-store_fixing.ensures.added f.0 f.1 f.2 in
+    subst (λ (l : List Slot). IsJoined (market_of c.self.inside.today l) c.self.inside.store.shape) (sym are)
+    (joined_fixing c.self.inside.today c.self.inside.objects c.self.inside.store.shape c.args.index f.0 f.1 (with_fixing f.1 c.args.day c.args.rate) c.self.invariant.1 (kind_within c.self.inside.objects c.self.inside.today c.args.index kind.Index is) f.2)
+
+pub tell_changed-requires-clause-unmarked : goal.tell_changed-requires-clause-unmarked
+tell_changed-requires-clause-unmarked c =
+    unmarked (state_of c.self.inside.today c.self.inside.objects c.self.inside.store.kept) c.self.invariant.0.unheld
+
+pub tell_changed-requires-clause-unwatched : goal.tell_changed-requires-clause-unwatched
+tell_changed-requires-clause-unwatched c =
+    let is = subst (λ (t : State). kind_at t.market c.args.index ≡ Some kind.Index) (sym c.self.view_is) c.requires.index in
+    let f = index_there (market_of c.self.inside.today c.self.inside.objects) c.args.index is in
+    let are = c.in_ok-store_fixing.ensures.added f.0 f.1 f.2 in
+    subst AreUnwatched (sym are) (unwatched_set c.self.inside.objects c.args.index (Index f.0 (with_fixing f.1 c.args.day c.args.rate)) (kind_within c.self.inside.objects c.self.inside.today c.args.index kind.Index is) c.self.invariant.0.unwatched)
+
+pub tell_changed-requires-clause-linked : goal.tell_changed-requires-clause-linked
+tell_changed-requires-clause-linked c =
+    let is = subst (λ (t : State). kind_at t.market c.args.index ≡ Some kind.Index) (sym c.self.view_is) c.requires.index in
+    let f = index_there (market_of c.self.inside.today c.self.inside.objects) c.args.index is in
+    let are = c.in_ok-store_fixing.ensures.added f.0 f.1 f.2 in
+    subst (λ (l : List Slot). IsLinked (market_of c.self.inside.today l)) (sym are)
+    (fixing_links c.self.inside.today c.self.inside.objects c.self.inside.store.kept c.self.inside.scratch c.self.invariant.0 c.args.index f.0 f.1 c.args.day c.args.rate f.2)
+
+pub invariant_of-self-2 : goal.invariant_of-self-2
+invariant_of-self-2 c =
+    let is = subst (λ (t : State). kind_at t.market c.args.index ≡ Some kind.Index) (sym c.self.view_is) c.requires.index in
+    let f = index_there (market_of c.self.inside.today c.self.inside.objects) c.args.index is in
+    let are = c.in_ok-store_fixing.ensures.added f.0 f.1 f.2 in
+    let d = fixing_left c.self.inside.today c.self.inside.objects c.store_fixing.new.self c.self.inside.store c.tell_changed.new.store c.self.inside.scratch c.args.index f.0 f.1 c.args.day c.args.rate
+    c.self.invariant.0 c.self.invariant.1 (kind_within c.self.inside.objects c.self.inside.today c.args.index kind.Index is) f.2 are
+    c.tell_changed.ensures.state c.tell_changed.ensures.shape in
+    (d.changed.stands, d.joined)
+
+pub returns-clause-exists : goal.returns-clause-exists
+returns-clause-exists c kept =
+    let is = subst (λ (t : State). kind_at t.market c.args.index ≡ Some kind.Index) (sym c.self.view_is) c.requires.index in
+    let f = index_there (market_of c.self.inside.today c.self.inside.objects) c.args.index is in
+    refused_as f.1 (fixings_in (index_at c.args.self.now.market (Some c.args.index))) c.store_fixing.result (Ok tt) c.args.day kept
+    (ap (λ (t : State). fixings_in (index_at t.market (Some c.args.index))) (sym c.self.view_is) ∙ fixings_are (market_of c.self.inside.today c.self.inside.objects) c.args.index f.0 f.1 f.2)
+    (sym c.in_ok-store_fixing.was)
+    (c.store_fixing.ensures.exists f.0 f.1 f.2 kept)
+
+pub returns-clause-added : goal.returns-clause-added
+returns-clause-added c =
+    let is = subst (λ (t : State). kind_at t.market c.args.index ≡ Some kind.Index) (sym c.self.view_is) c.requires.index in
+    let f = index_there (market_of c.self.inside.today c.self.inside.objects) c.args.index is in
+    let are = c.in_ok-store_fixing.ensures.added f.0 f.1 f.2 in
+    let d = fixing_left c.self.inside.today c.self.inside.objects c.store_fixing.new.self c.self.inside.store c.tell_changed.new.store c.self.inside.scratch c.args.index f.0 f.1 c.args.day c.args.rate
+    c.self.invariant.0 c.self.invariant.1 (kind_within c.self.inside.objects c.self.inside.today c.args.index kind.Index is) f.2 are
+    c.tell_changed.ensures.state c.tell_changed.ensures.shape in
+    d.changed.state ∙ ap (fixing_added c.args.index c.args.day c.args.rate) c.self.view_is
+
+pub returns-clause-keeps : goal.returns-clause-keeps
+returns-clause-keeps c =
+    let is = subst (λ (t : State). kind_at t.market c.args.index ≡ Some kind.Index) (sym c.self.view_is) c.requires.index in
+    let f = index_there (market_of c.self.inside.today c.self.inside.objects) c.args.index is in
+    let are = c.in_ok-store_fixing.ensures.added f.0 f.1 f.2 in
+    let d = fixing_left c.self.inside.today c.self.inside.objects c.store_fixing.new.self c.self.inside.store c.tell_changed.new.store c.self.inside.scratch c.args.index f.0 f.1 c.args.day c.args.rate
+    c.self.invariant.0 c.self.invariant.1 (kind_within c.self.inside.objects c.self.inside.today c.args.index kind.Index is) f.2 are
+    c.tell_changed.ensures.state c.tell_changed.ensures.shape in
+    subst (λ (t : State). KeepsCurrent t (state_of c.self.inside.today c.store_fixing.new.self c.tell_changed.new.store.kept)) c.self.view_is d.changed.keeps
+
+pub returns-clause-sound : goal.returns-clause-sound
+returns-clause-sound c calc sound =
+    let is = subst (λ (t : State). kind_at t.market c.args.index ≡ Some kind.Index) (sym c.self.view_is) c.requires.index in
+    let f = index_there (market_of c.self.inside.today c.self.inside.objects) c.args.index is in
+    let are = c.in_ok-store_fixing.ensures.added f.0 f.1 f.2 in
+    let d = fixing_left c.self.inside.today c.self.inside.objects c.store_fixing.new.self c.self.inside.store c.tell_changed.new.store c.self.inside.scratch c.args.index f.0 f.1 c.args.day c.args.rate
+    c.self.invariant.0 c.self.invariant.1 (kind_within c.self.inside.objects c.self.inside.today c.args.index kind.Index is) f.2 are
+    c.tell_changed.ensures.state c.tell_changed.ensures.shape in
+    d.changed.sound calc (subst (IsSound calc) (sym c.self.view_is) sound)

@@ -18,13 +18,16 @@ pub(crate) const MARKET: &[u8] = b"version = 1\ntoday = \"2024-01-02\"\n";
 const ROOM: usize = 100_000;
 
 // `scripts` has scripts of which no command is refused, `refused` those with refused commands or a fault, `faults` those
-// that have a fault, `unset` those that take values away from quotes, and `graphs` those of all commands that are built.
+// that have a fault, `unset` those that take values away from quotes, `graphs` those of composites and derived quotes, and
+// `handles` those of all commands that are built, 200 of them with links, cycles, drops of linked targets and names made
+// again.
 fn main(rt: HostRuntime) -> io::Result<()> {
     compare(&rt, "scripts")?;
     compare(&rt, "refused")?;
     compare(&rt, "faults")?;
     compare(&rt, "unset")?;
     compare(&rt, "graphs")?;
+    compare(&rt, "handles")?;
     calls::compare(&rt)
 }
 

@@ -1,6 +1,7 @@
 -- Which changes leave every object's life, and so its name, as it was.
-use Rattle.std.proofs.Common.{◌≡◌, ◌≢◌, inl, inr, ℕ, ◌<◌, ◌≤◌, ◌+◌, ◌-◌, Bool, true, false, ◌||◌, length, List, Option, Some, None, ℤ, refl, sym, ◌∙◌, ap, subst, arith}
+use Rattle.std.proofs.Common.{◌≡◌, ◌≢◌, inl, inr, ℕ, ◌<◌, ◌≤◌, ◌+◌, ◌-◌, Bool, true, false, ◌||◌, length, List, Option, Some, None, ℤ, if◌then◌else◌, refl, sym, ◌∙◌, ap, subst, arith}
 use Rattle.std.specs.Prelude.{slice_index_or, slice_set, nat_le, Result, Ok, Err, OnOk, OnErr}
+use Rattle.std.specs.Ordering.{int_eq}
 use Rattle.std.proofs.lemmas.List.{get_or-set_same, get_or-set_other, length-set}
 use Rattle.std.proofs.lemmas.Option.{get_or_from_slice_get, slice_get_read}
 use Rattle.std.proofs.lemmas.Bool.{cases_eq, false≢true, leb-false}
@@ -17,7 +18,7 @@ use Rattle.desk_model.specs.Told.{tell}
 use Rattle.desk_model.specs.Visit.{runs, stored, asked}
 use Rattle.desk_model.specs.Held.{Changeable, changeable}
 use Rattle.desk_model.specs.Held.Changeable.{HasValue, HasTarget, HasFixings, HasParts, HasEngine, HasNone}
-use Rattle.desk_model.specs.Effect.{notified_as, notified, with_terms, revised, revised_unless, value_set, quote_set, weight_set, member_set, dropped}
+use Rattle.desk_model.specs.Effect.{notified_as, notified, with_terms, revised, revised_unless, value_set, quote_set, target_set, relinked, priced_by_engine, engine_set, weight_set, member_set, fixing_stored, fixing_added, with_today, today_set, dropped}
 use Rattle.session_model.specs.declared.place.Place.TheVariants.{Droppable}
 use Rattle.session_model.specs.Place.{takes_found}
 use Rattle.session_model.specs.Standing.{Standing, is_full}
@@ -123,6 +124,30 @@ module _ (s : State) (x : ℕ) (there : IsDroppable s.market x) where
   alike_weight (HasEngine flows held) member weight = alike_same s.market s.market refl
   alike_weight HasNone member weight = alike_same s.market s.market refl
 
+  alike_target : (c : Changeable) (target : Option ℕ) → AreAlike s.market (target_set c x target s).market
+  alike_target (HasValue held) target = alike_same s.market s.market refl
+  alike_target (HasTarget kind held) target = alike_unless _ _
+  alike_target (HasFixings terms fixings) target = alike_same s.market s.market refl
+  alike_target (HasParts parts) target = alike_same s.market s.market refl
+  alike_target (HasEngine flows held) target = alike_same s.market s.market refl
+  alike_target HasNone target = alike_same s.market s.market refl
+
+  alike_engine : (c : Changeable) (engine : Option ℕ) → AreAlike s.market (priced_by_engine c x engine s).market
+  alike_engine (HasValue held) engine = alike_same s.market s.market refl
+  alike_engine (HasTarget kind held) engine = alike_same s.market s.market refl
+  alike_engine (HasFixings terms fixings) engine = alike_same s.market s.market refl
+  alike_engine (HasParts parts) engine = alike_same s.market s.market refl
+  alike_engine (HasEngine flows held) engine = alike_revised _
+  alike_engine HasNone engine = alike_same s.market s.market refl
+
+  alike_fixing : (c : Changeable) (day rate : ℤ) → AreAlike s.market (fixing_stored c x day rate s).market
+  alike_fixing (HasValue held) day rate = alike_same s.market s.market refl
+  alike_fixing (HasTarget kind held) day rate = alike_same s.market s.market refl
+  alike_fixing (HasFixings terms fixings) day rate = alike_revised _
+  alike_fixing (HasParts parts) day rate = alike_same s.market s.market refl
+  alike_fixing (HasEngine flows held) day rate = alike_same s.market s.market refl
+  alike_fixing HasNone day rate = alike_same s.market s.market refl
+
 abbrev to : (s t u : State) → t ≡ u → AreAlike s.market u.market → AreAlike s.market t.market
 to s t u same alike = subst (λ (v : State). AreAlike s.market v.market) (sym same) alike
 
@@ -139,6 +164,43 @@ unfolding member_set
 member_alike s t k member weight (Ok x) there is same =
     to s t (member_set k member weight s) is (alike_weight s k there (changeable (terms_at s.market k)) member weight)
 member_alike s t k member weight (Err e) there is same = to s t s same (alike_same s.market s.market refl)
+
+pub link_alike : {A E : Type 0} (s t : State) (h : ℕ) (target : Option ℕ) (result : Result A E)
+    → IsDroppable s.market h → OnOk result (t ≡ relinked h target s) → OnErr result (t ≡ s)
+    → AreAlike s.market t.market
+unfolding relinked
+link_alike s t h target (Ok x) there is same =
+    to s t (relinked h target s) is (alike_target s h there (changeable (terms_at s.market h)) target)
+link_alike s t h target (Err e) there is same = to s t s same (alike_same s.market s.market refl)
+
+pub engine_alike : {A E : Type 0} (s t : State) (i : ℕ) (engine : Option ℕ) (result : Result A E)
+    → IsDroppable s.market i → OnOk result (t ≡ engine_set i engine s) → OnErr result (t ≡ s)
+    → AreAlike s.market t.market
+unfolding engine_set
+engine_alike s t i engine (Ok x) there is same =
+    to s t (engine_set i engine s) is (alike_engine s i there (changeable (terms_at s.market i)) engine)
+engine_alike s t i engine (Err e) there is same = to s t s same (alike_same s.market s.market refl)
+
+pub fixing_alike : {A E : Type 0} (s t : State) (x : ℕ) (day rate : ℤ) (result : Result A E)
+    → IsDroppable s.market x → OnOk result (t ≡ fixing_added x day rate s) → OnErr result (t ≡ s)
+    → AreAlike s.market t.market
+unfolding fixing_added
+fixing_alike s t x day rate (Ok y) there is same =
+    to s t (fixing_added x day rate s) is (alike_fixing s x there (changeable (terms_at s.market x)) day rate)
+fixing_alike s t x day rate (Err e) there is same = to s t s same (alike_same s.market s.market refl)
+
+-- another evaluation date
+pub today_alike : (s t : State) (day : ℤ) → t ≡ today_set day s → AreAlike s.market t.market
+unfolding today_set
+today_alike s t day is = to s t (today_set day s) is (by (int_eq s.market.today day))
+  where
+    by : (b : Bool) → AreAlike s.market (if b then s else notified 0 (with_today day s)).market
+    by true = alike_same s.market s.market refl
+    by false = record {
+      length = ap (λ (m : Market). length m.objects) (notified_market 0 (with_today day s));
+      given = λ o. ap (λ (m : Market). is_given (slot_at m o)) (notified_market 0 (with_today day s));
+      today = λ is. ap (λ (m : Market). slot_at m 0) (notified_market 0 (with_today day s)) ∙ is;
+    }
 
 pub stored_alike : (s t : State) (calls : List (ℕ × Outcome)) → t ≡ stored s calls → AreAlike s.market t.market
 unfolding stored

@@ -157,7 +157,7 @@ count_less (x ∷ xs) zero given = ap (λ (b : Bool). if b then suc (count_live 
 count_less (x ∷ xs) (suc o) given =
     one_more (is_given x) (count_live xs) (count_live (slice_set xs o Free)) (count_less xs o given)
 
-none_some : {A : Type 0} {a : A} → None ≡ Some a → ⊥
+pub none_some : {A : Type 0} {a : A} → None ≡ Some a → ⊥
 none_some e = cc
 
 -- an object is made under a name that no live object has

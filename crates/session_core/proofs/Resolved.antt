@@ -1,7 +1,8 @@
 -- What a command that is not refused found.
-use Rattle.std.proofs.Common.{◌≡◌, ℕ, ◌<◌, Bool, true, false, if◌then◌else◌, length, [], Option, Some, None, Result, Ok, Err, ℤ, refl, sym, subst}
-use Rattle.std.specs.Prelude.{IfOk, is_some}
+use Rattle.std.proofs.Common.{◌≡◌, ℕ, ◌<◌, ◌≤◌, ◌≤ℤ◌, pos, negsuc, neg_ℤ, arith, Bool, true, false, if◌then◌else◌, length, [], Option, Some, None, Result, Ok, Err, ℤ, refl, sym, subst}
+use Rattle.std.specs.Prelude.{IfOk, is_some, unsigned_abs}
 use Rattle.std.proofs.lemmas.Bool.{false≢true}
+use Rattle.std.proofs.lemmas.Int.{ints}
 use Rattle.desk_terms.specs.declared.terms.Terms.{Terms}
 use Rattle.desk_terms.specs.declared.terms.Terms.TheVariants as terms
 use Rattle.desk_terms.specs.declared.kind.Kind.{Kind}
@@ -10,7 +11,10 @@ use Rattle.desk_terms.specs.declared.kind.Wanted.{Wanted}
 use Rattle.desk_terms.specs.declared.kind.Wanted.TheVariants as wanted
 use Rattle.desk_model.specs.declared.slot.Slot.{Slot}
 use Rattle.desk_model.specs.declared.slot.Slot.TheVariants.{Free, Today, Watcher, Live}
-use Rattle.desk_model.specs.Market.{Market, slot_at, is_given, kind_in, kind_at, terms_in, role_of, is_lazy, least_user}
+use Rattle.desk_model.specs.Market.{slot_at, kind_in, kind_at, terms_in, role_of, is_lazy, least_user}
+use Rattle.desk_terms.specs.Kind.{role}
+use Rattle.desk_terms.specs.Terms.{kind_of}
+use Rattle.flow_terms.specs.Fixings.{IsRate}
 use Rattle.desk_model.specs.Links.{AreOfKind, serves_as}
 use Rattle.desk_terms.specs.Reading.{AreInRange}
 use Rattle.session_commands.specs.declared.command.Command.{Command}
@@ -26,9 +30,8 @@ use Rattle.session_model.specs.declared.place.Place.{Place}
 use Rattle.session_model.specs.declared.place.Place.TheVariants as place
 use Rattle.session_model.specs.Place.{takes_found}
 use Rattle.session_model.specs.Standing.{Standing, object_named, is_full, IsKnown}
-use Rattle.session_model.specs.Resolve.{found, find, with_found, unless, unless_used, unless_taken, joins, made, quote_input, member, resolve}
+use Rattle.session_model.specs.Resolve.{found, find, with_found, unless, unless_used, unless_kept, unless_taken, closes, joins, rate_at, target_of, handle_kind, engaged, made, quote_input, member, curve, index, engine, resolve}
 use Rattle.session_core.specs.Allowed.{IsAllowed}
-use Rattle.session_core.proofs.Alike.{given_of_kind}
 
 -- what is found is of a kind that the place takes
 pub find_taken : (w : Place) (p : Standing) (name o : ℕ) → find w p name ≡ Ok o
@@ -82,6 +85,73 @@ taken_composite (Some kind.Composite) e = refl
 taken_composite (Some kind.Flows) e = absurd (false≢true e)
 taken_composite (Some kind.Watcher) e = absurd (false≢true e)
 
+taken_flows : (k : Option Kind) → takes_found place.Flows k ≡ true → k ≡ Some kind.Flows
+taken_flows None e = absurd (false≢true e)
+taken_flows (Some kind.Today) e = absurd (false≢true e)
+taken_flows (Some kind.Quote) e = absurd (false≢true e)
+taken_flows (Some kind.Derived) e = absurd (false≢true e)
+taken_flows (Some kind.QuoteHandle) e = absurd (false≢true e)
+taken_flows (Some kind.CurveHandle) e = absurd (false≢true e)
+taken_flows (Some kind.Index) e = absurd (false≢true e)
+taken_flows (Some kind.Engine) e = absurd (false≢true e)
+taken_flows (Some kind.Curve) e = absurd (false≢true e)
+taken_flows (Some kind.Implied) e = absurd (false≢true e)
+taken_flows (Some kind.Stock) e = absurd (false≢true e)
+taken_flows (Some kind.Composite) e = absurd (false≢true e)
+taken_flows (Some kind.Flows) e = refl
+taken_flows (Some kind.Watcher) e = absurd (false≢true e)
+
+taken_index : (k : Option Kind) → takes_found (place.Input wanted.Index) k ≡ true → k ≡ Some kind.Index
+taken_index None e = absurd (false≢true e)
+taken_index (Some kind.Today) e = absurd (false≢true e)
+taken_index (Some kind.Quote) e = absurd (false≢true e)
+taken_index (Some kind.Derived) e = absurd (false≢true e)
+taken_index (Some kind.QuoteHandle) e = absurd (false≢true e)
+taken_index (Some kind.CurveHandle) e = absurd (false≢true e)
+taken_index (Some kind.Index) e = refl
+taken_index (Some kind.Engine) e = absurd (false≢true e)
+taken_index (Some kind.Curve) e = absurd (false≢true e)
+taken_index (Some kind.Implied) e = absurd (false≢true e)
+taken_index (Some kind.Stock) e = absurd (false≢true e)
+taken_index (Some kind.Composite) e = absurd (false≢true e)
+taken_index (Some kind.Flows) e = absurd (false≢true e)
+taken_index (Some kind.Watcher) e = absurd (false≢true e)
+
+-- a curve or an implied curve is priced
+curve_lazy : (k : Kind) → takes_found (place.Input wanted.CurveTarget) (Some k) ≡ true → is_lazy (role k) ≡ true
+curve_lazy kind.Today e = absurd (false≢true e)
+curve_lazy kind.Quote e = absurd (false≢true e)
+curve_lazy kind.Derived e = absurd (false≢true e)
+curve_lazy kind.QuoteHandle e = absurd (false≢true e)
+curve_lazy kind.CurveHandle e = absurd (false≢true e)
+curve_lazy kind.Index e = absurd (false≢true e)
+curve_lazy kind.Engine e = absurd (false≢true e)
+curve_lazy kind.Curve e = refl
+curve_lazy kind.Implied e = refl
+curve_lazy kind.Stock e = absurd (false≢true e)
+curve_lazy kind.Composite e = absurd (false≢true e)
+curve_lazy kind.Flows e = absurd (false≢true e)
+curve_lazy kind.Watcher e = absurd (false≢true e)
+
+taken_curve : (slot : Slot) → takes_found (place.Input wanted.CurveTarget) (kind_in slot) ≡ true
+    → is_lazy (role_of (terms_in slot)) ≡ true
+taken_curve Free e = absurd (false≢true e)
+taken_curve Today e = absurd (false≢true e)
+taken_curve (Watcher action) e = absurd (false≢true e)
+taken_curve (Live terms) e = curve_lazy (kind_of terms) e
+
+-- a rate of at most 10 either way
+rate_low : (rate : ℤ) → unsigned_abs rate ≤ 10_000_000_000 → neg_ℤ (pos 10_000_000_000) ≤ℤ rate
+rate_low (pos n) e = omega (arith, ints)
+rate_low (negsuc n) e = omega (arith, ints)
+
+rate_high : (rate : ℤ) → unsigned_abs rate ≤ 10_000_000_000 → rate ≤ℤ pos 10_000_000_000
+rate_high (pos n) e = omega (arith, ints)
+rate_high (negsuc n) e = omega (arith, ints)
+
+rate_within : (rate : ℤ) → unsigned_abs rate ≤ 10_000_000_000 → IsRate rate
+rate_within rate e = (rate_low rate e, rate_high rate e)
+
 taken_lazy : (slot : Slot) → takes_found place.Priced (kind_in slot) ≡ true → is_lazy (role_of (terms_in slot)) ≡ true
 taken_lazy Free e = absurd (false≢true e)
 taken_lazy Today e = absurd (false≢true e)
@@ -90,6 +160,10 @@ taken_lazy (Live terms) e = e
 
 -- every act that these lead to is allowed
 module _ (p : Standing) where
+  empty_inputs : (is_curve : Bool) → AreOfKind p.state.market (Some (terms.Handle (handle_kind is_curve) None))
+  empty_inputs true = tt
+  empty_inputs false = tt
+
   abbrev AllAllowed : Result Act Refusal → Type 0
   AllAllowed r = IfOk r (IsAllowed p)
 
@@ -132,6 +206,30 @@ module _ (p : Standing) where
       by true e = tt
       by false e = all e
 
+  uncycled : (x y : ℕ) → (closes p.state.market x y ≡ false → IsAllowed p (act.Link x (Some y)))
+      → AllAllowed (unless (closes p.state.market x y) refusal.Cycle (act.Link x (Some y)))
+  unfolding unless
+  uncycled x y all = by (closes p.state.market x y) refl
+    where
+      by : (b : Bool) → closes p.state.market x y ≡ b
+          → AllAllowed (if b then Err refusal.Cycle else Ok (act.Link x (Some y)))
+      by true e = tt
+      by false e = all e
+
+  engages : (x : ℕ) (e : Option ℕ) → kind_at p.state.market x ≡ Some kind.Flows → AllAllowed (engaged p x e)
+  engages x None is = record { instrument = is; engine = tt }
+  engages x (Some e) is =
+      finds engine e _ (λ y taken. record { instrument = is; engine = (taken_input _ wanted.Engine taken, tt) })
+
+  unkept : (x : ℕ) (day rate : ℤ) → (rate_at p.state.market x day ≡ None → IsAllowed p (act.Fixing x day rate))
+      → AllAllowed (unless_kept (rate_at p.state.market x day) (act.Fixing x day rate))
+  unfolding unless_kept
+  unkept x day rate all = by (rate_at p.state.market x day) refl
+    where
+      by : (r : Option ℤ) → rate_at p.state.market x day ≡ r → AllAllowed (unless_kept r (act.Fixing x day rate))
+      by None e = all e
+      by (Some kept) e = tt
+
   unused : (x : ℕ) → (least_user p.state.market x ≡ None → IsAllowed p (act.Drop x))
       → AllAllowed (unless_used (least_user p.state.market x) (act.Drop x))
   unfolding unless_used
@@ -159,7 +257,8 @@ module _ (p : Standing) where
   allowed (command.Quote name value) known = untaken name _ (may_make name (terms.Quote value) known.first tt tt)
   allowed (command.Sum name a b) known = untaken name _ (derives name a b false known.first)
   allowed (command.Difference name a b) known = untaken name _ (derives name a b true known.first)
-  allowed (command.Handle name is_curve) known = tt
+  allowed (command.Handle name is_curve) known =
+      untaken name _ (may_make name (terms.Handle (handle_kind is_curve) None) known.first tt (empty_inputs is_curve))
   allowed (command.Stock name q) known =
       untaken name _ (λ free. finds quote_input q _
       (λ x is. may_make name (terms.Stock x) known.first tt (taken_input _ wanted.QuoteInput is, tt) free))
@@ -173,11 +272,20 @@ module _ (p : Standing) where
       })))
   allowed (command.Set q value) known = finds place.Quote q _ (λ x is. taken_quote _ is)
   allowed (command.Unset q) known = finds place.Quote q _ (λ x is. taken_quote _ is)
-  allowed (command.Link h t) known = tt
-  allowed (command.Unlink h) known = tt
-  allowed (command.Engine i e) known = tt
+  allowed (command.Link h t) known =
+      finds place.Handle h _ (λ x is_handle. finds (target_of p.state.market x) t _ (λ y is. uncycled x y (λ clear. record {
+        handle = is_handle;
+        target = record { taken = is; opens = clear };
+      })))
+  allowed (command.Unlink h) known = finds place.Handle h _ (λ x is. record { handle = is; target = tt })
+  allowed (command.Engine i e) known = finds place.Flows i _ (λ x is. engages x e (taken_flows _ is))
   allowed (command.Today day) known = tt
-  allowed (command.Fixing x day rate) known = tt
+  allowed (command.Fixing x day rate) known =
+      finds index x _ (λ y is. unkept y day rate (λ free. record {
+        index = taken_index _ is;
+        rate = rate_within rate known.third;
+        free = free;
+      }))
   allowed (command.Freeze o) known = tt
   allowed (command.Thaw o) known = tt
   allowed (command.Recalc o) known = tt
@@ -190,7 +298,7 @@ module _ (p : Standing) where
   allowed (command.Drop o) known =
       finds place.Droppable o _ (λ x is. unused x (λ free. record { taken = is; unused = free }))
   allowed (command.Ask o) known = finds place.Priced o _ (λ x is. taken_lazy (slot_at p.state.market x) is)
-  allowed (command.Df c day) known = tt
+  allowed (command.Df c day) known = finds curve c _ (λ x is. taken_curve (slot_at p.state.market x) is)
 
 pub allowed_act : (p : Standing) (c : Command) (a : Act) → IsKnown p c → Ok a ≡ resolve p c → IsAllowed p a
 allowed_act p c a known is = subst (λ (r : Result Act Refusal). IfOk r (IsAllowed p)) (sym is) (allowed p c known)

@@ -4,6 +4,7 @@ use Rattle.std.specs.Prelude.{take, OnOk, OnErr}
 use Rattle.std.proofs.lemmas.List.{append-nil, length-append}
 use Rattle.desk_terms.specs.declared.terms.Terms.{Terms}
 use Rattle.desk_terms.specs.declared.asked.Asked.{Asked}
+use Rattle.desk_terms.specs.declared.cause.Cause.{Cause}
 use Rattle.desk_terms.specs.declared.asked.Mark.{Mark}
 use Rattle.desk_terms.specs.Reading.{Outcome, Calc}
 use Rattle.desk_terms.specs.Bench.{counted, logged}
@@ -15,12 +16,12 @@ use Rattle.lazy_objects.specs.Asks as asks
 use Rattle.session_commands.specs.declared.command.Command.{Command}
 use Rattle.session_commands.specs.declared.refusal.Refusal.{Refusal}
 use Rattle.session_commands.specs.Parts.{command_word}
-use Rattle.price_report.specs.Line.{asked_line, refusal_line}
+use Rattle.price_report.specs.Line.{asked_line, df_line, refusal_line}
 use Rattle.session_model.specs.declared.act.Act.{Act}
 use Rattle.session_model.specs.declared.act.Act.TheVariants as act
 use Rattle.session_model.specs.Standing.{Standing}
 use Rattle.session_model.specs.Resolve.{resolve}
-use Rattle.session_model.specs.Turn.{Turn, step, effect_of, done_as, turn}
+use Rattle.session_model.specs.Turn.{Turn, step, discount_in, effect_of, done_as, turn}
 use Rattle.session_core.specs.Steps.{with_object, with_state, Does, Ends, Carries, BreaksOff, Steps, Stops, outcomes_of}
 
 abbrev Log : Type 0
@@ -79,84 +80,142 @@ ends_at_once t outcomes old new lines_old lines_new count log same none = record
   others = same ∙ ap (λ (p : Standing). record old { state = p.state; stopped = p.stopped }) (sym same);
 }
 
--- an ask whose line is written
-pub ask_carries : (calc : Calc) (name o : ℕ) (old new : Standing) (lines_old lines_new : List ℕ) (answer : Asked)
-    (count_old count_new : ℕ) (log_old log_new : Log)
-    → asks.Asks calc o old.state new.state answer count_old count_new log_old log_new
-    → new ≡ record old { state = new.state }
-    → lines_new ≡ lines_old ++ asked_line old.names old.of_object name (shows calc old.state o) answer.mark answer.runs
-    → Carries calc (act.Ask name o) old new lines_old lines_new count_old count_new log_old log_new
-unfolding effect_of step
-ask_carries calc name o old new lines_old lines_new answer count_old count_new log_old log_new a same written = record {
-  next = same ∙ ap (λ (s : State). record old { state = s }) a.state;
-  written = written
-      ∙ ap (λ (m : Mark). lines_old ++ asked_line old.names old.of_object name (shows calc old.state o) m answer.runs)
-      a.mark
-      ∙ ap (λ (n : ℕ). lines_old ++ asked_line old.names old.of_object name (shows calc old.state o)
-      (mark_of old.state o) n) a.number;
-  count = a.count ∙ ap (counted count_old) (sym (log_length (runs calc old.state o)));
-  log = a.log;
-}
-
--- an ask of which a front of the computations was made, and whose line is not written
-pub ask_front : (calc : Calc) (name o : ℕ) (old new : Standing) (lines_old lines_new : List ℕ)
-    (front rest : List (ℕ × Outcome)) (begun count_old count_new : ℕ) (log_old log_new : Log)
-    → runs calc old.state o ≡ front ++ rest → begun ≤ length (front ++ rest)
-    → (length front ≤ begun) × (begun ≤ length front + 1) → new.state ≡ stored old.state front
-    → new ≡ record old { state = new.state; stopped = new.stopped }
-    → lines_new ≡ lines_old → count_new ≡ counted count_old begun → log_new ≡ logged log_old (log_of front)
-    → BreaksOff calc (act.Ask name o) old new lines_old lines_new count_old count_new log_old log_new
-unfolding effect_of step
-ask_front calc name o old new lines_old lines_new front rest begun count_old count_new log_old log_new whole most last
-    state others none count log = record {
-      begun = begun;
-      ended = length front;
-      shown = 0;
-      most = subst (λ (n : ℕ). begun ≤ n)
-          (sym (log_length (runs calc old.state o) ∙ ap (λ (calls : List (ℕ × Outcome)). length calls) whole)) most;
-      last = last;
-      count = count;
-      log = log ∙ ap (logged log_old)
-          (sym (ap (λ (calls : List (ℕ × Outcome)). take (length front) (log_of calls)) whole ∙ log_front front rest));
-      written = none ∙ sym (append-nil lines_old);
-      state = state ∙ ap (stored old.state)
-          (sym (ap (λ (calls : List (ℕ × Outcome)). take (length front) calls) whole ∙ take_front front rest));
-      others = others;
-    }
-
 some_length : {A : Type 0} (xs : List A) → xs ≢ [] → 1 ≤ length xs
 some_length [] e = absurd (e refl)
 some_length (x ∷ xs) e = omega arith
 
--- an ask in which memory ran out
-pub ask_breaks : (calc : Calc) (name o : ℕ) (old new : Standing) (lines_old lines_new : List ℕ)
-    (count_old count_new : ℕ) (log_old log_new : Log)
-    → asks.Stops calc o old.state new.state count_old count_new log_old log_new
-    → new ≡ record old { state = new.state; stopped = new.stopped } → lines_new ≡ lines_old
-    → BreaksOff calc (act.Ask name o) old new lines_old lines_new count_old count_new log_old log_new
-ask_breaks calc name o old new lines_old lines_new count_old count_new log_old log_new s others none = elim s.count [
-  | inl count ↦ ask_front calc name o old new lines_old lines_new s.front s.rest
-      (length s.front) count_old count_new log_old log_new s.whole
-      (omega (arith, length-append s.front s.rest)) (omega arith, omega arith) s.state others none count s.log
-  | inr more ↦
-      let some : 1 ≤ length s.rest = some_length s.rest more.0 in
-      ask_front calc name o old new lines_old lines_new s.front s.rest
-      (length s.front + 1) count_old count_new log_old log_new s.whole
-      (omega (arith, some, length-append s.front s.rest)) (omega arith, omega arith) s.state others none more.1 s.log
-]
+-- A turn that asks: its computations are those of an ask of o.
+module _ (calc : Calc) (o : ℕ) (t : Turn) (old new : Standing) (lines_old lines_new : List ℕ) (count_old count_new : ℕ)
+    (log_old log_new : Log) (calls : t.calls ≡ log_of (runs calc old.state o)) where
+  -- its line is written
+  asks_carry : (answer : Asked) → asks.Asks calc o old.state new.state answer count_old count_new log_old log_new
+      → new ≡ record old { state = new.state } → t.next ≡ record old { state = asked calc o old.state }
+      → lines_new ≡ lines_old ++ t.lines → Does t new lines_old lines_new count_old count_new log_old log_new
+  asks_carry answer a same next written = record {
+    next = same ∙ ap (λ (s : State). record old { state = s }) a.state ∙ sym next;
+    written = written;
+    count = a.count ∙ ap (counted count_old)
+        (sym (ap (λ (log : List (ℕ × Bool)). length log) calls ∙ log_length (runs calc old.state o)));
+    log = a.log ∙ ap (logged log_old) (sym calls);
+  }
 
--- an ask that is done, but whose line found no memory
-pub ask_unwritten : (calc : Calc) (name o : ℕ) (old new : Standing) (lines_old lines_new : List ℕ) (answer : Asked)
-    (count_old count_new : ℕ) (log_old log_new : Log)
-    → asks.Asks calc o old.state new.state answer count_old count_new log_old log_new
-    → new ≡ record old { state = new.state; stopped = new.stopped } → lines_new ≡ lines_old
-    → BreaksOff calc (act.Ask name o) old new lines_old lines_new count_old count_new log_old log_new
-unfolding asked
-ask_unwritten calc name o old new lines_old lines_new answer count_old count_new log_old log_new a others none =
-    ask_front calc name o old new lines_old lines_new (runs calc old.state o) []
-    (length (runs calc old.state o)) count_old count_new log_old log_new
-    (sym (append-nil (runs calc old.state o))) (omega (arith, length-append (runs calc old.state o) []))
-    (omega arith, omega arith) a.state others none a.count a.log
+  -- a front of the computations was made, and its line is not written
+  asks_front : (front rest : List (ℕ × Outcome)) (begun : ℕ) → runs calc old.state o ≡ front ++ rest
+      → begun ≤ length (front ++ rest) → (length front ≤ begun) × (begun ≤ length front + 1)
+      → new.state ≡ stored old.state front → new ≡ record old { state = new.state; stopped = new.stopped }
+      → lines_new ≡ lines_old → count_new ≡ counted count_old begun → log_new ≡ logged log_old (log_of front)
+      → Ends t (runs calc old.state o) old new lines_old lines_new count_old count_new log_old log_new
+  asks_front front rest begun whole most last state others none count log = record {
+    begun = begun;
+    ended = length front;
+    shown = 0;
+    most = subst (λ (n : ℕ). begun ≤ n)
+        (sym (ap (λ (log : List (ℕ × Bool)). length log) calls ∙ log_length (runs calc old.state o)
+        ∙ ap (λ (runs : List (ℕ × Outcome)). length runs) whole)) most;
+    last = last;
+    count = count;
+    log = log ∙ ap (logged log_old)
+        (sym (ap (λ (log : List (ℕ × Bool)). take (length front) log) calls
+        ∙ ap (λ (runs : List (ℕ × Outcome)). take (length front) (log_of runs)) whole ∙ log_front front rest));
+    written = none ∙ sym (append-nil lines_old);
+    state = state ∙ ap (stored old.state)
+        (sym (ap (λ (runs : List (ℕ × Outcome)). take (length front) runs) whole ∙ take_front front rest));
+    others = others;
+  }
+
+  -- memory ran out in it
+  asks_break : asks.Stops calc o old.state new.state count_old count_new log_old log_new
+      → new ≡ record old { state = new.state; stopped = new.stopped } → lines_new ≡ lines_old
+      → Ends t (runs calc old.state o) old new lines_old lines_new count_old count_new log_old log_new
+  asks_break s others none = elim s.count [
+    | inl count ↦ asks_front s.front s.rest (length s.front) s.whole (omega (arith, length-append s.front s.rest))
+        (omega arith, omega arith) s.state others none count s.log
+    | inr more ↦
+        let some : 1 ≤ length s.rest = some_length s.rest more.0 in
+        asks_front s.front s.rest (length s.front + 1) s.whole
+        (omega (arith, some, length-append s.front s.rest)) (omega arith, omega arith) s.state others none more.1 s.log
+  ]
+
+  -- it is done, but its line found no memory
+  asks_unwritten : (answer : Asked) → asks.Asks calc o old.state new.state answer count_old count_new log_old log_new
+      → new ≡ record old { state = new.state; stopped = new.stopped } → lines_new ≡ lines_old
+      → Ends t (runs calc old.state o) old new lines_old lines_new count_old count_new log_old log_new
+  unfolding asked
+  asks_unwritten answer a others none =
+      asks_front (runs calc old.state o) [] (length (runs calc old.state o)) (sym (append-nil (runs calc old.state o)))
+      (omega (arith, length-append (runs calc old.state o) [])) (omega arith, omega arith) a.state others none a.count
+      a.log
+
+-- an ask
+module _ (calc : Calc) (name o : ℕ) (old new : Standing) (lines_old lines_new : List ℕ) (count_old count_new : ℕ)
+    (log_old log_new : Log) where
+  pub ask_carries : (answer : Asked)
+      → asks.Asks calc o old.state new.state answer count_old count_new log_old log_new
+      → new ≡ record old { state = new.state } → lines_new ≡ lines_old
+      ++ asked_line old.names old.of_object name (shows calc old.state o) answer.mark answer.runs
+      → Carries calc (act.Ask name o) old new lines_old lines_new count_old count_new log_old log_new
+  unfolding effect_of step
+  ask_carries answer a same written =
+      asks_carry calc o (effect_of calc old (act.Ask name o)) old new lines_old lines_new count_old count_new log_old
+      log_new refl answer a same refl
+      (written
+      ∙ ap (λ (m : Mark). lines_old ++ asked_line old.names old.of_object name (shows calc old.state o) m answer.runs)
+      a.mark
+      ∙ ap (λ (n : ℕ). lines_old ++ asked_line old.names old.of_object name (shows calc old.state o)
+      (mark_of old.state o) n) a.number)
+
+  pub ask_breaks : asks.Stops calc o old.state new.state count_old count_new log_old log_new
+      → new ≡ record old { state = new.state; stopped = new.stopped } → lines_new ≡ lines_old
+      → BreaksOff calc (act.Ask name o) old new lines_old lines_new count_old count_new log_old log_new
+  unfolding effect_of
+  ask_breaks s others none =
+      asks_break calc o (effect_of calc old (act.Ask name o)) old new lines_old lines_new count_old count_new log_old
+      log_new refl s others none
+
+  pub ask_unwritten : (answer : Asked)
+      → asks.Asks calc o old.state new.state answer count_old count_new log_old log_new
+      → new ≡ record old { state = new.state; stopped = new.stopped } → lines_new ≡ lines_old
+      → BreaksOff calc (act.Ask name o) old new lines_old lines_new count_old count_new log_old log_new
+  unfolding effect_of
+  ask_unwritten answer a others none =
+      asks_unwritten calc o (effect_of calc old (act.Ask name o)) old new lines_old lines_new count_old count_new
+      log_old log_new refl answer a others none
+
+-- an ask for a discount factor
+module _ (calc : Calc) (name o : ℕ) (day : ℤ) (old new : Standing) (lines_old lines_new : List ℕ)
+    (count_old count_new : ℕ) (log_old log_new : Log) where
+  pub df_carries : (answer : Asked) (found : Result ℤ Cause)
+      → asks.Asks calc o old.state new.state answer count_old count_new log_old log_new
+      → new ≡ record old { state = new.state } → found ≡ discount_in o day (shows calc old.state o)
+      → lines_new ≡ lines_old ++ df_line old.names old.of_object name day found answer.mark answer.runs
+      → Carries calc (act.Df name o day) old new lines_old lines_new count_old count_new log_old log_new
+  unfolding effect_of step
+  df_carries answer found a same is written =
+      asks_carry calc o (effect_of calc old (act.Df name o day)) old new lines_old lines_new count_old count_new
+      log_old log_new refl answer a same refl
+      (written
+      ∙ ap (λ (f : Result ℤ Cause). lines_old ++ df_line old.names old.of_object name day f answer.mark answer.runs) is
+      ∙ ap (λ (m : Mark). lines_old ++ df_line old.names old.of_object name day
+      (discount_in o day (shows calc old.state o)) m answer.runs) a.mark
+      ∙ ap (λ (n : ℕ). lines_old ++ df_line old.names old.of_object name day
+      (discount_in o day (shows calc old.state o)) (mark_of old.state o) n) a.number)
+
+  pub df_breaks : asks.Stops calc o old.state new.state count_old count_new log_old log_new
+      → new ≡ record old { state = new.state; stopped = new.stopped } → lines_new ≡ lines_old
+      → BreaksOff calc (act.Df name o day) old new lines_old lines_new count_old count_new log_old log_new
+  unfolding effect_of
+  df_breaks s others none =
+      asks_break calc o (effect_of calc old (act.Df name o day)) old new lines_old lines_new count_old count_new
+      log_old log_new refl s others none
+
+  pub df_unwritten : (answer : Asked)
+      → asks.Asks calc o old.state new.state answer count_old count_new log_old log_new
+      → new ≡ record old { state = new.state; stopped = new.stopped } → lines_new ≡ lines_old
+      → BreaksOff calc (act.Df name o day) old new lines_old lines_new count_old count_new log_old log_new
+  unfolding effect_of
+  df_unwritten answer a others none =
+      asks_unwritten calc o (effect_of calc old (act.Df name o day)) old new lines_old lines_new count_old count_new
+      log_old log_new refl answer a others none
 
 -- an act that writes and computes nothing
 pub quiet_carries : (calc : Calc) (a : Act) (old new : Standing) (lines : List ℕ) (count : ℕ) (log : Log)
@@ -185,6 +244,33 @@ pub weigh_carries : (calc : Calc) (k x : ℕ) (weight : ℤ) (old new : Standing
 unfolding effect_of step
 weigh_carries calc k x weight old new lines count log is =
     quiet_carries calc (act.Member k x weight) old new lines count log refl refl is
+
+pub link_carries : (calc : Calc) (h : ℕ) (target : Option ℕ) (old new : Standing) (lines : List ℕ) (count : ℕ)
+    (log : Log) → new ≡ with_state (effect.relinked h target old.state) old
+    → Carries calc (act.Link h target) old new lines lines count count log log
+unfolding effect_of step
+link_carries calc h target old new lines count log is =
+    quiet_carries calc (act.Link h target) old new lines count log refl refl is
+
+pub engine_carries : (calc : Calc) (i : ℕ) (engine : Option ℕ) (old new : Standing) (lines : List ℕ) (count : ℕ)
+    (log : Log) → new ≡ with_state (effect.engine_set i engine old.state) old
+    → Carries calc (act.Engine i engine) old new lines lines count count log log
+unfolding effect_of step
+engine_carries calc i engine old new lines count log is =
+    quiet_carries calc (act.Engine i engine) old new lines count log refl refl is
+
+pub today_carries : (calc : Calc) (day : ℤ) (old new : Standing) (lines : List ℕ) (count : ℕ) (log : Log)
+    → new ≡ with_state (effect.today_set day old.state) old
+    → Carries calc (act.Today day) old new lines lines count count log log
+unfolding effect_of step
+today_carries calc day old new lines count log is = quiet_carries calc (act.Today day) old new lines count log refl refl is
+
+pub fixing_carries : (calc : Calc) (x : ℕ) (day rate : ℤ) (old new : Standing) (lines : List ℕ) (count : ℕ) (log : Log)
+    → new ≡ with_state (effect.fixing_added x day rate old.state) old
+    → Carries calc (act.Fixing x day rate) old new lines lines count count log log
+unfolding effect_of step
+fixing_carries calc x day rate old new lines count log is =
+    quiet_carries calc (act.Fixing x day rate) old new lines count log refl refl is
 
 pub drop_carries : (calc : Calc) (o : ℕ) (old new : Standing) (lines : List ℕ) (count : ℕ) (log : Log)
     → new ≡ with_state (effect.dropped o old.state) old

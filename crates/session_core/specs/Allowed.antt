@@ -1,17 +1,19 @@
 -- What is known of an act that a command resolves to.
-use Rattle.std.specs.Prelude.{◌≡◌, ◌<◌, ◌≤◌, ℕ, true, false, length, ℤ, unsigned_abs, Some, None}
+use Rattle.std.specs.Prelude.{◌≡◌, ◌<◌, ◌≤◌, ℕ, true, false, length, ℤ, unsigned_abs, Option, Some, None, IfSome}
 use Rattle.desk_terms.specs.declared.terms.Terms.{Terms}
 use Rattle.desk_terms.specs.Reading.{AreInRange}
 use Rattle.desk_terms.specs.declared.kind.Kind.TheVariants as kind
 use Rattle.desk_terms.specs.declared.kind.Wanted.TheVariants as wanted
-use Rattle.desk_model.specs.Market.{kind_at, least_user}
-use Rattle.desk_model.specs.Links.{AreOfKind, serves_as, is_lazy_at}
+use Rattle.desk_terms.specs.Terms.{optional_reference}
+use Rattle.flow_terms.specs.Fixings.{IsRate}
+use Rattle.desk_model.specs.Market.{Market, kind_at, least_user}
+use Rattle.desk_model.specs.Links.{AreOfKind, Serve, serves_as, is_lazy_at}
 use Rattle.session_model.specs.declared.act.Act.{Act}
 use Rattle.session_model.specs.declared.act.Act.TheVariants as act
 use Rattle.session_model.specs.declared.place.Place.TheVariants as place
 use Rattle.session_model.specs.Place.{takes_found}
 use Rattle.session_model.specs.Standing.{Standing, object_named, is_full}
-use Rattle.session_model.specs.Resolve.{joins}
+use Rattle.session_model.specs.Resolve.{closes, joins, rate_at, target_of}
 
 -- its name is one of the session's and free, there is room, its terms are in range and its inputs of their kinds
 pub record MayMake (p : Standing) (name : ℕ) (terms : Terms) : Type 0 where
@@ -28,6 +30,27 @@ pub record MayWeigh (p : Standing) (k x : ℕ) (weight : ℤ) : Type 0 where
   pub opens : joins weight p.state.market k x ≡ false
   pub limit : unsigned_abs weight ≤ 1_000_000
 
+-- what a handle may be linked to, from which it is not reached
+pub record IsTarget (market : Market) (h target : ℕ) : Type 0 where
+  pub taken : takes_found (target_of market h) (kind_at market target) ≡ true
+  pub opens : closes market h target ≡ false
+
+-- a handle, and its target, where it gets one
+pub record MayRelink (p : Standing) (h : ℕ) (to : Option ℕ) : Type 0 where
+  pub handle : takes_found place.Handle (kind_at p.state.market h) ≡ true
+  pub target : IfSome to (IsTarget p.state.market h)
+
+-- a bond, swap or forward rate agreement, and its engine, where it gets one
+pub record MayEngage (p : Standing) (i : ℕ) (e : Option ℕ) : Type 0 where
+  pub instrument : kind_at p.state.market i ≡ Some kind.Flows
+  pub engine : Serve p.state.market (optional_reference wanted.Engine e)
+
+-- an index that has no rate stored for this day, and a rate within its limit
+pub record MayFix (p : Standing) (x : ℕ) (day r : ℤ) : Type 0 where
+  pub index : kind_at p.state.market x ≡ Some kind.Index
+  pub rate : IsRate r
+  pub free : rate_at p.state.market x day ≡ None
+
 -- it is no `today`, and no object has it among its edges
 pub record MayDrop (p : Standing) (object : ℕ) : Type 0 where
   pub taken : takes_found place.Droppable (kind_at p.state.market object) ≡ true
@@ -37,5 +60,10 @@ abbrev pub IsAllowed : Standing → Act → Type 0
 IsAllowed p (act.Make name terms) = MayMake p name terms
 IsAllowed p (act.Set quote value) = kind_at p.state.market quote ≡ Some kind.Quote
 IsAllowed p (act.Member composite member weight) = MayWeigh p composite member weight
+IsAllowed p (act.Link handle target) = MayRelink p handle target
+IsAllowed p (act.Engine instrument engine) = MayEngage p instrument engine
+IsAllowed p (act.Today day) = Unit {0}
+IsAllowed p (act.Fixing index day rate) = MayFix p index day rate
 IsAllowed p (act.Drop object) = MayDrop p object
 IsAllowed p (act.Ask name object) = is_lazy_at p.state.market object ≡ true
+IsAllowed p (act.Df name object day) = is_lazy_at p.state.market object ≡ true

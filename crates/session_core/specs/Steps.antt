@@ -56,8 +56,13 @@ abbrev pub act_outcomes : Calc → State → Act → List (ℕ × Outcome)
 act_outcomes calc s (act.Make name terms) = []
 act_outcomes calc s (act.Set quote value) = []
 act_outcomes calc s (act.Member composite member weight) = []
+act_outcomes calc s (act.Link handle target) = []
+act_outcomes calc s (act.Engine instrument engine) = []
+act_outcomes calc s (act.Today day) = []
+act_outcomes calc s (act.Fixing index day rate) = []
 act_outcomes calc s (act.Drop object) = []
 act_outcomes calc s (act.Ask name object) = runs calc s object
+act_outcomes calc s (act.Df name object day) = runs calc s object
 
 abbrev pub outcomes_of : Calc → State → Result Act Refusal → List (ℕ × Outcome)
 outcomes_of calc s (Err refusal) = []

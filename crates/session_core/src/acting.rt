@@ -123,11 +123,19 @@ impl Session {
                 Ok(())
             }
             Act::Member(composite, member, weight) => self.weigh(composite, member, weight),
+            Act::Link(handle, target) => self.link(handle, target),
+            Act::Engine(instrument, engine) => self.engage(instrument, engine),
+            Act::Today(day) => {
+                self.move_today(day);
+                Ok(())
+            }
+            Act::Fixing(index, day, rate) => self.fix(index, day, rate),
             Act::Drop(object) => {
                 self.remove(object);
                 Ok(())
             }
             Act::Ask(name, object) => self.ask(name, object, bench, lines),
+            Act::Df(name, object, day) => self.discount(name, object, day, bench, lines),
         }
     }
 }

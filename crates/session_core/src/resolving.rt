@@ -1,5 +1,5 @@
 // What a command is once its names are looked up, or why it is refused.
-ghost use Rattle.std.specs.Prelude.{◌≡◌, [], Ok, Err, is_some, if◌then◌else◌};
+ghost use Rattle.std.specs.Prelude.{◌≡◌, [], None, Some, Ok, Err, is_some, if◌then◌else◌};
 ghost use Rattle.session_commands.specs.declared.refusal.Refusal.TheVariants.{Taken, TooMany};
 ghost use Rattle.desk_terms.specs.declared.terms.Terms.TheVariants as terms;
 ghost use Rattle.desk_terms.specs.declared.kind.Wanted.TheVariants as wanted;
@@ -8,13 +8,14 @@ ghost use Rattle.session_model.specs.declared.place.Place.TheVariants as place;
 ghost use Rattle.session_model.specs.declared.act.Act.TheVariants as act;
 ghost use Rattle.session_model.specs.Place.{takes_found};
 ghost use Rattle.session_model.specs.Standing.{object_named, is_full};
-ghost use Rattle.session_model.specs.Resolve.{find, with_found, made, unless, unless_used, unless_taken, joins, derived, quote_input, resolve};
+ghost use Rattle.session_model.specs.Resolve.{find, with_found, made, unless, unless_used, unless_kept, unless_taken, closes, joins, rate_at, target_of, handle_kind, engaged, derived, quote_input, curve, resolve};
 ghost use Rattle.desk_model.specs.Market.{least_user};
 ghost use Rattle.session_commands.specs.declared.refusal.Refusal.TheVariants.{Cycle};
 
 use crate::Session;
+use day_number::Day;
 use desk_names::{NameId, ObjId};
-use desk_terms::{PartList, Terms, Wanted};
+use desk_terms::{HandleKind, PartList, Terms, Wanted};
 use fixed_amount::Rate;
 use session_commands::{Command, Refusal};
 use session_model::{Act, Place};
@@ -31,19 +32,20 @@ impl Session {
             Command::Sum(name, first, second) => self.derived(*name, false, *first, *second),
             Command::Difference(name, first, second) => self.derived(*name, true, *first, *second),
             Command::Stock(name, quote) => self.stock(*name, *quote),
+            Command::Handle(name, is_curve) => self.handle(*name, *is_curve),
             Command::Composite(name) => self.composite(*name),
             Command::Member(composite, member, weight) => self.member(*composite, *member, *weight),
             Command::Set(quote, value) => self.value(*quote, Some(*value)),
             Command::Unset(quote) => self.value(*quote, None),
+            Command::Link(handle, target) => self.linked(*handle, *target),
+            Command::Unlink(handle) => self.unlinked(*handle),
+            Command::Engine(instrument, engine) => self.engaged(*instrument, *engine),
+            Command::Today(day) => Ok(Act::Today(*day)),
+            Command::Fixing(index, day, rate) => self.fixed(*index, *day, *rate),
             Command::Drop(object) => self.dropped(*object),
             Command::Ask(object) => self.asked(*object),
-            Command::Handle(..)
-            | Command::Link(..)
-            | Command::Unlink(..)
-            | Command::Engine(..)
-            | Command::Today(..)
-            | Command::Fixing(..)
-            | Command::Freeze(..)
+            Command::Df(curve, day) => self.discounted(*curve, *day),
+            Command::Freeze(..)
             | Command::Thaw(..)
             | Command::Recalc(..)
             | Command::Forward(..)
@@ -51,8 +53,7 @@ impl Session {
             | Command::Resume
             | Command::Watch(..)
             | Command::Register(..)
-            | Command::Unregister(..)
-            | Command::Df(..) => Err(Refusal::Unbuilt),
+            | Command::Unregister(..) => Err(Refusal::Unbuilt),
         }
     }
 
@@ -157,6 +158,88 @@ impl Session {
         self.made(name, Terms::Composite(PartList::new(self.allocator())))
     }
 
+    #[tactic(auto, unfolding(session_model::specs::Resolve::unless_taken))]
+    fn handle(&self, name: NameId, is_curve: bool) -> Result<Act, Refusal>
+        ensures { result ≡ unless_taken self.now name (made self.now name (terms.Handle (handle_kind is_curve) None)) }
+    {
+        self.free(name)?;
+        self.made(
+            name,
+            Terms::Handle {
+                target_kind: handle_kind(is_curve),
+                target: None,
+            },
+        )
+    }
+
+    // What a handle may be linked to.
+    fn target_of(&self, handle: ObjId) -> Place
+        ensures { result ≡ target_of self.now.state.market handle }
+    {
+        if self.takes(Place::Input(Wanted::CurveInput), handle) {
+            Place::Input(Wanted::CurveTarget)
+        } else {
+            Place::Input(Wanted::QuoteTarget)
+        }
+    }
+
+    #[tactic(auto, unfolding(session_model::specs::Resolve::with_found, session_model::specs::Resolve::unless))]
+    fn linked(&mut self, handle: NameId, target: NameId) -> Result<Act, Refusal>
+        ensures act { result ≡ with_found (find place.Handle self.old handle) (λ x.
+            with_found (find (target_of self.old.state.market x) self.old target) (λ y.
+            unless (closes self.old.state.market x y) Cycle (act.Link x (Some y)))) }
+        ensures same { self.new ≡ self.old }
+    {
+        let handle = self.find(Place::Handle, handle)?;
+        let target = self.find(self.target_of(handle), target)?;
+        if self.closes(handle, target) {
+            return Err(Refusal::Cycle);
+        }
+        Ok(Act::Link(handle, Some(target)))
+    }
+
+    #[tactic(auto, unfolding(session_model::specs::Resolve::with_found))]
+    fn unlinked(&self, handle: NameId) -> Result<Act, Refusal>
+        ensures { result ≡ with_found (find place.Handle self.now handle) (λ x. Ok (act.Link x None)) }
+    {
+        let handle = self.find(Place::Handle, handle)?;
+        Ok(Act::Link(handle, None))
+    }
+
+    #[tactic(auto, unfolding(session_model::specs::Resolve::with_found))]
+    fn engaged(&self, instrument: NameId, engine: Option<NameId>) -> Result<Act, Refusal>
+        ensures { result ≡ with_found (find place.Flows self.now instrument) (λ x. engaged self.now x engine) }
+    {
+        let instrument = self.find(Place::Flows, instrument)?;
+        match engine {
+            Some(engine) => {
+                let engine = self.find(Place::Input(Wanted::Engine), engine)?;
+                Ok(Act::Engine(instrument, Some(engine)))
+            }
+            None => Ok(Act::Engine(instrument, None)),
+        }
+    }
+
+    #[tactic(auto, unfolding(session_model::specs::Resolve::with_found, session_model::specs::Resolve::unless_kept))]
+    fn fixed(&self, index: NameId, day: Day, rate: Rate) -> Result<Act, Refusal>
+        ensures { result ≡ with_found (find (place.Input wanted.Index) self.now index) (λ y.
+            unless_kept (rate_at self.now.state.market y day) (act.Fixing y day rate)) }
+    {
+        let index = self.find(Place::Input(Wanted::Index), index)?;
+        match self.rate_at(index, day) {
+            Some(kept) => Err(Refusal::FixingExists(kept)),
+            None => Ok(Act::Fixing(index, day, rate)),
+        }
+    }
+
+    #[tactic(auto, unfolding(session_model::specs::Resolve::with_found))]
+    fn discounted(&self, name: NameId, day: Day) -> Result<Act, Refusal>
+        ensures { result ≡ with_found (find curve self.now name) (λ x. Ok (act.Df name x day)) }
+    {
+        let object = self.find(Place::Input(Wanted::CurveTarget), name)?;
+        Ok(Act::Df(name, object, day))
+    }
+
     #[tactic(auto, unfolding(session_model::specs::Resolve::with_found, session_model::specs::Resolve::unless))]
     fn member(&mut self, composite: NameId, member: NameId, weight: i64) -> Result<Act, Refusal>
         ensures act { result ≡ with_found (find place.Composite self.old composite) (λ x.
@@ -198,5 +281,16 @@ impl Session {
     {
         let object = self.find(Place::Priced, name)?;
         Ok(Act::Ask(name, object))
+    }
+}
+
+// What a handle stands for.
+fn handle_kind(is_curve: bool) -> HandleKind
+    ensures { result ≡ handle_kind is_curve }
+{
+    if is_curve {
+        HandleKind::Curve
+    } else {
+        HandleKind::Quote
     }
 }

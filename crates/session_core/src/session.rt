@@ -7,22 +7,26 @@ ghost use Rattle.desk_terms.specs.declared.kind.Wanted.TheVariants as wanted;
 ghost use Rattle.desk_model.specs.Market.{slot_at, is_given, kind_at, least_user};
 ghost use Rattle.desk_model.specs.Links.{AreOfKind, serves_as, is_lazy_at};
 ghost use Rattle.desk_model.specs.Sound.{IsSound, KeepsCurrent};
-ghost use Rattle.desk_model.specs.Effect.{quote_set, member_set, dropped};
+ghost use Rattle.desk_terms.specs.Asked.{Shows};
+ghost use Rattle.desk_terms.specs.Reading.{Outcome};
+ghost use Rattle.desk_model.specs.Effect.{quote_set, relinked, engine_set, member_set, today_set, fixing_added, dropped};
 ghost use Rattle.session_commands.specs.Parts.{command_word};
 ghost use Rattle.price_report.specs.Line.{refusal_line};
 ghost use Rattle.session_model.specs.declared.act.Act.TheVariants as act;
 ghost use Rattle.session_model.specs.Standing.{start_of, object_named, is_full};
 ghost use Rattle.session_model.specs.declared.place.Place.TheVariants as place;
 ghost use Rattle.session_model.specs.Place.{takes_found};
-ghost use Rattle.session_model.specs.Resolve.{closes, joins};
+ghost use Rattle.session_model.specs.Resolve.{closes, joins, rate_at};
+ghost use Rattle.session_model.specs.Turn.{discount_in};
+ghost use Rattle.session_core.specs.Allowed.{MayRelink, MayEngage, MayFix};
 ghost use Rattle.session_core.specs.Steps.{with_object, with_state, Carries, BreaksOff};
 
 use day_number::Day;
 use desk_names::{NameId, NameList, Names, ObjId};
-use desk_terms::{Bench, Kind, Terms};
-use fixed_amount::Rate;
+use desk_terms::{Asked, Bench, Cause, FixFault, Kind, Terms, Value, discount_of};
+use fixed_amount::{Discount, Rate};
 use lazy_objects::Desk;
-use price_report::{Namer, asked_line, refusal_line};
+use price_report::{Namer, asked_line, df_line, refusal_line};
 use session_commands::{Actions, Command, Refusal};
 use session_model::{MOST_LIVE, MOST_NUMBERS};
 use std::alloc::{AllocError, Global};
@@ -157,6 +161,13 @@ impl Session {
         self.desk.user_of(object)
     }
 
+    // The rate that an index has stored for a day.
+    pub(crate) fn rate_at(&self, index: ObjId, day: Day) -> Option<Rate>
+        ensures { result ≡ rate_at self.now.state.market index day }
+    {
+        self.desk.fixing(index, day)
+    }
+
     // Makes an object that has this name and these terms, and answers its number. Its name is taken back where memory
     // is wanting for the object.
     pub(crate) fn add(&mut self, name: NameId, terms: Terms) -> Result<ObjId, AllocError>
@@ -212,6 +223,52 @@ impl Session {
         self.desk.set_member(composite, member, weight)
     }
 
+    // Gives a handle a target, or takes it away.
+    pub(crate) fn link(&mut self, handle: ObjId, target: Option<ObjId>) -> Result<(), AllocError>
+        requires may { MayRelink self.old handle target }
+        ensures set { OnOk result (self.new ≡ with_state (relinked handle target self.old.state) self.old) }
+        ensures err { OnErr result (self.new ≡ self.old) }
+        ensures sound { (calc : Calc) → IsSound calc self.old.state → IsSound calc self.new.state }
+    {
+        self.desk.relink(handle, target)
+    }
+
+    // Gives an instrument an engine, or takes it away.
+    pub(crate) fn engage(
+        &mut self,
+        instrument: ObjId,
+        engine: Option<ObjId>,
+    ) -> Result<(), AllocError>
+        requires may { MayEngage self.old instrument engine }
+        ensures set { OnOk result (self.new ≡ with_state (engine_set instrument engine self.old.state) self.old) }
+        ensures err { OnErr result (self.new ≡ self.old) }
+        ensures sound { (calc : Calc) → IsSound calc self.old.state → IsSound calc self.new.state }
+    {
+        self.desk.set_engine(instrument, engine)
+    }
+
+    // Moves the evaluation date.
+    pub(crate) fn move_today(&mut self, day: Day)
+        ensures set { self.new ≡ with_state (today_set day self.old.state) self.old }
+        ensures sound { (calc : Calc) → IsSound calc self.old.state → IsSound calc self.new.state }
+    {
+        self.desk.set_today(day);
+    }
+
+    // Stores a rate of an index for a day that has none.
+    pub(crate) fn fix(&mut self, index: ObjId, day: Day, rate: Rate) -> Result<(), AllocError>
+        requires may { MayFix self.old index day rate }
+        ensures set { OnOk result (self.new ≡ with_state (fixing_added index day rate self.old.state) self.old) }
+        ensures err { OnErr result (self.new ≡ self.old) }
+        ensures sound { (calc : Calc) → IsSound calc self.old.state → IsSound calc self.new.state }
+    {
+        match self.desk.add_fixing(index, day, rate) {
+            Ok(()) => Ok(()),
+            Err(FixFault::Exists(_)) => unreachable!(),
+            Err(FixFault::NoMemory) => Err(AllocError),
+        }
+    }
+
     // Takes an object out, whose name is free then.
     pub(crate) fn remove(&mut self, object: ObjId)
         requires taken { takes_found place.Droppable (kind_at self.old.state.market object) ≡ true }
@@ -259,6 +316,35 @@ impl Session {
         )
     }
 
+    // Asks a curve for its discount factor at a day, and writes its line.
+    pub(crate) fn discount<B: Bench>(
+        &mut self,
+        name: NameId,
+        object: ObjId,
+        day: Day,
+        bench: &mut B,
+        lines: &mut Vec<u8>,
+    ) -> Result<(), AllocError>
+        requires lazy { is_lazy_at self.old.state.market object ≡ true }
+        requires sound { IsSound (B.calc bench.old) self.old.state }
+        ensures same { B.calc bench.new ≡ B.calc bench.old }
+        ensures steps { OnOk result (Carries (B.calc bench.old) (act.Df name object day) self.old self.new
+            lines.old.items lines.new.items (B.count bench.old) (B.count bench.new)
+            (B.log bench.old) (B.log bench.new)) }
+        ensures stops { OnErr result (BreaksOff (B.calc bench.old) (act.Df name object day) self.old self.new
+            lines.old.items lines.new.items (B.count bench.old) (B.count bench.new)
+            (B.log bench.old) (B.log bench.new)) }
+        ensures sound { IsSound (B.calc bench.old) self.new.state }
+    {
+        let asked = self.desk.ask(object, bench)?;
+        let found = discount_in(object, day, &asked, self.desk.last(object));
+        let namer = Namer {
+            names: &self.names,
+            of_object: &self.of_object,
+        };
+        df_line(self.alloc, name, day, &found, &asked, &namer, lines)
+    }
+
     // Writes the line of a refused command.
     pub(crate) fn refuse(
         &self,
@@ -276,6 +362,26 @@ impl Session {
             of_object: &self.of_object,
         };
         refusal_line(self.alloc, command.word(), refusal, &namer, lines)
+    }
+}
+
+// The discount factor at a day of what an ask of an object shows, beside the last value of the object.
+#[tactic(auto, unfolding(session_model::specs::Turn::discount_in))]
+fn discount_in(
+    object: ObjId,
+    day: Day,
+    asked: &Asked,
+    last: Option<&Value>,
+) -> Result<Discount, Cause>
+    requires given { (outcome : Outcome) × Shows asked.now.cause (option_copied last) outcome }
+    ensures { (outcome : Outcome) → Shows asked.now.cause (option_copied last.entry) outcome
+        → result ≡ discount_in object day outcome }
+{
+    match (&asked.cause, last) {
+        (Some(cause), _) => Err(*cause),
+        (None, Some(Value::Curve(curve))) => discount_of(object, curve, day),
+        (None, Some(Value::Money(_))) => Err(Cause::Unpriced(object)),
+        (None, None) => unreachable!(),
     }
 }
 

@@ -1,17 +1,20 @@
 -- What a command is once its names are looked up, or why it is refused (this project's profile). The first reason in
 -- this order: it is not built; its new name is taken; another name, in the order in which they are written, is unknown
--- or of another kind; it closes a cycle, or the object is in use; there is no room.
+-- or of another kind; it closes a cycle, the object is in use, or a rate is stored already; there is no room.
 use Rattle.std.specs.Prelude.{ℕ, Bool, true, false, not, ◌&&◌, ◌||◌, ◌==◌, if◌then◌else◌, [], Option, Some, None, is_some, Result, Ok, Err, ℤ, pos}
 use Rattle.std.specs.Ordering.{int_eq}
 use Rattle.desk_terms.specs.declared.terms.Terms.{Terms}
 use Rattle.desk_terms.specs.declared.terms.Terms.TheVariants as terms
+use Rattle.desk_terms.specs.declared.terms.HandleKind as handle
 use Rattle.desk_terms.specs.declared.kind.Wanted.TheVariants as wanted
+use Rattle.flow_terms.specs.Fixings.{fixing_on}
 use Rattle.desk_model.specs.Market.{Market, kind_at, least_user}
+use Rattle.desk_model.specs.Uses.{index_at, fixings_in}
 use Rattle.desk_model.specs.Links.{reaches}
 use Rattle.session_commands.specs.declared.command.Command.{Command}
 use Rattle.session_commands.specs.declared.command.Command.TheVariants as command
 use Rattle.session_commands.specs.declared.refusal.Refusal.{Refusal}
-use Rattle.session_commands.specs.declared.refusal.Refusal.TheVariants.{Unknown, Taken, Kind, Cycle, InUse, TooMany, Unbuilt}
+use Rattle.session_commands.specs.declared.refusal.Refusal.TheVariants.{Unknown, Taken, Kind, Cycle, InUse, FixingExists, TooMany, Unbuilt}
 use Rattle.session_model.specs.declared.act.Act.{Act}
 use Rattle.session_model.specs.declared.act.Act.TheVariants as act
 use Rattle.session_model.specs.declared.place.Place.{Place}
@@ -39,6 +42,10 @@ unfoldable pub unless_used : Option ℕ → Act → Result Act Refusal
 unless_used (Some user) a = Err (InUse user)
 unless_used None a = Ok a
 
+unfoldable pub unless_kept : Option ℤ → Act → Result Act Refusal
+unless_kept (Some rate) a = Err (FixingExists rate)
+unless_kept None a = Ok a
+
 -- whether an edge from the holder to the target would close a cycle
 abbrev pub closes : Market → ℕ → ℕ → Bool
 closes market holder target = (target == holder) || reaches market target holder
@@ -46,6 +53,10 @@ closes market holder target = (target == holder) || reaches market target holder
 -- a weight of 0 brings no member
 abbrev pub joins : ℤ → Market → ℕ → ℕ → Bool
 joins weight market holder target = not (int_eq weight (pos 0)) && closes market holder target
+
+-- the rate that an index has stored for a day
+abbrev pub rate_at : Market → ℕ → ℤ → Option ℤ
+rate_at market index day = fixing_on (fixings_in (index_at market (Some index))) day
 
 -- a new object needs room, and a name that no live object has
 abbrev pub made : Standing → ℕ → Terms → Result Act Refusal
@@ -60,6 +71,33 @@ quote_input = place.Input wanted.QuoteInput
 abbrev pub member : Place
 member = place.Input wanted.Member
 
+-- a curve or an implied curve
+abbrev pub curve : Place
+curve = place.Input wanted.CurveTarget
+
+abbrev pub index : Place
+index = place.Input wanted.Index
+
+abbrev pub engine : Place
+engine = place.Input wanted.Engine
+
+-- what a handle may be linked to: a handle that stands for curves to a curve or an implied curve, one that stands for
+-- quotes to a quote, a sum or a difference
+abbrev pub target_of : Market → ℕ → Place
+target_of market handle =
+    if takes_found (place.Input wanted.CurveInput) (kind_at market handle)
+    then place.Input wanted.CurveTarget
+    else place.Input wanted.QuoteTarget
+
+abbrev pub handle_kind : Bool → handle.HandleKind
+handle_kind true = handle.TheVariants.Curve
+handle_kind false = handle.TheVariants.Quote
+
+-- an instrument with an engine, or with none
+abbrev pub engaged : Standing → ℕ → Option ℕ → Result Act Refusal
+engaged p x None = Ok (act.Engine x None)
+engaged p x (Some e) = with_found (find engine p e) (λ y. Ok (act.Engine x (Some y)))
+
 -- two inputs that give rates
 abbrev pub derived : Standing → ℕ → Bool → ℕ → ℕ → Result Act Refusal
 derived p name minus a b =
@@ -70,7 +108,7 @@ unfoldable pub resolve : Standing → Command → Result Act Refusal
 resolve p (command.Quote name value) = unless_taken p name (made p name (terms.Quote value))
 resolve p (command.Sum name a b) = unless_taken p name (derived p name false a b)
 resolve p (command.Difference name a b) = unless_taken p name (derived p name true a b)
-resolve p (command.Handle name is_curve) = Err Unbuilt
+resolve p (command.Handle name is_curve) = unless_taken p name (made p name (terms.Handle (handle_kind is_curve) None))
 resolve p (command.Stock name q) =
     unless_taken p name (with_found (find quote_input p q) (λ x. made p name (terms.Stock x)))
 resolve p (command.Composite name) = unless_taken p name (made p name (terms.Composite []))
@@ -79,11 +117,15 @@ resolve p (command.Member k i weight) =
     (λ x. with_found (find member p i) (λ y. unless (joins weight p.state.market x y) Cycle (act.Member x y weight)))
 resolve p (command.Set q value) = with_found (find place.Quote p q) (λ x. Ok (act.Set x (Some value)))
 resolve p (command.Unset q) = with_found (find place.Quote p q) (λ x. Ok (act.Set x None))
-resolve p (command.Link h t) = Err Unbuilt
-resolve p (command.Unlink h) = Err Unbuilt
-resolve p (command.Engine i e) = Err Unbuilt
-resolve p (command.Today day) = Err Unbuilt
-resolve p (command.Fixing x day rate) = Err Unbuilt
+resolve p (command.Link h t) =
+    with_found (find place.Handle p h)
+    (λ x. with_found (find (target_of p.state.market x) p t)
+    (λ y. unless (closes p.state.market x y) Cycle (act.Link x (Some y))))
+resolve p (command.Unlink h) = with_found (find place.Handle p h) (λ x. Ok (act.Link x None))
+resolve p (command.Engine i e) = with_found (find place.Flows p i) (λ x. engaged p x e)
+resolve p (command.Today day) = Ok (act.Today day)
+resolve p (command.Fixing x day rate) =
+    with_found (find index p x) (λ y. unless_kept (rate_at p.state.market y day) (act.Fixing y day rate))
 resolve p (command.Freeze o) = Err Unbuilt
 resolve p (command.Thaw o) = Err Unbuilt
 resolve p (command.Recalc o) = Err Unbuilt
@@ -96,4 +138,4 @@ resolve p (command.Unregister w o) = Err Unbuilt
 resolve p (command.Drop o) =
     with_found (find place.Droppable p o) (λ x. unless_used (least_user p.state.market x) (act.Drop x))
 resolve p (command.Ask o) = with_found (find place.Priced p o) (λ x. Ok (act.Ask o x))
-resolve p (command.Df c day) = Err Unbuilt
+resolve p (command.Df c day) = with_found (find curve p c) (λ x. Ok (act.Df c x day))

@@ -1,20 +1,31 @@
 -- Sessions worked through by hand.
-use Rattle.std.specs.Prelude.{◌≡◌, ℕ, ◌*◌, Bool, true, List, [], ◌∷◌, ◌++◌, codes, ℤ, pos, neg_ℤ, ◌*ℤ◌, ◌+ℤ◌, Some, None, Ok, Err}
+use Rattle.std.specs.Prelude.{◌≡◌, ℕ, ◌*◌, Bool, true, false, List, [], ◌∷◌, ◌++◌, codes, length, ℤ, pos, neg_ℤ, ◌*ℤ◌, ◌+ℤ◌, Some, None, Ok, Err}
 use Rattle.fixed_amount.specs.Rounding.{closest}
 use Rattle.desk_terms.specs.declared.terms.Terms.{Terms}
 use Rattle.desk_terms.specs.declared.terms.Terms.TheVariants as terms
+use Rattle.desk_terms.specs.declared.terms.HandleKind as handle
 use Rattle.desk_terms.specs.declared.terms.Part.{Part}
+use Rattle.curve_terms.specs.declared.terms.Helper.{Helper}
+use Rattle.holiday_calendars.specs.declared.bases.Base.TheVariants.{Null}
+use Rattle.holiday_calendars.specs.declared.calendars.Calendar.TheVariants.{One}
+use Rattle.day_number.specs.declared.tenors.Unit.TheVariants.{Days}
+use Rattle.day_number.specs.declared.conventions.Convention.TheVariants.{Following}
+use Rattle.year_parts.specs.declared.counters.Counter.TheVariants.{Act360}
+use Rattle.flow_terms.specs.declared.flows.FlowTerm.TheVariants.{Known}
+use Rattle.curve_points.specs.Curve as points
 use Rattle.desk_terms.specs.declared.value.Input as input
-use Rattle.desk_terms.specs.declared.value.Value.TheVariants.{Money}
+use Rattle.desk_terms.specs.declared.value.Value.TheVariants.{Money, Curve}
 use Rattle.desk_terms.specs.declared.cause.Cause.TheVariants.{TooLarge}
 use Rattle.desk_terms.specs.Reading.{Outcome, Calc}
 use Rattle.session_commands.specs.declared.command.Command.{Command}
-use Rattle.session_commands.specs.declared.command.Command.TheVariants.{Quote, Sum, Difference, Stock, Composite, Member, Set, Unset, Freeze, Drop, Ask, Df}
+use Rattle.session_commands.specs.declared.command.Command.TheVariants.{Quote, Sum, Difference, Handle, Stock, Composite, Member, Set, Unset, Link, Unlink, Engine, Today, Fixing, Freeze, Drop, Ask, Df}
+use Rattle.desk_model.specs.Effect as effect
 use Rattle.session_model.specs.Standing.{Standing, start_of}
 use Rattle.session_model.specs.Rounds.{transcript, calls_of}
 
--- a stock is worth its quote, rounded from units of 10^-9 to units of 10^-6, and a composite the weighted sum of its
--- members
+-- A stock is worth its quote, rounded from units of 10^-9 to units of 10^-6, and a composite the weighted sum of its
+-- members. A curve and an implied curve fall from 1 on day 0 to 0.990099009901 on day 100. Flows are worth 1 for each
+-- curve that they read.
 abbrev pub weighted : List Part → List input.Input → ℤ
 weighted [] inputs = pos 0
 weighted (part ∷ parts) [] = pos 0
@@ -28,17 +39,21 @@ rate_of (input.TheVariants.Rate rate ∷ inputs) = rate
 rate_of (input.TheVariants.Money amount ∷ inputs) = pos 0
 rate_of (input.TheVariants.Curve curve ∷ inputs) = pos 0
 
+abbrev pub hundred_days : ℕ → points.Curve
+hundred_days o =
+    record { owner = o; reference = pos 0; nodes = record { day = pos 100; factor = pos 990_099_009_901 } ∷ [] }
+
 abbrev pub hand_price : ℕ → Terms → List input.Input → Outcome
 hand_price o (terms.Stock quote) inputs = Ok (Money (closest (rate_of inputs) 1000))
 hand_price o (terms.Composite parts) inputs = Ok (Money (weighted parts inputs))
 hand_price o (terms.Quote value) inputs = Err (TooLarge o)
 hand_price o (terms.Derived minus first second) inputs = Err (TooLarge o)
 hand_price o (terms.Handle kind target) inputs = Err (TooLarge o)
-hand_price o (terms.Curve terms) inputs = Err (TooLarge o)
-hand_price o (terms.Implied curve reference) inputs = Err (TooLarge o)
+hand_price o (terms.Curve terms) inputs = Ok (Curve (hundred_days o))
+hand_price o (terms.Implied curve reference) inputs = Ok (Curve (hundred_days o))
 hand_price o (terms.Index terms fixings) inputs = Err (TooLarge o)
 hand_price o (terms.Engine curve) inputs = Err (TooLarge o)
-hand_price o (terms.Flows flows engine) inputs = Err (TooLarge o)
+hand_price o (terms.Flows flows engine) inputs = Ok (Money (pos (1_000_000 * length inputs)))
 
 abbrev pub by_hand : Calc
 by_hand reading = hand_price reading.object reading.terms reading.inputs
@@ -68,9 +83,9 @@ pub record AreRefused : Type 0 where
   pub names : written (Set 3 (units 1) ∷ Quote 1 (Some (units 1)) ∷ Quote 1 (Some (units 2)) ∷ Ask 1 ∷ Drop 0 ∷ [])
       ≡ codes "refused set unknown z\nrefused quote taken q\nrefused ask kind q\nrefused drop kind today\n"
   pub places : written (Quote 1 (Some (units 1)) ∷ Stock 2 3 ∷ Stock 1 1 ∷ Stock 2 1 ∷ Set 2
-      (units 2) ∷ Freeze 2 ∷ Df 3 (pos 0) ∷ Ask 2 ∷ [])
+      (units 2) ∷ Freeze 2 ∷ Ask 2 ∷ [])
       ≡ codes "refused stock unknown z\nrefused stock taken q\nrefused set kind s\n"
-      ++ codes "refused freeze unbuilt\nrefused df unbuilt\ns 1.000000 fresh 1\n"
+      ++ codes "refused freeze unbuilt\ns 1.000000 fresh 1\n"
   pub today : written (Quote 0
       (Some (units 1)) ∷ Ask 0 ∷ Stock 2
       0 ∷ []) ≡ codes "refused quote taken today\nrefused ask kind today\nrefused stock kind today\n"
@@ -131,3 +146,93 @@ pub record AreDropped : Type 0 where
       "s 1.000000 fresh 1\nrefused ask unknown s\ns 1.000000 fresh 1\n"
   pub number_anew : computed
       (with_stock (units 1) (Ask 2 ∷ Drop 2 ∷ Stock 2 1 ∷ Ask 2 ∷ [])) ≡ (2, true) ∷ (3, true) ∷ []
+
+-- a session of the names `today`, `a`, `h`, `s`, `q` and `d`, by the numbers 0 to 5
+abbrev pub some_handles : Standing
+some_handles = start_of (pos 0)
+    (codes "today" ∷ codes "a" ∷ codes "h" ∷ codes "s" ∷ codes "q" ∷ codes "d" ∷ []) []
+
+abbrev pub linked : List Command → List ℕ
+linked commands = transcript by_hand some_handles commands
+
+pub record AreLinked : Type 0 where
+  pub links : linked
+      (Quote 1 (Some (units 1)) ∷ Handle 2 false ∷ Stock 3 2 ∷ Ask 3 ∷ Link 2 1 ∷ Ask 3 ∷ Link 2 1 ∷ Ask 3 ∷ Unlink 2
+      ∷ Ask 3 ∷ Drop 1 ∷ Link 2 1 ∷ [])
+      ≡ codes "s refused empty h 0\ns 1.000000 fresh 1\ns 1.000000 fresh 0\ns refused empty h 0\n"
+      ++ codes "refused link unknown a\n"
+  pub cycle : linked
+      (Quote 4 (Some (units 1)) ∷ Handle 2 false ∷ Sum 5 2 4 ∷ Link 2 5 ∷ Link 2 4 ∷ Stock 3 5 ∷ Ask 3 ∷ Drop 4 ∷ [])
+      ≡ codes "refused link cycle\ns 2.000000 fresh 1\nrefused drop inuse h\n"
+  pub kinds : linked
+      (Quote 4 (Some (units 1)) ∷ Handle 2 false ∷ Handle 1 true ∷ Handle 2 true ∷ Link 4 2 ∷ Link 2 2 ∷ Link 2 1
+      ∷ Link 1 4 ∷ Link 2 0 ∷ Unlink 4 ∷ Link 5 5 ∷ [])
+      ≡ codes "refused handle taken h\nrefused link kind q\nrefused link kind h\nrefused link kind a\n"
+      ++ codes "refused link kind q\nrefused link kind today\nrefused unlink kind q\nrefused link unknown d\n"
+
+-- an object made under a name
+abbrev pub also : ℕ → Terms → Standing → Standing
+also name t p = record p { state = effect.made t p.state; of_object = p.of_object ++ name ∷ [] }
+
+abbrev pub deposit : Helper
+deposit = record {
+  quote = 1;
+  tenor = record { count = pos 100; unit = Days };
+  every = None;
+  conv = Following;
+  eom = false;
+  counter = Act360;
+}
+
+-- A session of the names and objects `today`, `q`, `c`, `x`, `e`, `b`, `h` and `i`, by the numbers 0 to 7: a quote, a curve
+-- on it, an index and an engine over the curve, a bond that pays 100 on day 100, a handle of curves, and a curve implied
+-- by what it stands for.
+abbrev pub some_market : Standing
+some_market =
+    also 7 (terms.Implied 6 (pos 10))
+    (also 6 (terms.Handle handle.TheVariants.Curve None)
+    (also 5 (terms.Flows (record { flows = Known (pos 100) (pos 100_000_000) ∷ []; index = None }) (Some 4))
+    (also 4 (terms.Engine 2)
+    (also 3 (terms.Index (record {
+      cal = One Null;
+      fixing_days = 0;
+      tenor = record { count = pos 50; unit = Days };
+      conv = Following;
+      eom = false;
+      counter = Act360;
+      curve = 2;
+    }) [])
+    (also 2 (terms.Curve (record { cal = One Null; settlement = 0; helpers = deposit ∷ [] }))
+    (also 1 (terms.Quote (Some (pos 36_000_000)))
+    (start_of (pos 0)
+    (codes "today" ∷ codes "q" ∷ codes "c" ∷ codes "x" ∷ codes "e" ∷ codes "b" ∷ codes "h" ∷ codes "i" ∷ []) [])))))))
+
+abbrev pub priced : List Command → List ℕ
+priced commands = transcript by_hand some_market commands
+
+pub record AreOfAMarket : Type 0 where
+  pub factors : priced
+      (Df 2 (pos 50) ∷ Df 2 (pos 50) ∷ Df 2 (pos 101) ∷ Df 2 (neg_ℤ (pos 1)) ∷ Set 1 (pos 40_000_000) ∷ Df 2 (pos 100)
+      ∷ Unset 1 ∷ Df 2 (pos 50) ∷ [])
+      ≡ codes "c 1970-02-20 0.995049504951 fresh 1\nc 1970-02-20 0.995049504951 fresh 0\n"
+      ++ codes "c refused past c 1970-04-12 0\nc refused before c 1969-12-31 0\n"
+      ++ codes "c 1970-04-11 0.990099009901 fresh 1\nc refused unset q 0\n"
+  pub engines : priced
+      (Ask 5 ∷ Engine 5 None ∷ Ask 5 ∷ Engine 5 (Some 4) ∷ Ask 5 ∷ Engine 5 (Some 4) ∷ Ask 5 ∷ Today (pos 100) ∷ Ask 5
+      ∷ Today (pos 100) ∷ Ask 5 ∷ [])
+      ≡ codes "b 1.000000 fresh 2\nb refused noengine b 0\nb 1.000000 fresh 1\nb 1.000000 fresh 1\n"
+      ++ codes "b 0.000000 fresh 1\nb 0.000000 fresh 0\n"
+  pub fixings : priced
+      (Fixing 3 (pos 10) (pos 50_000_000) ∷ Fixing 3 (pos 10) (pos 60_000_000) ∷ Fixing 3 (pos 11) (pos 60_000_000)
+      ∷ Fixing 3 (pos 11) (pos 50_000_000) ∷ [])
+      ≡ codes "refused fixing exists 0.050000000\nrefused fixing exists 0.060000000\n"
+  pub targets : priced
+      (Ask 7 ∷ Link 6 2 ∷ Ask 7 ∷ Df 7 (pos 50) ∷ Link 6 7 ∷ Link 6 1 ∷ Drop 2 ∷ Unlink 6 ∷ Df 7 (pos 50) ∷ [])
+      ≡ codes "i refused empty h 0\ni curve 1970-01-01 1.000000000000 1970-04-11 0.990099009901 fresh 2\n"
+      ++ codes "i 1970-02-20 0.995049504951 fresh 0\nrefused link cycle\nrefused link kind q\nrefused drop inuse x\n"
+      ++ codes "i refused empty h 0\n"
+  pub kinds : priced
+      (Engine 2 (Some 4) ∷ Engine 5 (Some 2) ∷ Fixing 2 (pos 1) (pos 1) ∷ Df 6 (pos 1) ∷ Df 5 (pos 1) ∷ Df 1 (pos 1)
+      ∷ Ask 6 ∷ Ask 3 ∷ [])
+      ≡ codes "refused engine kind c\nrefused engine kind c\nrefused fixing kind c\nrefused df kind h\n"
+      ++ codes "refused df kind b\nrefused df kind q\nrefused ask kind h\nrefused ask kind x\n"

@@ -1,4 +1,5 @@
 // What a command is once its names are looked up.
+use day_number::Day;
 use desk_names::{NameId, ObjId};
 use desk_terms::Terms;
 use fixed_amount::Rate;
@@ -13,8 +14,18 @@ pub enum Act {
     /// Gives a member a weight in a composite: the composite, the member, the weight. A weight of 0 takes the member
     /// out.
     Member(ObjId, ObjId, i64),
+    /// Gives a handle a target, or takes it away.
+    Link(ObjId, Option<ObjId>),
+    /// Gives a bond, swap or forward rate agreement an engine, or takes it away.
+    Engine(ObjId, Option<ObjId>),
+    /// Moves the evaluation date.
+    Today(Day),
+    /// Stores a rate of an index, in units of 10^-9, for a day that has none.
+    Fixing(ObjId, Day, Rate),
     /// Takes an object out.
     Drop(ObjId),
     /// Asks a lazy object by its name.
     Ask(NameId, ObjId),
+    /// Asks a curve or an implied curve by its name for its discount factor at a day.
+    Df(NameId, ObjId, Day),
 }

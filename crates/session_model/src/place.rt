@@ -13,6 +13,10 @@ pub enum Place {
     Quote,
     /// A composite.
     Composite,
+    /// A handle, of quotes or of curves.
+    Handle,
+    /// A bond, a swap or a forward rate agreement.
+    Flows,
     /// A lazy object: one that is priced, and keeps its value.
     Priced,
     /// Any object but `today`.
@@ -28,6 +32,8 @@ impl Place {
             Place::Input(wanted) => kind.serves(wanted),
             Place::Quote => matches!(kind, Kind::Quote),
             Place::Composite => matches!(kind, Kind::Composite),
+            Place::Handle => matches!(kind, Kind::QuoteHandle | Kind::CurveHandle),
+            Place::Flows => matches!(kind, Kind::Flows),
             Place::Priced => matches!(
                 kind,
                 Kind::Curve | Kind::Implied | Kind::Stock | Kind::Composite | Kind::Flows

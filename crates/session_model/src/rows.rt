@@ -1,5 +1,5 @@
 // The definitions checked against sessions that were worked through by hand.
-ghost use Rattle.session_model.specs.Rows.{AreRefused, AreUnset, AreMembers, AreDropped};
+ghost use Rattle.session_model.specs.Rows.{AreRefused, AreUnset, AreMembers, AreDropped, AreLinked, AreOfAMarket};
 
 /// Each refusal comes in its order.
 pub fn refusals_are_worked_through()
@@ -19,4 +19,14 @@ pub fn members_are_worked_through()
 /// A composite reaches itself by no path, and an object that is used is not dropped.
 pub fn drops_and_cycles_are_worked_through()
     ensures { AreDropped }
+{}
+
+/// A handle stands for nothing, then for a target of its kind that does not reach it.
+pub fn handles_are_worked_through()
+    ensures { AreLinked }
+{}
+
+/// Discount factors, engines, the evaluation date, fixings and handles of curves.
+pub fn objects_of_a_market_are_worked_through()
+    ensures { AreOfAMarket }
 {}

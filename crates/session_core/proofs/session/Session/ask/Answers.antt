@@ -64,9 +64,9 @@ returns-clause-steps g c =
     (g.B.Bench.log c.ask.new.bench))) c.self.view_is
     (on_ok c.asked_line.result
     (ask_carries calc c.args.name c.args.object p
-    (record p { state = c.ask.new.self }) c.args.lines.now.items c.asked_line.new.out.items c.in_ok-asked.asked
+    (record p { state = c.ask.new.self }) c.args.lines.now.items c.asked_line.new.out.items
     (g.B.Bench.count c.args.bench.now) (g.B.Bench.count c.ask.new.bench) (g.B.Bench.log c.args.bench.now)
-    (g.B.Bench.log c.ask.new.bench) asks refl)
+    (g.B.Bench.log c.ask.new.bench) c.in_ok-asked.asked asks refl)
     (c.asked_line.ensures.ok (shows calc c.self.inside.desk c.args.object)
     (subst (λ (l : Option Value). Shows c.in_ok-asked.asked.cause l (shows calc c.self.inside.desk c.args.object))
     (sym c.last.ensures) asks.shown)))
@@ -89,7 +89,7 @@ returns-clause-stops g c =
     (g.B.Bench.log c.ask.new.bench))) c.self.view_is
     (on_err_of c.asked_line.result
     (ask_unwritten calc c.args.name c.args.object p
-    (record p { state = c.ask.new.self }) c.args.lines.now.items c.asked_line.new.out.items c.in_ok-asked.asked
+    (record p { state = c.ask.new.self }) c.args.lines.now.items c.asked_line.new.out.items
     (g.B.Bench.count c.args.bench.now) (g.B.Bench.count c.ask.new.bench) (g.B.Bench.log c.args.bench.now)
-    (g.B.Bench.log c.ask.new.bench) c.in_ok-asked.ensures.asks refl)
+    (g.B.Bench.log c.ask.new.bench) c.in_ok-asked.asked c.in_ok-asked.ensures.asks refl)
     c.asked_line.ensures.err)

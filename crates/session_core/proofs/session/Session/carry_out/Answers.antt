@@ -1,4 +1,4 @@
-use Rattle.session_core.proofs.Turns.{make_carries, set_carries, weigh_carries, drop_carries, ends_at_once, on_ok, on_err_of}
+use Rattle.session_core.proofs.Turns.{make_carries, set_carries, weigh_carries, link_carries, engine_carries, today_carries, fixing_carries, drop_carries, ends_at_once, on_ok, on_err_of}
 use Rattle.std.proofs.Common.{refl, ℤ, ◌∙◌, ap, subst, arith, FitsSigned, w64}
 use Rattle.std.proofs.lemmas.Int.{to_z-of_z, fits_signed_from_abs}
 use Rattle.desk_model.specs.Effect.{member_set}
@@ -52,6 +52,63 @@ returns-in-Member-clause-stops g c =
 
 pub returns-in-Member-clause-sound : goal.returns-in-Member-clause-sound
 returns-in-Member-clause-sound g c = c.weigh.ensures.sound (g.B.Bench.calc c.args.bench.now) c.requires.sound
+
+pub returns-in-Link-clause-steps : goal.returns-in-Link-clause-steps
+returns-in-Link-clause-steps g c =
+    let calc : Calc = g.B.Bench.calc c.args.bench.now in
+    on_ok c.link.result (λ is. rw c.in-Link.is (link_carries calc c.in-Link.handle c.in-Link.target c.args.self.now c.link.new.self
+    c.args.lines.now.items (g.B.Bench.count c.args.bench.now) (g.B.Bench.log c.args.bench.now) is))
+    c.link.ensures.set
+
+pub returns-in-Link-clause-stops : goal.returns-in-Link-clause-stops
+returns-in-Link-clause-stops g c =
+    on_err_of c.link.result
+    (λ same. ends_at_once _ _ c.args.self.now c.link.new.self c.args.lines.now.items c.args.lines.now.items
+    (g.B.Bench.count c.args.bench.now) (g.B.Bench.log c.args.bench.now) same refl) c.link.ensures.err
+
+pub returns-in-Link-clause-sound : goal.returns-in-Link-clause-sound
+returns-in-Link-clause-sound g c = c.link.ensures.sound (g.B.Bench.calc c.args.bench.now) c.requires.sound
+
+pub returns-in-Engine-clause-steps : goal.returns-in-Engine-clause-steps
+returns-in-Engine-clause-steps g c =
+    let calc : Calc = g.B.Bench.calc c.args.bench.now in
+    on_ok c.engage.result (λ is. rw c.in-Engine.is (engine_carries calc c.in-Engine.instrument c.in-Engine.engine c.args.self.now c.engage.new.self
+    c.args.lines.now.items (g.B.Bench.count c.args.bench.now) (g.B.Bench.log c.args.bench.now) is))
+    c.engage.ensures.set
+
+pub returns-in-Engine-clause-stops : goal.returns-in-Engine-clause-stops
+returns-in-Engine-clause-stops g c =
+    on_err_of c.engage.result
+    (λ same. ends_at_once _ _ c.args.self.now c.engage.new.self c.args.lines.now.items c.args.lines.now.items
+    (g.B.Bench.count c.args.bench.now) (g.B.Bench.log c.args.bench.now) same refl) c.engage.ensures.err
+
+pub returns-in-Engine-clause-sound : goal.returns-in-Engine-clause-sound
+returns-in-Engine-clause-sound g c = c.engage.ensures.sound (g.B.Bench.calc c.args.bench.now) c.requires.sound
+
+pub returns-in-Today-clause-steps : goal.returns-in-Today-clause-steps
+returns-in-Today-clause-steps g c =
+    let calc : Calc = g.B.Bench.calc c.args.bench.now in
+    rw c.in-Today.is (today_carries calc c.in-Today.day c.args.self.now c.move_today.new.self c.args.lines.now.items
+    (g.B.Bench.count c.args.bench.now) (g.B.Bench.log c.args.bench.now) c.move_today.ensures.set)
+
+pub returns-in-Today-clause-sound : goal.returns-in-Today-clause-sound
+returns-in-Today-clause-sound g c = c.move_today.ensures.sound (g.B.Bench.calc c.args.bench.now) c.requires.sound
+
+pub returns-in-Fixing-clause-steps : goal.returns-in-Fixing-clause-steps
+returns-in-Fixing-clause-steps g c =
+    let calc : Calc = g.B.Bench.calc c.args.bench.now in
+    on_ok c.fix.result (λ is. rw c.in-Fixing.is (fixing_carries calc c.in-Fixing.index c.in-Fixing.day c.in-Fixing.rate c.args.self.now c.fix.new.self
+    c.args.lines.now.items (g.B.Bench.count c.args.bench.now) (g.B.Bench.log c.args.bench.now) is))
+    c.fix.ensures.set
+
+pub returns-in-Fixing-clause-stops : goal.returns-in-Fixing-clause-stops
+returns-in-Fixing-clause-stops g c =
+    on_err_of c.fix.result
+    (λ same. ends_at_once _ _ c.args.self.now c.fix.new.self c.args.lines.now.items c.args.lines.now.items
+    (g.B.Bench.count c.args.bench.now) (g.B.Bench.log c.args.bench.now) same refl) c.fix.ensures.err
+
+pub returns-in-Fixing-clause-sound : goal.returns-in-Fixing-clause-sound
+returns-in-Fixing-clause-sound g c = c.fix.ensures.sound (g.B.Bench.calc c.args.bench.now) c.requires.sound
 
 pub returns-in-Drop-clause-steps : goal.returns-in-Drop-clause-steps
 returns-in-Drop-clause-steps g c =

@@ -1,8 +1,6 @@
 // Rows `market,day,tenor,convention,counter,ql,rate`: the rate that an index of the market fixes on a day, by QuantLib
 // and in units of 10^-9.
-use crate::markets::Markets;
-use crate::numbers::{is_near, whole_rate};
-use crate::tallies::Tally;
+use crate::numbers::is_near;
 use crate::terms::Asked;
 use anyhow::bail;
 use day_number::{Day, read_day};
@@ -11,6 +9,7 @@ use desk_terms::Cause;
 use fixed_amount::Rate;
 use flow_terms::Fixings;
 use rate_indexes::fixing;
+use row_markets::{Markets, Tally, whole_rate};
 use std::alloc::Global;
 
 // The number of the index.

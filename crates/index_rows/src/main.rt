@@ -5,15 +5,13 @@
 #![tactic(auto)]
 
 mod forecasts;
-mod markets;
 mod numbers;
 mod stored;
-mod tallies;
 mod terms;
 
 use anyhow::Result;
 use forecasts::compare_forecasts;
-use markets::Markets;
+use row_markets::Markets;
 use std::fs;
 use stored::compare_stored;
 

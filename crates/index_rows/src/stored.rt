@@ -1,9 +1,6 @@
 // Rows `today,day,stored,answer`: the rate of the index of 50 days in the market `M1` on a day, with stored rates
 // `day:units;day:units..` that are added in this order. The answer is a rate in units of 10^-9, `refused` with the word of
 // a cause, or `exists` with the rate that is kept.
-use crate::markets::{Market, Markets};
-use crate::numbers::whole_rate;
-use crate::tallies::Tally;
 use crate::terms::Asked;
 use anyhow::{Context, Result, bail};
 use day_number::read_day;
@@ -12,6 +9,7 @@ use desk_terms::Cause;
 use fixed_amount::Rate;
 use flow_terms::{FixFault, Fixings, IndexTerms};
 use rate_indexes::fixing;
+use row_markets::{Market, Markets, Tally, whole_rate};
 use std::alloc::Global;
 
 // The number of the index.

@@ -1,14 +1,12 @@
 // The flows of instruments on a notional of 1,000,000 by their terms in the tables:
 // `bond:START:END:COUPON:EVERY:CONVENTION:COUNTER`, `fra:START:STRIKE:TENOR:CONVENTION:COUNTER` and
 // `swap:SIDE:START:END:FIXED_RATE:FIXED_EVERY:FIXED_COUNTER:FLOAT_TENOR:SPREAD:CONVENTION`.
-use crate::markets::Market;
-use crate::numbers::whole_rate;
-use crate::terms::{calendar_of, convention_of, counter_of, index_of};
 use cash_flow_legs::{fixed_leg, float_leg, forward_flow, redemption};
 use day_number::{Convention, Day, read_day, read_tenor};
 use fixed_amount::Amount;
 use flow_terms::{FlowTermList, IndexTerms};
 use holiday_calendars::Calendar;
+use row_markets::{Market, calendar_of, convention_of, counter_of, whole_rate};
 use schedule_rules::{Plan, Rule, Schedule, make};
 use std::alloc::Global;
 use std::str::Split;
@@ -93,7 +91,11 @@ fn agreement(
     let strike = whole_rate(words.next()?)?;
     let tenor = words.next()?;
     let conv = convention_of(words.next()?)?;
-    let index = index_of(market, tenor, conv, counter_of(words.next()?)?)?;
+    let index = market.index(
+        read_tenor(tenor.as_bytes())?,
+        conv,
+        counter_of(words.next()?)?,
+    )?;
     let mut flows = FlowTermList::new(alloc);
     forward_flow(&index, start, NOTIONAL, strike, &mut flows).ok()?;
     Some(Instrument {
@@ -114,7 +116,7 @@ fn swap(alloc: Global, market: &Market<'_>, words: &mut Split<'_, char>) -> Opti
     let tenor = words.next()?;
     let spread = whole_rate(words.next()?)?;
     let conv = convention_of(words.next()?)?;
-    let index = index_of(market, tenor, conv, Counter::Act360)?;
+    let index = market.index(read_tenor(tenor.as_bytes())?, conv, Counter::Act360)?;
     let fixed = schedule_of(alloc, &cal, start, end, every, conv)?;
     let floating = schedule_of(alloc, &cal, start, end, tenor, conv)?;
     let mut flows = FlowTermList::new(alloc);

@@ -5,7 +5,6 @@ ghost use Rattle.desk_terms.specs.Reading.{reading_of, IsWellFormed, IsIndexOf, 
 ghost use Rattle.price_vectors.specs.Inputs.{is_curve};
 
 use crate::instruments::Instrument;
-use crate::markets::Market;
 use curve_points::{CurveValue, copy_curve};
 use day_number::Day;
 use desk_names::ObjId;
@@ -14,6 +13,7 @@ use discount_engines::price;
 use fixed_amount::Amount;
 use flow_terms::{Fixings, FlowTerms, IndexTerms, IndexUse, expired, needs_forecast};
 use instrument_terms::flows_terms;
+use row_markets::Market;
 use std::alloc::Global;
 
 // The numbers of the instrument, its index and its engine.

@@ -7,14 +7,11 @@
 
 mod instruments;
 mod jobs;
-mod markets;
 mod numbers;
 mod rows;
-mod tallies;
-mod terms;
 
 use anyhow::Result;
-use markets::Markets;
+use row_markets::Markets;
 use rows::compare_values;
 use std::fs;
 

@@ -1,8 +1,5 @@
 // Numbers of the tables.
-ghost use Rattle.std.specs.Prelude.{IfSome};
-ghost use Rattle.flow_terms.specs.Fixings.{IsRate};
-
-use fixed_amount::{Amount, Discount, Rate, read_decimal};
+use fixed_amount::{Amount, read_decimal};
 
 // How many units of 10^-12 a unit of 10^-6 has.
 const FINE: i128 = 1_000_000;
@@ -10,26 +7,6 @@ const FINE: i128 = 1_000_000;
 // The greatest distance between a gap and the stated one, which has two places: half a hundredth of a unit of 10^-6, and
 // what QuantLib's value lost where it was cut, in units of 10^-12.
 const HALF: u128 = 5_001;
-
-/// A discount factor in units of 10^-12.
-pub(crate) fn whole_factor(text: &str) -> Option<Discount> {
-    let units = read_decimal(text.as_bytes(), 0).ok()?;
-    if units < 1 || units > 4_000_000_000_000 {
-        return None;
-    }
-    Some(Discount(units))
-}
-
-/// A rate within 10 either way, in units of 10^-9.
-pub(crate) fn whole_rate(text: &str) -> Option<Rate>
-    ensures { IfSome result IsRate }
-{
-    let units = read_decimal(text.as_bytes(), 0).ok()?;
-    if units < -10_000_000_000 || units > 10_000_000_000 {
-        return None;
-    }
-    Some(Rate(units))
-}
 
 /// An amount in units of 10^-6.
 pub(crate) fn whole_amount(text: &str) -> Option<Amount> {

@@ -2,10 +2,9 @@
 // of 10^-6 over the same nodes, the gap between them in these units, and why they differ by more than roundings.
 use crate::instruments::instrument_of;
 use crate::jobs::value_of;
-use crate::markets::Markets;
 use crate::numbers::{has_gap, whole_amount};
-use crate::tallies::Tally;
 use anyhow::{Result, bail};
+use row_markets::{Markets, Tally};
 use std::alloc::Global;
 
 /// The texts of a row.

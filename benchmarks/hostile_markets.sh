@@ -46,6 +46,22 @@ head = TOP + QUOTES
 stocks = "".join(f'[[object]]\nkind = "stock"\nname = "s{k}"\nquote = "q"\n' for k in range(4_000))
 singles = "".join(f'{{part="s{k}",weight=1}},' for k in range(3_999))
 case("members", fill(head + stocks + '[[object]]\nkind = "composite"\nname = "k"\nparts = [' + singles, '{part="s3999",weight=1},', "]\n"), "name,value\nq,1\n")
+# Curves of 64 helpers and instruments of daily schedules, a quarter, a half and the whole of the objects that there may be;
+# the last object is refused, so that the answer is short.
+node = '{kind="deposit",quote="q",tenor="1D",convention="following",counter="act360"},'
+daily = 'notional="100"\nstart="2024-01-02"\nend="2026-03-12"\ncalendar="all"\n'
+stand = head + '[[calendar]]\nkind = "null"\nname = "all"\n'
+for part in (4, 2, 1):
+    curves, others = 1_000 // part, 3_092 // part // 2
+    made = [stand]
+    made += [f'[[object]]\nkind="curve"\nname="c{k}"\ncalendar="all"\nsettlement=0\nhelpers=[{node * 64}]\n' for k in range(curves)]
+    made += ['[[object]]\nkind="index"\nname="x"\ncalendar="all"\nfixing_days=0\ntenor="1D"\nconvention="following"\ncounter="act360"\ncurve="c0"\n',
+             '[[object]]\nkind="engine"\nname="e"\ncurve="c0"\n']
+    made += [f'[[object]]\nkind="bond"\nname="b{k}"\n{daily}coupon="0.03"\nevery="1D"\ncounter="act360"\n' for k in range(others)]
+    made += [f'[[object]]\nkind="swap"\nname="w{k}"\n{daily}side="pay"\nfixed_rate="0.03"\nfixed_every="1D"\nfixed_counter="act360"\n'
+             f'index="x"\nfloat_every="1D"\nfloat_counter="act360"\n' for k in range(others)]
+    made += ['[[object]]\nkind="stock"\nname="last"\nquote="' + ("q" if part == 1 else "none") + '"\n']
+    case(f"made_{part}", "".join(made), "name,value\nq,1\n")
 case("fields", head, fill("name,value\n", "a,"))
 case("records", head, fill("name,value\n", "\n"))
 case("short", head, fill("name,value\n", "a\n"))

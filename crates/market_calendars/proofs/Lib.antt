@@ -1,2 +1,3 @@
 mod ByText
 mod Counts
+mod CopyLists

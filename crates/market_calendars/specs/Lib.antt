@@ -1,4 +1,5 @@
 pub mod Calendars
+pub mod Building
 pub mod Keys
 pub mod Weekend
 pub mod Places

@@ -3,6 +3,7 @@
 //! `Calendars`, `NamedCalendar`, `read_calendars`.
 #![tactic(auto)]
 
+mod building;
 mod calendars;
 mod keys;
 mod making;

@@ -15,7 +15,7 @@ use std::alloc::Global;
 use toml::Value;
 
 /// The most parts of a joint calendar.
-const MOST_PARTS: usize = 8;
+pub(crate) const MOST_PARTS: usize = 8;
 
 /// What a key of a calendar gives.
 #[derive(Drop)]

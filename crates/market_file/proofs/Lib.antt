@@ -1,0 +1,4 @@
+mod Given
+mod Fields
+mod Served
+pub mod Built

@@ -3,3 +3,4 @@ pub mod Document
 pub mod Top
 pub mod Paths
 pub mod Market
+pub mod Standing

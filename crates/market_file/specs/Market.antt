@@ -8,7 +8,8 @@ use Rattle.market_tables.specs.Given.{◌>>=◌}
 use Rattle.market_tables.specs.Entries.{entries_from}
 use Rattle.market_records.specs.Records.{behind_records}
 use Rattle.market_calendars.specs.Reader.{calendars_in}
-use Rattle.market_objects.specs.Board.{Board, started}
+use Rattle.market_fields.specs.Earlier.{Earlier}
+use Rattle.market_objects.specs.Board.{started}
 use Rattle.market_objects.specs.Reader as object
 use Rattle.market_objects.specs.Quotes as quote
 use Rattle.market_objects.specs.Fixings as fixing
@@ -40,35 +41,35 @@ abbrev pub table_sized : Section → Bool → List ℕ → Result (List ℕ) Fau
 table_sized s named file = if named then sized s file else Ok file
 
 -- the objects with the quotes of a file that is named
-abbrev pub quotes_onto : Bool → List ℕ → Board → Result Board Fault
+abbrev pub quotes_onto : Bool → List ℕ → Earlier → Result Earlier Fault
 quotes_onto named text s =
     if named
     then in_section section.Quotes (behind_records quote.is_header quote.behind s 0 (records default_config (strip_bom text)))
     else Ok s
 
 -- the objects with those of the tables
-abbrev pub objects_onto : Members → Board → Result Board Fault
+abbrev pub objects_onto : Members → Earlier → Result Earlier Fault
 objects_onto document s = in_section section.Objects (entries_from object.behind s 1 (tables_at (codes "object") document))
 
 -- the objects with the fixings of a file that is named
-abbrev pub fixings_onto : Bool → List ℕ → Board → Result Board Fault
+abbrev pub fixings_onto : Bool → List ℕ → Earlier → Result Earlier Fault
 fixings_onto named text s =
     if named
     then in_section section.Fixings (behind_records fixing.is_header fixing.behind s 0 (records default_config (strip_bom text)))
     else Ok s
 
 -- THE READING ORDER: the lengths of the tables beside the market, the calendars, the quotes, the objects, the fixings
-abbrev pub objects_of : Members → TopTable → List ℕ → List ℕ → Result Board Fault
+abbrev pub objects_of : Members → TopTable → List ℕ → List ℕ → Result Earlier Fault
 objects_of document top quotes fixings =
     table_sized section.Quotes (is_some top.quotes) quotes >>= (λ _.
     table_sized section.Fixings (is_some top.fixings) fixings >>= (λ _.
-    in_section section.Calendars (calendars_in (tables_at (codes "calendar") document)) >>= (λ _.
-    quotes_onto (is_some top.quotes) quotes started >>= (λ with_quotes.
+    in_section section.Calendars (calendars_in (tables_at (codes "calendar") document)) >>= (λ calendars.
+    quotes_onto (is_some top.quotes) quotes (started calendars) >>= (λ with_quotes.
     objects_onto document with_quotes >>= (λ with_objects.
     fixings_onto (is_some top.fixings) fixings with_objects)))))
 
 -- the evaluation date and the objects of a market's text and its tables
-abbrev pub board_of : List ℕ → List ℕ → List ℕ → Result (ℤ × Board) Fault
+abbrev pub board_of : List ℕ → List ℕ → List ℕ → Result (ℤ × Earlier) Fault
 board_of text quotes fixings =
     sized section.Top text >>= (λ _.
     at_entry section.Top 0 (document_of text) >>= (λ document.

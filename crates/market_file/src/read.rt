@@ -1,5 +1,5 @@
 // A market from its files.
-ghost use Rattle.std.specs.Prelude.{◌≡◌, Option, Ok, option_map, codes, OnErr};
+ghost use Rattle.std.specs.Prelude.{◌≡◌, Option, Ok, option_map, codes, IfOk, OnErr};
 ghost use Rattle.toml.specs.View.{view, table_view, items_view};
 ghost use Rattle.market_tables.specs.Given.{Gives};
 ghost use Rattle.market_calendars.specs.Reader.{calendars_in};
@@ -7,6 +7,7 @@ ghost use Rattle.market_file.specs.Fault.{Answers, at_entry, in_section};
 ghost use Rattle.market_file.specs.Document.{document_of};
 ghost use Rattle.market_file.specs.Top.{top_of};
 ghost use Rattle.market_file.specs.Market.{items_of, tables_at, sized, table_sized, quotes_onto, objects_onto, fixings_onto, objects_of, board_of, read_market};
+ghost use Rattle.market_file.specs.Standing.{IsReady};
 ghost use Rattle.market_file.specs.declared.fault.Section.TheVariants as section;
 ghost use Rattle.market_objects.specs.Board.{started};
 
@@ -93,10 +94,10 @@ fn calendars_of(alloc: Global, table: &Table) -> Result<Calendars, MarketFault>
     }
 }
 
-fn start(alloc: Global) -> Result<Board, MarketFault>
-    ensures { Answers (λ board. board) result (Ok started) }
+fn start(alloc: Global, calendars: Calendars) -> Result<Board, MarketFault>
+    ensures { Answers (λ board. board) result (Ok (started calendars)) }
 {
-    match Board::start(alloc) {
+    match Board::start(alloc, calendars) {
         Ok(board) => Ok(board),
         Err(fault) => Err(fault_at(Section::Top, 0, fault)),
     }
@@ -169,8 +170,8 @@ fn objects_of(
     let has_fixings = top.fixings.is_some();
     table_sized(Section::Quotes, has_quotes, quotes)?;
     table_sized(Section::Fixings, has_fixings, fixings)?;
-    calendars_of(alloc, table)?;
-    let board = start(alloc)?;
+    let calendars = calendars_of(alloc, table)?;
+    let board = start(alloc, calendars)?;
     let with_quotes = quotes_onto(alloc, has_quotes, quotes, board)?;
     let with_objects = objects_onto(table, with_quotes)?;
     fixings_onto(alloc, has_fixings, fixings, with_objects)
@@ -194,7 +195,8 @@ fn board_of(
 
 /// The market of a text and of the tables that it names, or its first fault; a table that it does not name is not read.
 /// `names` becomes the names of the market's objects, `today` first, and stays as it was where the market is refused;
-/// the names of calendars are not among them.
+/// the names of calendars are not among them. Curves and indexes are within their limits, and each object rests on
+/// objects before it that are of the kinds that it wants.
 pub fn read_market(
     alloc: Global,
     text: &[u8],
@@ -202,8 +204,9 @@ pub fn read_market(
     fixings: &[u8],
     names: &mut Names,
 ) -> Result<Market, MarketFault>
-    ensures market { Answers (λ market. record { today = market.today; made = market.made; names = names.new })
+    ensures market { Answers (λ market. record { today = market.today; made = market.made.items; names = names.new })
         result (read_market text.now quotes.now fixings.now) }
+    ensures ready { IfOk result (λ market. IsReady names.new market.made.items) }
     ensures err { OnErr result (names.new ≡ names.old) }
 {
     let (today, board) = board_of(alloc, text, quotes, fixings)?;

@@ -1,10 +1,5 @@
-pub mod Earlier
-pub mod Keys
-pub mod Field
-pub mod Places
-pub mod Parts
-pub mod Making
 pub mod Board
+pub mod Making
 pub mod Reader
 pub mod Quotes
 pub mod Fixings

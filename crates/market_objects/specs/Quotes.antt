@@ -7,8 +7,8 @@ use Rattle.market_tables.specs.declared.fault.MarketKind.TheVariants as fault
 use Rattle.market_tables.specs.Given.{◌>>=◌}
 use Rattle.market_tables.specs.Values.{name_of, decimal_of}
 use Rattle.market_records.specs.Row.{field}
-use Rattle.market_objects.specs.Board.{Board, earlier_of, added}
-use Rattle.market_objects.specs.Earlier.{untaken}
+use Rattle.market_fields.specs.Earlier.{Earlier, untaken}
+use Rattle.market_objects.specs.Board.{added}
 
 -- the first record is `name,value`
 abbrev pub is_header : List (List ℕ) → Bool
@@ -21,10 +21,10 @@ value_of text =
     else (decimal_of 9 1_000_000_000_000_000_000 text >>= (λ units. Ok (Some units)))
 
 -- the objects with the quote that a record says: its fields in their order, then whether the name is taken
-abbrev pub behind : Board → List (List ℕ) → Result Board MarketKind
-behind s row =
+abbrev pub behind : Earlier → List (List ℕ) → Result Earlier MarketKind
+behind e row =
     if length row == 2
     then (name_of (field row 0) >>= (λ name.
     value_of (field row 1) >>= (λ value.
-    untaken (earlier_of s) name >>= (λ untaken_name. added s untaken_name (terms.Quote value)))))
+    untaken e name >>= (λ untaken_name. added e untaken_name (terms.Quote value)))))
     else Err fault.Record

@@ -3,11 +3,15 @@ ghost use Rattle.std.specs.Prelude.{◌≡◌, ◌<◌, ◌≤◌, ◌+◌, leng
 ghost use Rattle.desk_names.specs.Name.{IsName};
 ghost use Rattle.desk_names.specs.Names.{place_of, with_text, most_names};
 ghost use Rattle.market_tables.specs.declared.fault.TableFault.TheVariants.{NoMemory};
+ghost use Rattle.market_tables.specs.Given.{Gives};
 
-use crate::earlier::Earlier;
-use desk_names::{NameFault, NameId, Names};
+use crate::fixings::fix_at;
+use day_number::Day;
+use desk_names::{NameFault, NameId, Names, ObjId};
 use desk_terms::{Kind, Terms};
-use item_lists::Items;
+use fixed_amount::Rate;
+use market_calendars::Calendars;
+use market_fields::Earlier;
 use market_tables::{MarketKind, NameText, TableFault};
 use std::alloc::Global;
 use std::marker::Model;
@@ -16,24 +20,25 @@ use std::marker::Model;
 const MOST_OBJECTS: usize = 4096;
 
 /// The objects of a market but `today`, in order of creation, each with its name and its terms.
-pub type MadeList = Items<(NameId, Terms)>;
+pub type MadeList = Vec<(NameId, Terms)>;
 
-/// The names, the kinds and the terms of the objects so far.
+/// The names, the kinds and the terms of the objects so far, and the calendars.
 #[derive(Drop)]
 pub struct Board {
     names: Names,
     kinds: Vec<Kind>,
     made: MadeList,
+    calendars: Calendars,
     alloc: Global,
 }
 
 impl Model for Board {
     ghost use Rattle.std.specs.Prelude.{length, ◌≤◌};
-    ghost use Rattle.market_objects.specs.Board.{Board};
+    ghost use Rattle.market_fields.specs.Earlier.{Earlier};
 
-    ghost Value = { Board };
+    ghost Value = { Earlier };
 
-    ghost view = { λ b. record { names = b.names; kinds = b.kinds.items; made = b.made } };
+    ghost view = { λ b. record { names = b.names; kinds = b.kinds.items; made = b.made.items; calendars = b.calendars } };
 
     ghost invariant = { λ b. (length b.names ≤ length b.kinds.items) × (length b.kinds.items ≤ 4096) };
 }
@@ -59,21 +64,25 @@ fn number_of(names: &mut Names, text: &[u8]) -> Result<NameId, TableFault>
 impl Board {
     ghost use Rattle.std.specs.Prelude.{◌≡◌, Ok};
     ghost use Rattle.market_tables.specs.Given.{Gives};
-    ghost use Rattle.market_objects.specs.Earlier.{seen};
-    ghost use Rattle.market_objects.specs.Board.{started, earlier_of, added};
+    ghost use Rattle.market_fields.specs.Earlier.{seen};
+    ghost use Rattle.flow_terms.specs.Fixings.{IsRate};
+    ghost use Rattle.market_objects.specs.Board.{started, added};
+    ghost use Rattle.market_objects.specs.Fixings.{with_fixing_of};
 
-    /// `today` alone.
-    pub fn start(alloc: Global) -> Result<Board, TableFault>
-        ensures { Gives (λ board. board) result (Ok started) }
+    /// `today` alone, over some calendars.
+    pub fn start(alloc: Global, calendars: Calendars) -> Result<Board, TableFault>
+        ensures { Gives (λ board. board) result (Ok (started calendars)) }
     {
         let mut names = Names::new(alloc);
         number_of(&mut names, b"today")?;
         let mut kinds = Vec::new(alloc);
         kinds.push(Kind::Today)?;
+        let made = Vec::new(alloc);
         Ok(Board {
             names,
             kinds,
-            made: MadeList::new(alloc),
+            made,
+            calendars,
             alloc,
         })
     }
@@ -85,11 +94,13 @@ impl Board {
 
     /// What stands so far.
     pub(crate) fn earlier(&self) -> Earlier<'_>
-        ensures { seen result ≡ earlier_of self.now }
+        ensures { seen result ≡ self.now }
     {
         Earlier {
             names: &self.names,
             kinds: self.kinds.as_slice(),
+            made: self.made.as_slice(),
+            calendars: &self.calendars,
         }
     }
 
@@ -106,9 +117,20 @@ impl Board {
         Ok(())
     }
 
+    /// Stores a rate of a day for an object that is an index: `Kind` where it is none, `Exists` where its day has a rate.
+    pub(crate) fn fix(&mut self, index: ObjId, day: Day, rate: Rate) -> Result<(), TableFault>
+        requires { IsRate rate }
+        ensures { Gives (λ _. self.new) result (with_fixing_of self.old index day rate) }
+    {
+        let at = index.place().saturating_sub(1);
+        fix_at(&mut self.made, at, day, rate)?;
+        Ok(())
+    }
+
     /// The names and the objects, `today` not among the objects.
     pub fn into_parts(self) -> (Names, MadeList)
-        ensures { result ≡ (self.names, self.made) }
+        ensures names { result.0 ≡ self.names }
+        ensures made { result.1.items ≡ self.made }
     {
         (self.names, self.made)
     }

@@ -1,14 +1,21 @@
 // The fixings of a market, record by record.
-ghost use Rattle.std.specs.Prelude.{◌≡◌, false};
+ghost use Rattle.std.specs.Prelude.{◌≡◌, false, slice_get};
 ghost use Rattle.csv.specs.Records.{fields_of};
 ghost use Rattle.csv.specs.Reading.{default_config, strip_bom, records};
 ghost use Rattle.market_tables.specs.Given.{Gives};
 ghost use Rattle.market_tables.specs.Entries.{GivesAt};
+ghost use Rattle.market_tables.specs.Values.{day_of};
 ghost use Rattle.market_records.specs.Records.{behind_records};
-ghost use Rattle.market_objects.specs.Fixings.{is_header, behind};
+ghost use Rattle.flow_terms.specs.Fixings.{fixing_on, IsRate};
+ghost use Rattle.market_objects.specs.Fixings.{is_header, stored, fixed, fixed_in, behind};
 
 use crate::Board;
 use csv::ByteRecord;
+use day_number::{Day, read_day};
+use desk_names::NameId;
+use desk_terms::{Fixings, Terms, Wanted};
+use fixed_amount::Rate;
+use market_fields::{TermRate, served};
 use market_records::{TakesRecords, field, take_records};
 use market_tables::{EntryFault, MarketKind, TableFault};
 use std::alloc::Global;
@@ -24,15 +31,79 @@ fn is_header(row: &ByteRecord) -> bool
         && field(row, 2) == b"rate".as_slice()
 }
 
-// Refuses the fixing that a record says: no table makes an index yet, so that whatever it names is of another kind.
+// The day of a text, or `Date`.
+fn day_of(text: &[u8]) -> Result<Day, TableFault>
+    ensures { Gives (λ day. day) result (day_of text.now) }
+{
+    match read_day(text) {
+        Some(day) => Ok(day),
+        None => Err(TableFault::Kind(MarketKind::Date)),
+    }
+}
+
+// Stores a rate, or `Exists` where the day has one.
+fn store(fixings: &mut Fixings, day: Day, rate: Rate) -> Result<(), TableFault>
+    requires { IsRate rate }
+    ensures { Gives (λ _. fixings.new) result (stored fixings.old day rate (fixing_on fixings.old day)) }
+{
+    if fixings.get(day).is_some() {
+        return Err(TableFault::Kind(MarketKind::Exists));
+    }
+    match fixings.add(day, rate) {
+        Ok(()) => Ok(()),
+        // The day has no rate, so that memory alone can be wanting.
+        Err(_) => Err(TableFault::NoMemory),
+    }
+}
+
+// Stores a rate for an index, or `Kind` where the terms are none.
+fn fix(terms: &mut Terms, day: Day, rate: Rate) -> Result<(), TableFault>
+    requires { IsRate rate }
+    ensures { Gives (λ _. terms.new) result (fixed terms.old day rate) }
+{
+    match terms {
+        Terms::Index(_, fixings) => store(fixings, day, rate),
+        Terms::Quote(_)
+        | Terms::Derived { .. }
+        | Terms::Handle { .. }
+        | Terms::Curve(_)
+        | Terms::Implied { .. }
+        | Terms::Engine { .. }
+        | Terms::Stock { .. }
+        | Terms::Composite(_)
+        | Terms::Flows(..) => Err(TableFault::Kind(MarketKind::Kind)),
+    }
+}
+
+// Stores a rate for the index at a place among the objects.
+pub(crate) fn fix_at(
+    made: &mut Vec<(NameId, Terms)>,
+    at: usize,
+    day: Day,
+    rate: Rate,
+) -> Result<(), TableFault>
+    requires { IsRate rate }
+    ensures { Gives (λ _. made.new.items) result (fixed_in made.old.items at day rate (slice_get made.old.items at)) }
+{
+    if at < made.len() {
+        fix(&mut made[at].1, day, rate)
+    } else {
+        Err(TableFault::Kind(MarketKind::Kind))
+    }
+}
+
+// Stores the fixing that a record says: its fields are tested in their order, and then whether its day has a rate.
 fn take_fixing(board: &mut Board, row: &ByteRecord) -> Result<(), TableFault>
     ensures { Gives (λ _. board.new) result (behind board.old (fields_of row.now)) }
 {
     if row.len() != 3 {
         return Err(TableFault::Kind(MarketKind::Record));
     }
-    board.earlier().named_object(field(row, 0))?;
-    Err(TableFault::Kind(MarketKind::Kind))
+    let named = board.earlier().named_object(field(row, 0))?;
+    let index = served(named, Wanted::Index)?;
+    let day = day_of(field(row, 1))?;
+    let rate = TermRate::read(field(row, 2))?;
+    board.fix(index, day, rate.rate())
 }
 
 // A board that takes the records of fixings.
@@ -42,9 +113,9 @@ struct FixingTaker {
 }
 
 impl Model for FixingTaker {
-    ghost use Rattle.market_objects.specs.Board.{Board};
+    ghost use Rattle.market_fields.specs.Earlier.{Earlier};
 
-    ghost Value = { Board };
+    ghost Value = { Earlier };
 
     ghost view = { λ t. t.board };
 }

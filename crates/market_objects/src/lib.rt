@@ -1,24 +1,16 @@
-//! The objects of a market: the quotes of the quotes file, and then those of the tables, each made over what stands
-//! earlier. A board keeps their names, their kinds and their terms.
+//! The objects of a market: those that the tables of the market say, and the quotes and the fixings of the tables beside
+//! it.
 //!
-//! `Board`, `read_quotes`, `read_objects`, `read_fixings`; `MadeList`.
+//! `Board`, `MadeList`; `read_quotes`, `read_objects`, `read_fixings`.
 #![tactic(auto)]
 
 mod board;
-mod earlier;
-mod field;
 mod fixings;
-mod keys;
 mod making;
-mod parts;
-mod places;
 mod quotes;
 mod reader;
 
 pub use board::{Board, MadeList};
-pub use earlier::{Earlier, Named};
-pub use field::Field;
 pub use fixings::read_fixings;
-pub use keys::{ObjectKind, ObjectPlace};
 pub use quotes::read_quotes;
 pub use reader::read_objects;

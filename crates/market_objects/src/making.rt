@@ -1,22 +1,28 @@
 // What the fields of an object's table make.
-ghost use Rattle.std.specs.Prelude.{◌≡◌, Option, Ok};
+ghost use Rattle.std.specs.Prelude.{◌≡◌, Option};
 ghost use Rattle.market_tables.specs.Given.{Gives};
-ghost use Rattle.market_objects.specs.Making.{derived_of, target_wanted, linked, handle_of, implied_of, engine_of, stock_of, has_repeat, composite_of, terms_of, entry_made};
+ghost use Rattle.market_fields.specs.Earlier.{seen};
+ghost use Rattle.market_objects.specs.Making.{derived_of, target_wanted, linked, handle_of, curve_of, implied_of, index_of, engine_of, stock_of, composite_of, parts_of, terms_of, entry_made};
 
-use crate::earlier::{Named, served};
-use crate::field::{Field, day_in, name_in, named_in, object_in, parts_in, target_in};
-use crate::keys::ObjectKind;
-use desk_terms::{HandleKind, Part, PartList, Terms, Wanted};
-use indexmap::IndexSet;
+use desk_terms::{CurveTerms, Fixings, HandleKind, IndexTerms, PartList, Terms, Wanted};
+use instrument_terms::{composite, stock};
+use market_fields::{
+    Earlier, Field, Named, ObjectKind, calendar_in, convention_at, count_at, counter_at, day_at,
+    flag_at, helpers_in, must, name_in, named_at, object_at, parts_in, served, target_at, tenor_at,
+};
+use market_instruments::{bond, forward_agreement, limit_fault, swap};
 use market_tables::{MarketKind, NameText, TableFault, take_field};
 use std::alloc::Global;
 
+/// The most parts of a composite: there are no more objects that they could be.
+const MOST_PARTS: usize = 4095;
+
 // A sum or a difference.
-fn derived_of(minus: bool, first: Option<Field>, second: Option<Field>) -> Result<Terms, TableFault>
-    ensures { Gives (λ terms. terms) result (derived_of minus first second) }
+fn derived_of(minus: bool, fields: &[Option<Field>]) -> Result<Terms, TableFault>
+    ensures { Gives (λ terms. terms) result (derived_of minus fields.now) }
 {
-    let first = object_in(first)?;
-    let second = object_in(second)?;
+    let first = must(object_at(fields, 1)?)?;
+    let second = must(object_at(fields, 2)?)?;
     Ok(Terms::Derived {
         minus,
         first,
@@ -53,90 +59,132 @@ fn linked(target_kind: HandleKind, to: Option<Named>) -> Result<Terms, TableFaul
     }
 }
 
-fn handle_of(target: Option<Field>, to: Option<Field>) -> Result<Terms, TableFault>
-    ensures { Gives (λ terms. terms) result (handle_of target to) }
+fn handle_of(fields: &[Option<Field>]) -> Result<Terms, TableFault>
+    ensures { Gives (λ terms. terms) result (handle_of fields.now) }
 {
-    let target_kind = target_in(target)?;
-    linked(target_kind, named_in(to)?)
+    let target_kind = must(target_at(fields, 1)?)?;
+    linked(target_kind, named_at(fields, 2)?)
 }
 
-fn implied_of(curve: Option<Field>, reference: Option<Field>) -> Result<Terms, TableFault>
-    ensures { Gives (λ terms. terms) result (implied_of curve reference) }
+// A curve; it takes its calendar and its helpers out of the fields.
+#[tactic(auto, using(market_tables::proofs::FieldPlaces::other))]
+fn curve_of(fields: &mut Vec<Option<Field>>) -> Result<Terms, TableFault>
+    ensures { Gives (λ terms. terms) result (curve_of fields.old.items) }
 {
-    let curve = object_in(curve)?;
-    let reference = day_in(reference)?;
+    let settlement = must(count_at(fields, 2)?)?;
+    let cal = must(calendar_in(take_field(fields, 1))?)?;
+    let helpers = must(helpers_in(take_field(fields, 3))?)?;
+    Ok(Terms::Curve(CurveTerms {
+        cal,
+        settlement,
+        helpers,
+    }))
+}
+
+fn implied_of(fields: &[Option<Field>]) -> Result<Terms, TableFault>
+    ensures { Gives (λ terms. terms) result (implied_of fields.now) }
+{
+    let curve = must(object_at(fields, 1)?)?;
+    let reference = must(day_at(fields, 2)?)?;
     Ok(Terms::Implied { curve, reference })
 }
 
-fn engine_of(curve: Option<Field>) -> Result<Terms, TableFault>
-    ensures { Gives (λ terms. terms) result (engine_of curve) }
+// An index without stored rates; it takes its calendar out of the fields.
+fn index_of(alloc: Global, fields: &mut Vec<Option<Field>>) -> Result<Terms, TableFault>
+    ensures { Gives (λ terms. terms) result (index_of fields.old.items) }
 {
-    let curve = object_in(curve)?;
+    let fixing_days = must(count_at(fields, 2)?)?;
+    let tenor = must(tenor_at(fields, 3)?)?;
+    let conv = must(convention_at(fields, 4)?)?;
+    let eom = flag_at(fields, 5)?.unwrap_or(false);
+    let counter = must(counter_at(fields, 6)?)?;
+    let curve = must(object_at(fields, 7)?)?;
+    let cal = must(calendar_in(take_field(fields, 1))?)?;
+    let terms = IndexTerms {
+        cal,
+        fixing_days,
+        tenor,
+        conv,
+        eom,
+        counter,
+        curve,
+    };
+    Ok(Terms::Index(terms, Fixings::new(alloc)))
+}
+
+fn engine_of(fields: &[Option<Field>]) -> Result<Terms, TableFault>
+    ensures { Gives (λ terms. terms) result (engine_of fields.now) }
+{
+    let curve = must(object_at(fields, 1)?)?;
     Ok(Terms::Engine { curve })
 }
 
-fn stock_of(quote: Option<Field>) -> Result<Terms, TableFault>
-    ensures { Gives (λ terms. terms) result (stock_of quote) }
+fn stock_of(fields: &[Option<Field>]) -> Result<Terms, TableFault>
+    ensures { Gives (λ terms. terms) result (stock_of fields.now) }
 {
-    let quote = object_in(quote)?;
-    Ok(Terms::Stock { quote })
+    let quote = must(object_at(fields, 1)?)?;
+    Ok(stock(quote))
 }
 
-// Whether a part names a member that a part before it names. Takes expected time in the number of parts.
-fn has_repeat(alloc: Global, parts: &[Part]) -> Result<bool, TableFault>
-    ensures { Gives (λ found. found) result (Ok (has_repeat parts.now)) }
-{
-    let mut before: IndexSet<u32> = IndexSet::new(alloc);
-    for part in parts {
-        if !before.insert(part.member.0)? {
-            return Ok(true);
-        }
-    }
-    Ok(false)
-}
-
-// A composite, which names no member twice.
-fn composite_of(alloc: Global, parts: PartList) -> Result<Terms, TableFault>
+// A composite, which names no member twice. One of more parts than there may be objects names one twice.
+fn composite_of(parts: PartList) -> Result<Terms, TableFault>
     ensures { Gives (λ terms. terms) result (composite_of parts) }
 {
-    if has_repeat(alloc, parts.items())? {
+    if parts.len() > MOST_PARTS {
         return Err(TableFault::Kind(MarketKind::Parts));
     }
-    Ok(Terms::Composite(parts))
+    match composite(parts) {
+        Ok(terms) => Ok(terms),
+        Err(fault) => Err(TableFault::Kind(limit_fault(fault))),
+    }
 }
 
-// The terms of a kind, of the fields behind the name.
+// The composite of a key that may be missing, which says no parts.
+fn parts_of(alloc: Global, field: Option<Field>) -> Result<Terms, TableFault>
+    ensures { Gives (λ terms. terms) result (parts_of field) }
+{
+    match parts_in(field)? {
+        Some(parts) => composite_of(parts),
+        None => composite_of(PartList::new(alloc)),
+    }
+}
+
+// The terms of a kind, of the fields behind the name; some are taken out.
 fn terms_of(
     alloc: Global,
+    earlier: Earlier<'_>,
     kind: ObjectKind,
-    first: Option<Field>,
-    second: Option<Field>,
+    fields: &mut Vec<Option<Field>>,
 ) -> Result<Terms, TableFault>
-    ensures { Gives (λ terms. terms) result (terms_of kind first second) }
+    ensures { Gives (λ terms. terms) result (terms_of (seen earlier.entry) kind fields.old.items) }
 {
     match kind {
-        ObjectKind::Sum => derived_of(false, first, second),
-        ObjectKind::Difference => derived_of(true, first, second),
-        ObjectKind::Handle => handle_of(first, second),
-        ObjectKind::Implied => implied_of(first, second),
-        ObjectKind::Engine => engine_of(first),
-        ObjectKind::Stock => stock_of(first),
-        ObjectKind::Composite => composite_of(alloc, parts_in(alloc, first)?),
+        ObjectKind::Sum => derived_of(false, fields),
+        ObjectKind::Difference => derived_of(true, fields),
+        ObjectKind::Handle => handle_of(fields),
+        ObjectKind::Curve => curve_of(fields),
+        ObjectKind::Implied => implied_of(fields),
+        ObjectKind::Index => index_of(alloc, fields),
+        ObjectKind::Engine => engine_of(fields),
+        ObjectKind::Stock => stock_of(fields),
+        ObjectKind::Composite => parts_of(alloc, take_field(fields, 1)),
+        ObjectKind::Bond => bond(alloc, earlier, fields),
+        ObjectKind::Swap => swap(alloc, earlier, fields),
+        ObjectKind::Fra => forward_agreement(alloc, earlier, fields),
     }
 }
 
 // The name and the terms that a kind makes of its fields.
-#[tactic(auto, using(market_tables::proofs::FieldPlaces::other))]
 pub(crate) fn entry_made(
     alloc: Global,
+    earlier: Earlier<'_>,
     kind: ObjectKind,
     fields: Vec<Option<Field>>,
 ) -> Result<(NameText, Terms), TableFault>
-    ensures { Gives (λ entry. (entry.0, entry.1)) result (entry_made kind fields.items) }
+    ensures { Gives (λ entry. (entry.0, entry.1)) result (entry_made (seen earlier.entry) kind fields.items) }
 {
     let mut fields = fields;
-    let name = name_in(take_field(&mut fields, 0))?;
-    let first = take_field(&mut fields, 1);
-    let second = take_field(&mut fields, 2);
-    Ok((name, terms_of(alloc, kind, first, second)?))
+    let name = must(name_in(take_field(&mut fields, 0))?)?;
+    let terms = terms_of(alloc, earlier, kind, &mut fields)?;
+    Ok((name, terms))
 }

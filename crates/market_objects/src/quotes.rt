@@ -57,9 +57,9 @@ struct QuoteTaker {
 }
 
 impl Model for QuoteTaker {
-    ghost use Rattle.market_objects.specs.Board.{Board};
+    ghost use Rattle.market_fields.specs.Earlier.{Earlier};
 
-    ghost Value = { Board };
+    ghost Value = { Earlier };
 
     ghost view = { λ t. t.board };
 }

@@ -4,20 +4,17 @@ ghost use Rattle.toml.specs.View.{view, items_view};
 ghost use Rattle.market_tables.specs.Given.{Gives};
 ghost use Rattle.market_tables.specs.Entries.{GivesAt, entries_from};
 ghost use Rattle.market_tables.specs.Table.{listed};
-ghost use Rattle.market_objects.specs.Earlier.{seen};
-ghost use Rattle.market_objects.specs.Keys.{keys_of, kind_of};
+ghost use Rattle.market_fields.specs.Earlier.{seen};
+ghost use Rattle.market_fields.specs.Keys.{keys_of, kind_of};
 ghost use Rattle.market_objects.specs.Reader.{entry_in, behind};
 
 use crate::Board;
-use crate::earlier::Earlier;
-use crate::field::Field;
-use crate::keys::{ObjectKind, ObjectPlace};
 use crate::making::entry_made;
-use crate::parts::place_field;
 use desk_terms::Terms;
+use market_fields::{Earlier, Field, KeyPresence, ObjectKind, ObjectPlace, place_field};
 use market_tables::{
-    EntryFault, Key, Kinds, NameText, Places, Presence, TableFault, TakesTables, entry_of,
-    table_in, take_tables,
+    EntryFault, Key, Kinds, NameText, Places, TableFault, TakesTables, entry_of, table_in,
+    take_tables,
 };
 use std::alloc::Global;
 use toml::{Table, Value};
@@ -30,23 +27,22 @@ struct ObjectReader<'a> {
 }
 
 impl<'a> Places for ObjectReader<'a> {
-    ghost use Rattle.std.specs.Prelude.{Ok};
-    ghost use Rattle.market_tables.specs.Presence.{must_stand};
-    ghost use Rattle.market_objects.specs.Earlier.{seen};
-    ghost use Rattle.market_objects.specs.Parts.{place_field};
+    ghost use Rattle.market_fields.specs.Earlier.{seen};
+    ghost use Rattle.market_fields.specs.Presence as presences;
+    ghost use Rattle.market_fields.specs.Helpers as places;
 
-    type Presence = Presence;
+    type Presence = KeyPresence;
 
     type Place = ObjectPlace;
 
     type Field = Field;
 
-    ghost required = { λ _ presence _. Ok (must_stand presence) };
+    ghost required = { λ _ presence table. presences.required presence table };
 
-    ghost gives = { λ r place d. place_field (seen r.earlier) place d };
+    ghost gives = { λ r place d. places.place_field (seen r.earlier) place d };
 
-    fn must_stand(&self, presence: Presence, _table: &Table) -> Result<bool, TableFault> {
-        Ok(presence.must_stand())
+    fn must_stand(&self, presence: KeyPresence, table: &Table) -> Result<bool, TableFault> {
+        presence.required(table)
     }
 
     fn field(&self, place: ObjectPlace, value: &Value) -> Result<Field, TableFault> {
@@ -55,7 +51,7 @@ impl<'a> Places for ObjectReader<'a> {
 }
 
 impl<'a> Kinds for ObjectReader<'a> {
-    ghost use Rattle.market_objects.specs.Keys as keys;
+    ghost use Rattle.market_fields.specs.Keys as keys;
 
     type Kind = ObjectKind;
 
@@ -69,7 +65,7 @@ impl<'a> Kinds for ObjectReader<'a> {
         ObjectKind::of_word(word)
     }
 
-    fn keys(kind: ObjectKind) -> &'static [Key<Presence, ObjectPlace>]
+    fn keys(kind: ObjectKind) -> &'static [Key<KeyPresence, ObjectPlace>]
         ensures { map listed result.now ≡ keys_of kind }
     {
         kind.keys()
@@ -86,7 +82,7 @@ fn entry_in(
 {
     let reader = ObjectReader { alloc, earlier };
     let (kind, fields) = entry_of(alloc, &reader, table_in(value)?)?;
-    entry_made(alloc, kind, fields)
+    entry_made(alloc, earlier, kind, fields)
 }
 
 impl TakesTables for Board {

@@ -1,4 +1,5 @@
 // Paths and markets as text.
+use crate::instruments::{push_curve, push_flows, push_index};
 use day_number::print_day;
 use desk_names::{NameId, Names, PathText};
 use desk_terms::{HandleKind, Part, Terms};
@@ -37,7 +38,7 @@ pub(crate) fn push_market(
     out.extend_from_slice(b"today ")?;
     print_day(alloc, market.today, out)?;
     out.push(b'\n')?;
-    let made = market.made.items();
+    let made = market.made.as_slice();
     let shown = if made.len() > MOST_LINES {
         1
     } else {
@@ -109,13 +110,13 @@ fn push_terms(alloc: Global, terms: &Terms, out: &mut Vec<u8>) -> Result<(), All
             push_number(alloc, quote.0, out)
         }
         Terms::Composite(parts) => push_parts(alloc, parts.items(), out),
-        Terms::Curve(_) | Terms::Index(..) | Terms::Flows(..) => {
-            out.extend_from_slice(b" of a kind that no row has")
-        }
+        Terms::Curve(terms) => push_curve(alloc, terms, out),
+        Terms::Index(terms, fixings) => push_index(alloc, terms, fixings, out),
+        Terms::Flows(terms, engine) => push_flows(alloc, terms, *engine, out),
     }
 }
 
-fn push_number(alloc: Global, number: u32, out: &mut Vec<u8>) -> Result<(), AllocError> {
+pub(crate) fn push_number(alloc: Global, number: u32, out: &mut Vec<u8>) -> Result<(), AllocError> {
     out.extend_from_slice(format!(in alloc; " {number}")?.as_bytes())
 }
 

@@ -4,6 +4,7 @@
 
 mod case_text;
 mod described;
+mod instruments;
 
 use case_text::decoded;
 use described::{push_market, push_paths};
@@ -19,7 +20,10 @@ fn main(rt: HostRuntime) -> io::Result<()> {
     compare(&rt, "calendars")?;
     compare(&rt, "quotes")?;
     compare(&rt, "objects")?;
-    compare(&rt, "fixings")
+    compare(&rt, "curves")?;
+    compare(&rt, "instruments")?;
+    compare(&rt, "fixings")?;
+    compare_cuts(&rt)
 }
 
 // Compares the cases of a file and prints how many agree. A line `==` stands between two cases. A case has a line that
@@ -83,4 +87,41 @@ fn answered(
         Err(fault) => out.extend_from_slice(format!(in alloc; "{fault}\n")?.as_bytes())?,
     }
     Ok(out)
+}
+
+// Compares what is answered of a market that is cut after each of its bytes, and prints how many cuts agree: the first
+// line of the answers is that of no bytes, the last that of the whole market.
+fn compare_cuts(rt: &HostRuntime) -> io::Result<()> {
+    let market = fs::read_to_string(rt, "whole")?;
+    let answers = fs::read_to_string(rt, "cuts")?;
+    let mut agree = 0u32;
+    let mut differ = 0u32;
+    for (length, answer) in answers.lines().enumerate() {
+        let said = answered_briefly(rt.alloc(), front(&market, length))?;
+        if said.as_str() == answer {
+            agree = agree.saturating_add(1);
+        } else {
+            differ = differ.saturating_add(1);
+            println!(rt; "cut after {length}: this differs: {said}")?;
+        }
+    }
+    println!(rt; "cuts: {agree} agree, {differ} differ")
+}
+
+// The first bytes of a text, or all where it has fewer.
+fn front(text: &str, length: usize) -> &[u8] {
+    let bytes = text.as_bytes();
+    &bytes[..length.min(bytes.len())]
+}
+
+// The number of a market's objects, or its fault, with one quote.
+fn answered_briefly(alloc: Global, market: &[u8]) -> Result<String, AllocError> {
+    let mut names = Names::new(alloc);
+    match read_market(alloc, market, b"name,value\nr,0.036\n", b"", &mut names) {
+        Ok(market) => {
+            let count = market.made.len();
+            format!(in alloc; "market {count}")
+        }
+        Err(fault) => format!(in alloc; "{fault}"),
+    }
 }

@@ -12,4 +12,4 @@ pub returns : goal.returns
 unfolding has_text with_text
 returns c =
     let first : c.number_of.new.names ≡ codes "today" ∷ [] = c.in_ok-number_of.ensures.kept ∙ ap (λ (names : List (List ℕ)). with_text names (codes "today")) c.new-names.ensures in
-    rw (first, c.in_ok-push.ensures.items, c.new-kinds.ensures.items, c.new.ensures) refl
+    rw (first, c.in_ok-push.ensures.items, c.new-kinds.ensures.items, c.new-made.ensures.items) refl

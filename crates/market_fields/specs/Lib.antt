@@ -1,0 +1,9 @@
+pub mod Earlier
+pub mod Presence
+pub mod Keys
+pub mod Limited
+pub mod Field
+pub mod Words
+pub mod Places
+pub mod Parts
+pub mod Helpers

@@ -1,0 +1,111 @@
+// What stands earlier in a market.
+ghost use Rattle.std.specs.Prelude.{◌≡◌};
+ghost use Rattle.market_tables.specs.Given.{Gives};
+ghost use Rattle.market_fields.specs.Earlier.{seen, named_object, untaken, new_name, served, calendar_of, index_in, index_terms};
+
+use desk_names::{NameId, Names, ObjId, is_name};
+use desk_terms::{IndexTerms, Kind, Terms, Wanted};
+use holiday_calendars::Calendar;
+use market_calendars::Calendars;
+use market_tables::{MarketKind, NameText, TableFault};
+use std::alloc::Global;
+
+/// An object that was named, with its kind.
+#[derive(Clone, Copy, Debug, PartialEq, Eq)]
+pub struct Named {
+    pub object: ObjId,
+    pub kind: Kind,
+}
+
+/// The names so far, the kind of each object so far, `today` first, the terms of each object but `today`, and the
+/// calendars.
+#[derive(Clone, Copy)]
+pub struct Earlier<'a> {
+    pub names: &'a Names,
+    pub kinds: &'a [Kind],
+    pub made: &'a [(NameId, Terms)],
+    pub calendars: &'a Calendars,
+}
+
+impl<'a> Earlier<'a> {
+    /// The object that a text names: `Name` where the text is no name, `Unknown` where it names nothing.
+    pub fn named_object(&self, text: &[u8]) -> Result<Named, TableFault>
+        ensures { Gives (λ n. n) result (named_object (seen self.now) text.now) }
+    {
+        if !is_name(text) {
+            return Err(TableFault::Kind(MarketKind::Name));
+        }
+        match self.names.find(text) {
+            Some(name) => match self.kinds.get(name.place()) {
+                Some(kind) => Ok(Named {
+                    object: ObjId(name.0),
+                    kind: *kind,
+                }),
+                None => Err(TableFault::Kind(MarketKind::Unknown)),
+            },
+            None => Err(TableFault::Kind(MarketKind::Unknown)),
+        }
+    }
+
+    /// The name, where no object has it, or `Taken`.
+    pub fn untaken(&self, name: NameText) -> Result<NameText, TableFault>
+        ensures { Gives (λ name. name) result (untaken (seen self.now) name) }
+    {
+        if self.names.find(name.text()).is_some() {
+            return Err(TableFault::Kind(MarketKind::Taken));
+        }
+        Ok(name)
+    }
+
+    /// The text as a new name: `Name` where it is no name, `Taken` where it names an object.
+    pub(crate) fn new_name(&self, alloc: Global, text: &[u8]) -> Result<NameText, TableFault>
+        ensures { Gives (λ name. name) result (new_name (seen self.now) text.now) }
+    {
+        self.untaken(NameText::read(alloc, text)?)
+    }
+
+    /// The calendar that a text names, in a copy: `Name` where the text is no name, `Unknown` where it names nothing.
+    pub(crate) fn calendar(&self, text: &[u8]) -> Result<Calendar, TableFault>
+        ensures { Gives (λ calendar. calendar) result (calendar_of (seen self.now) text.now) }
+    {
+        self.calendars.built(text)
+    }
+
+    /// The terms of an object that is an index, or `Kind`.
+    pub fn index_terms(&self, index: ObjId) -> Result<&IndexTerms, TableFault>
+        ensures { Gives (λ terms. terms.now) result (index_terms (seen self.now) index) }
+    {
+        match self.made.get(index.place().saturating_sub(1)) {
+            Some((_, terms)) => index_in(terms),
+            None => Err(TableFault::Kind(MarketKind::Kind)),
+        }
+    }
+}
+
+// The terms of an index among terms of any kind, or `Kind`.
+fn index_in(terms: &Terms) -> Result<&IndexTerms, TableFault>
+    ensures { Gives (λ terms. terms.now) result (index_in terms.now) }
+{
+    match terms {
+        Terms::Index(terms, _) => Ok(terms),
+        Terms::Quote(_)
+        | Terms::Derived { .. }
+        | Terms::Handle { .. }
+        | Terms::Curve(_)
+        | Terms::Implied { .. }
+        | Terms::Engine { .. }
+        | Terms::Stock { .. }
+        | Terms::Composite(_)
+        | Terms::Flows(..) => Err(TableFault::Kind(MarketKind::Kind)),
+    }
+}
+
+/// The object, where it is what is wanted, or `Kind`.
+pub fn served(named: Named, wanted: Wanted) -> Result<ObjId, TableFault>
+    ensures { Gives (λ object. object) result (served wanted named) }
+{
+    if named.kind.serves(wanted) {
+        return Ok(named.object);
+    }
+    Err(TableFault::Kind(MarketKind::Kind))
+}

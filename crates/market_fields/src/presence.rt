@@ -1,0 +1,70 @@
+// When the keys of objects must stand.
+ghost use Rattle.std.specs.Prelude.{◌≡◌};
+ghost use Rattle.toml.specs.View.{table_view};
+ghost use Rattle.market_tables.specs.Given.{Gives};
+ghost use Rattle.market_fields.specs.Presence.{has, has_coupon_key, structure, required};
+
+use market_tables::{MarketKind, TableFault, value_at};
+use toml::Table;
+
+/// When a key of an object must stand in its table.
+#[derive(Clone, Copy, Debug, PartialEq, Eq)]
+pub enum KeyPresence {
+    Always,
+    Optional,
+    /// May be missing. The keys of a bond are tested against each other at its place.
+    Structure,
+    /// Where a bond has coupons.
+    WithCoupons,
+}
+
+// Whether a table has a key.
+fn has(table: &Table, word: &str) -> bool
+    ensures { result ≡ has word.now (table_view table.now) }
+{
+    value_at(table, word).is_some()
+}
+
+// Whether a table has a key that only a bond with coupons has.
+fn has_coupon_key(table: &Table) -> bool
+    ensures { result ≡ has_coupon_key (table_view table.now) }
+{
+    has(table, "spread")
+        || has(table, "every")
+        || has(table, "rule")
+        || has(table, "convention")
+        || has(table, "end_convention")
+        || has(table, "month_end")
+        || has(table, "counter")
+        || has(table, "first")
+        || has(table, "last")
+}
+
+// Refuses a bond with `coupon` and `index`, with keys of coupons and neither, or with `coupon` and `spread`.
+fn structure(table: &Table) -> Result<bool, TableFault>
+    ensures { Gives (λ must. must) result (structure (table_view table.now)) }
+{
+    let coupon = has(table, "coupon");
+    let index = has(table, "index");
+    if (coupon && index)
+        || (!coupon && !index && has_coupon_key(table))
+        || (coupon && has(table, "spread"))
+    {
+        return Err(TableFault::Kind(MarketKind::Key));
+    }
+    Ok(false)
+}
+
+impl KeyPresence {
+    /// Whether the key must stand in the table, or the fault `Key` that the table's structure has there.
+    pub fn required(self, table: &Table) -> Result<bool, TableFault>
+        ensures { Gives (λ must. must) result (required self (table_view table.now)) }
+    {
+        match self {
+            KeyPresence::Always => Ok(true),
+            KeyPresence::Optional => Ok(false),
+            KeyPresence::Structure => structure(table),
+            KeyPresence::WithCoupons => Ok(has(table, "coupon") || has(table, "index")),
+        }
+    }
+}

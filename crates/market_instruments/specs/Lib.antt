@@ -1,0 +1,6 @@
+pub mod Limits
+pub mod Schedules
+pub mod Appended
+pub mod Bonds
+pub mod Swaps
+pub mod Forwards

@@ -1,0 +1,91 @@
+// Flows put behind others.
+ghost use Rattle.std.specs.Prelude.{◌≡◌, List, Option};
+ghost use Rattle.holiday_calendars.specs.Calendar.{is_business_day};
+ghost use Rattle.flow_terms.specs.declared.flows.FlowTerm.{FlowTerm};
+ghost use Rattle.flow_terms.specs.Fixings.{IsRate};
+ghost use Rattle.flow_terms.specs.Ranges.{IsNotional};
+ghost use Rattle.cash_flow_legs.specs.Appended.{Appends};
+ghost use Rattle.market_tables.specs.Given.{Gives};
+ghost use Rattle.market_instruments.specs.Appended.{behind, fixed_behind, float_behind, redeemed, settled};
+
+use cash_flow_legs::{LegFault, fixed_leg, float_leg, forward_flow, redemption};
+use day_number::Day;
+use desk_terms::{FlowTermList, IndexTerms};
+use fixed_amount::{Amount, Rate};
+use holiday_calendars::Calendar;
+use market_tables::{MarketKind, TableFault};
+use schedule_rules::Schedule;
+use year_parts::Counter;
+
+// The same answer, with `Range` where a day is not there.
+#[tactic(auto, using(crate::proofs::AppendLemmas::landed, crate::proofs::AppendLemmas::out_of_range))]
+fn ranged(appended: Result<(), LegFault>) -> Result<(), TableFault>
+    ensures { (due : Option (List FlowTerm)) (old new : List FlowTerm) → Appends due old new appended → Gives (λ _. new) result (behind old due) }
+{
+    match appended {
+        Ok(()) => Ok(()),
+        Err(LegFault::DateRange) => Err(TableFault::Kind(MarketKind::Range)),
+        Err(LegFault::NoMemory) => Err(TableFault::NoMemory),
+    }
+}
+
+// Appends fixed interest, or `Range`.
+pub(crate) fn push_fixed(
+    schedule: &Schedule,
+    cal: &Calendar,
+    notional: Amount,
+    rate: Rate,
+    counter: Counter,
+    out: &mut FlowTermList,
+) -> Result<(), TableFault>
+    requires notional { IsNotional notional }
+    requires rate { IsRate rate }
+    ensures { Gives (λ _. out.new) result (fixed_behind out.old cal.now notional rate counter schedule.now) }
+{
+    ranged(fixed_leg(schedule, cal, notional, rate, counter, out))
+}
+
+// Appends interest at an index's rate, or `Range`.
+pub(crate) fn push_float(
+    schedule: &Schedule,
+    cal: &Calendar,
+    notional: Amount,
+    spread: Rate,
+    counter: Counter,
+    index: &IndexTerms,
+    out: &mut FlowTermList,
+) -> Result<(), TableFault>
+    requires notional { IsNotional notional }
+    requires spread { IsRate spread }
+    ensures { Gives (λ _. out.new) result (float_behind out.old cal.now notional spread counter index.now schedule.now) }
+{
+    ranged(float_leg(schedule, cal, notional, spread, counter, index, out))
+}
+
+// Appends a redemption, or `Range`.
+pub(crate) fn push_redemption(
+    cal: &Calendar,
+    end: Day,
+    notional: Amount,
+    out: &mut FlowTermList,
+) -> Result<(), TableFault>
+    requires { IsNotional notional }
+    ensures { Gives (λ _. out.new) result (redeemed out.old cal.now end notional) }
+{
+    ranged(redemption(cal, end, notional, out))
+}
+
+// Appends a settlement, or `Range`.
+pub(crate) fn push_settlement(
+    index: &IndexTerms,
+    start: Day,
+    notional: Amount,
+    strike: Rate,
+    out: &mut FlowTermList,
+) -> Result<(), TableFault>
+    requires notional { IsNotional notional }
+    requires strike { IsRate strike }
+    ensures { Gives (λ _. out.new) result (settled out.old index.now start notional strike) }
+{
+    ranged(forward_flow(index, start, notional, strike, out))
+}

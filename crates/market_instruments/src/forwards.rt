@@ -1,0 +1,46 @@
+// Forward rate agreements.
+ghost use Rattle.std.specs.Prelude.{◌≡◌, Option, []};
+ghost use Rattle.market_tables.specs.Given.{Gives};
+ghost use Rattle.market_fields.specs.Earlier.{seen};
+ghost use Rattle.market_instruments.specs.Forwards.{settlement_of, forward_of};
+
+use crate::appended::push_settlement;
+use crate::limits::instrument_of;
+use desk_names::ObjId;
+use desk_terms::{FlowTermList, Terms};
+use market_fields::{Earlier, Field, day_at, must, notional_at, object_at, rate_at, sign_at};
+use market_tables::TableFault;
+use std::alloc::Global;
+
+// Appends the settlement on an index, negative where the agreement is short.
+fn push_agreed(
+    earlier: Earlier<'_>,
+    fields: &[Option<Field>],
+    index: ObjId,
+    out: &mut FlowTermList,
+) -> Result<(), TableFault>
+    ensures { Gives (λ _. out.new) result (settlement_of (seen earlier.entry) fields.now index out.old) }
+{
+    let notional = must(notional_at(fields, 1)?)?;
+    let sign = must(sign_at(fields, 2)?)?;
+    let start = must(day_at(fields, 4)?)?;
+    let strike = must(rate_at(fields, 5)?)?;
+    let terms = earlier.index_terms(index)?;
+    push_settlement(terms, start, notional.signed(sign), strike.rate(), out)
+}
+
+/// A forward rate agreement (QuantLib's `ForwardRateAgreement`): its settlement. `Range` where a day of it leaves the
+/// range.
+pub fn forward_agreement(
+    alloc: Global,
+    earlier: Earlier<'_>,
+    fields: &[Option<Field>],
+) -> Result<Terms, TableFault>
+    ensures { Gives (λ terms. terms) result (forward_of (seen earlier.entry) fields.now) }
+{
+    let index = must(object_at(fields, 3)?)?;
+    let engine = object_at(fields, 6)?;
+    let mut flows = FlowTermList::new(alloc);
+    push_agreed(earlier, fields, index, &mut flows)?;
+    instrument_of(flows, Some(index), engine)
+}

@@ -1,0 +1,80 @@
+// Swaps.
+ghost use Rattle.std.specs.Prelude.{◌≡◌, Option, []};
+ghost use Rattle.market_tables.specs.Given.{Gives};
+ghost use Rattle.market_fields.specs.Earlier.{seen};
+ghost use Rattle.market_instruments.specs.Swaps.{fixed_side, float_side, swap_of};
+
+use crate::appended::{push_fixed, push_float};
+use crate::limits::instrument_of;
+use crate::schedules::{dates_of, rules_of, span_of};
+use desk_terms::{FlowTermList, Terms};
+use holiday_calendars::Calendar;
+use market_fields::{
+    Earlier, Field, TermRate, counter_at, must, notional_at, object_at, rate_at, sign_at, tenor_at,
+};
+use market_tables::TableFault;
+use schedule_rules::Schedule;
+use std::alloc::Global;
+
+// Appends the fixed leg of a swap, negative where it is paid.
+fn push_fixed_side(
+    fields: &[Option<Field>],
+    cal: &Calendar,
+    schedule: &Schedule,
+    out: &mut FlowTermList,
+) -> Result<(), TableFault>
+    ensures { Gives (λ _. out.new) result (fixed_side fields.now cal.now schedule.now out.old) }
+{
+    let notional = must(notional_at(fields, 1)?)?;
+    let sign = must(sign_at(fields, 2)?)?;
+    let rate = must(rate_at(fields, 11)?)?;
+    let counter = must(counter_at(fields, 13)?)?;
+    let notional = notional.signed(sign);
+    push_fixed(schedule, cal, notional, rate.rate(), counter, out)
+}
+
+// Appends the floating leg of a swap, negative where the fixed one is received.
+fn push_float_side(
+    earlier: Earlier<'_>,
+    fields: &[Option<Field>],
+    cal: &Calendar,
+    schedule: &Schedule,
+    out: &mut FlowTermList,
+) -> Result<(), TableFault>
+    ensures { Gives (λ _. out.new) result (float_side (seen earlier.entry) fields.now cal.now schedule.now out.old) }
+{
+    let notional = must(notional_at(fields, 1)?)?;
+    let sign = must(sign_at(fields, 2)?)?;
+    let index = must(object_at(fields, 14)?)?;
+    let spread = rate_at(fields, 15)?.unwrap_or(TermRate::zero());
+    let counter = must(counter_at(fields, 17)?)?;
+    let terms = earlier.index_terms(index)?;
+    let notional = notional.signed(sign.opposite());
+    push_float(schedule, cal, notional, spread.rate(), counter, terms, out)
+}
+
+/// A swap (QuantLib's `VanillaSwap`): its fixed leg, and then its floating leg. `Plan` where one of its schedules is
+/// refused; then `Range` where a day of its flows leaves the range; then `Flows`.
+pub fn swap(
+    alloc: Global,
+    earlier: Earlier<'_>,
+    fields: &[Option<Field>],
+) -> Result<Terms, TableFault>
+    ensures { Gives (λ terms. terms) result (swap_of (seen earlier.entry) fields.now) }
+{
+    let span = match span_of(fields, 3) {
+        Ok(span) => span,
+        Err(fault) => return Err(fault),
+    };
+    let engine = object_at(fields, 6)?;
+    let rules = rules_of(fields, 7)?;
+    let fixed_every = must(tenor_at(fields, 12)?)?;
+    let index = object_at(fields, 14)?;
+    let float_every = must(tenor_at(fields, 16)?)?;
+    let fixed_dates = dates_of(alloc, &span, rules, fixed_every, None, None)?;
+    let float_dates = dates_of(alloc, &span, rules, float_every, None, None)?;
+    let mut flows = FlowTermList::new(alloc);
+    push_fixed_side(fields, span.cal, &fixed_dates, &mut flows)?;
+    push_float_side(earlier, fields, span.cal, &float_dates, &mut flows)?;
+    instrument_of(flows, index, engine)
+}

@@ -1,0 +1,4 @@
+pub mod Apart
+pub mod KindLemmas
+pub mod Serving
+pub mod Showing

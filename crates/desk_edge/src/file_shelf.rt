@@ -1,7 +1,7 @@
 // A shelf of the system's files.
-ghost use Rattle.std.specs.Prelude.{◌≡◌, ◌≤◌, None, Ok, length, IfOk, IfSome, OnErr};
+ghost use Rattle.std.specs.Prelude.{◌≡◌, ◌≤◌, ◌<◌, false, None, Ok, length, IfOk, IfSome, OnErr};
 ghost use Rattle.std.specs.Io.KnownBytes.{Keeps, ReadConsumes};
-ghost use Rattle.desk_edge.specs.Count.{raised};
+ghost use Rattle.desk_edge.specs.Count.{Rose, raised};
 ghost use Rattle.desk_edge.specs.FileShelf.{IsFound};
 
 use crate::begun::Begun;
@@ -105,11 +105,26 @@ impl<R: Files + Drop> Shelf for FileShelf<R> {
 
     ghost calls = { λ _. 0 };
 
-    fn find(&mut self, path: &str) -> Result<bool, Failed> {
+    // No file is told, so of the trait's clauses those on counts speak; the others are the shelf's own.
+    fn find(&mut self, path: &str) -> Result<bool, Failed>
+        ensures found { IsFound result self.old self.new }
+        ensures missed { IfOk result (λ found. found ≡ false → Rose self.old.misses self.new.misses) }
+        ensures failed { OnErr result (Rose self.old.faults self.new.faults) }
+        ensures faults { self.old.faults ≤ self.new.faults }
+        ensures misses { self.old.misses ≤ self.new.misses }
+    {
         FileShelf::find(self, path)
     }
 
-    fn take(&mut self, buf: &mut [u8]) -> Result<usize, Failed> {
+    fn take(&mut self, buf: &mut [u8]) -> Result<usize, Failed>
+        requires { 0 < length buf.old }
+        ensures within { IfOk result (λ count. count ≤ length buf.old) }
+        ensures none { self.old.begun ≡ None → (result ≡ Ok 0) × (self.new ≡ self.old) }
+        ensures bytes { IfSome self.old.begun (λ old. IfSome self.new.begun (λ new. ReadConsumes old new result buf.new)) }
+        ensures failed { OnErr result (Rose self.old.faults self.new.faults) }
+        ensures faults { self.old.faults ≤ self.new.faults }
+        ensures misses { self.old.misses ≤ self.new.misses }
+    {
         FileShelf::take(self, buf)
     }
 }

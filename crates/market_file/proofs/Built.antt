@@ -1,9 +1,11 @@
 -- The objects of a market as they are read: each rests on those before it.
-use Rattle.std.proofs.Common.{◌≡◌, ◌≤◌, ◌<◌, ℕ, zero, suc, ◌+◌, Bool, true, false, List, [], ◌∷◌, ◌++◌, length, Option, Some, None, Result, Ok, Err, refl, sym, ◌∙◌, ap, subst, arith, append_assoc, length-append}
+use Rattle.std.proofs.Common.{◌≡◌, ◌≤◌, ℕ, zero, suc, ◌+◌, Bool, true, false, List, [], ◌∷◌, ◌++◌, length, Option, Some, None, Result, Ok, Err, refl, sym, ◌∙◌, ap, subst, arith, append_assoc, length-append}
 use Rattle.std.specs.Prelude.{if◌then◌else◌, ◌==◌, slice_get, slice_set, ◌-◌, nat_le, codes, is_some, ℤ}
+use Rattle.std.specs.List.{All}
 use Rattle.std.specs.Str.{bytes_eq}
 use Rattle.std.proofs.lemmas.Bool.Decides.{nat_tests}
 use Rattle.std.proofs.lemmas.List.{append-nil}
+use Rattle.std.proofs.lemmas.List.Elements.{All-nil, All-cons, All-head, All-tail, All-pop}
 use Rattle.csv.specs.Reading.{default_config, strip_bom, records}
 use Rattle.toml.specs.Data.{Data, Items, no_items, item, Members}
 use Rattle.desk_names.specs.Names.{has_text, with_text, place_of}
@@ -13,6 +15,7 @@ use Rattle.desk_terms.specs.declared.kind.Wanted.TheVariants.{Index}
 use Rattle.desk_terms.specs.declared.reference.Reference.{Reference}
 use Rattle.desk_terms.specs.declared.terms.Terms.{Terms}
 use Rattle.desk_terms.specs.declared.terms.Terms.TheVariants as terms
+use Rattle.desk_terms.specs.Reading.{AreInRange}
 use Rattle.desk_terms.specs.Terms.{kind_of, inputs_of}
 use Rattle.flow_terms.specs.Fixings.{fixing_on}
 use Rattle.market_tables.specs.declared.fault.MarketKind.{MarketKind}
@@ -21,23 +24,23 @@ use Rattle.market_tables.specs.Given.{◌>>=◌}
 use Rattle.market_tables.specs.Values.{name_of, day_of}
 use Rattle.market_tables.specs.Entries.{at_entry, next_entry, entries_from}
 use Rattle.market_records.specs.Row.{field}
-use Rattle.market_records.specs.Records.{unless_headless, record_step, behind_records}
+use Rattle.market_records.specs.Records.{record_step, behind_records}
 use Rattle.market_calendars.specs.Reader.{calendars_in}
 use Rattle.market_calendars.specs.Calendars.{Calendars}
 use Rattle.market_fields.specs.Earlier.{Earlier, named_object, served, untaken}
 use Rattle.market_fields.specs.Limited.{rate_of}
-use Rattle.market_objects.specs.Board.{started, added}
+use Rattle.market_objects.specs.Board.{started, added, HasFlowsInRange, HaveFlowsInRange}
 use Rattle.market_objects.specs.Reader as object
 use Rattle.market_objects.specs.Quotes as quote
 use Rattle.market_objects.specs.Fixings as fixing
 use Rattle.market_file.specs.declared.fault.Section.{Section}
 use Rattle.market_file.specs.declared.fault.Section.TheVariants as section
 use Rattle.market_file.specs.declared.top.TopTable.{TopTable}
-use Rattle.market_file.specs.Fault.{Fault, at_entry as at_number, in_section}
+use Rattle.market_file.specs.Fault.{at_entry as at_number, in_section}
 use Rattle.market_file.specs.Document.{document_of}
 use Rattle.market_file.specs.Top.{top_of}
 use Rattle.market_file.specs.Market.{tables_at, sized, table_sized, quotes_onto, objects_onto, fixings_onto, objects_of, board_of}
-use Rattle.market_file.specs.Standing.{AreServed, IsRanged, IsNext, AreInOrder, IsReady}
+use Rattle.market_file.specs.Standing.{AreServed, IsNext, AreInOrder, IsReady}
 use Rattle.market_file.proofs.Given.{Given, bound, past, holds, at_given}
 use Rattle.market_file.proofs.Served.{IsEntry, untaken_free, entry_in_fits}
 
@@ -50,7 +53,10 @@ pub record IsBuilt (b : Earlier) : Type 0 where
   pub names : length b.names ≡ length b.kinds
   pub first : slice_get b.names 0 ≡ Some (codes "today")
   pub room : length b.kinds ≤ 4096
-  pub order : AreInOrder (Today ∷ []) b.made
+  pub order : HaveFlowsInRange b.made → AreInOrder (Today ∷ []) b.made
+
+abbrev HasFlows : ℕ × Terms → Type 0
+HasFlows entry = HasFlowsInRange entry.1
 
 -- ---- one object more
 
@@ -92,10 +98,10 @@ first_kept (n ∷ names) more name is = is
 added_built : (b : Earlier) (name : List ℕ) (t : Terms) → IsBuilt b → IsEntry b (name, t) → Given IsBuilt (added b name t)
 added_built b name t built entry = by_test (nat_le 4096 (length b.kinds)) refl
   where
-    next : IsNext (Today ∷ kinds_of b.made) (place_of b.names name, t)
-    next = record {
+    next : HasFlowsInRange t → IsNext (Today ∷ kinds_of b.made) (place_of b.names name, t)
+    next flows = record {
       number = new_place b.names name entry.0 ∙ built.names ∙ ap length built.kinds;
-      ranged = entry.1.0;
+      ranged = entry.1.0 flows;
       inputs = subst (λ (ks : List Kind). AreServed ks (inputs_of t)) built.kinds entry.1.1;
     }
 
@@ -106,7 +112,10 @@ added_built b name t built entry = by_test (nat_le 4096 (length b.kinds)) refl
       names = ap length (new_text b.names name entry.0) ∙ length-append b.names (name ∷ []) ∙ ap (λ (n : ℕ). n + 1) built.names ∙ sym (length-append b.kinds (kind_of t ∷ []));
       first = subst (λ (names : List (List ℕ)). slice_get names 0 ≡ Some (codes "today")) (sym (new_text b.names name entry.0)) (first_kept b.names (name ∷ []) (codes "today") built.first);
       room = let one : length (b.kinds ++ kind_of t ∷ []) ≡ length b.kinds + 1 = length-append b.kinds (kind_of t ∷ []) in grind (arith, nat_tests);
-      order = order_more (Today ∷ []) b.made (place_of b.names name, t) built.order next;
+      order = λ flows.
+          let more : ℕ × Terms = (place_of b.names name, t) in
+          let each = All-pop HasFlows (b.made ++ more ∷ []) b.made (Some more) refl flows in
+          order_more (Today ∷ []) b.made (place_of b.names name, t) (built.order each.0) (next each.1);
     }
 
 -- ---- sections
@@ -124,16 +133,17 @@ quote_built b row built = by_test (length row == 2)
         past IsBuilt (name_of (field row 0)) (λ name. quote.value_of (field row 1) >>= (λ value. untaken b name >>= (λ n. added b n (terms.Quote value))))
         (λ name. past IsBuilt (quote.value_of (field row 1)) (λ value. untaken b name >>= (λ n. added b n (terms.Quote value)))
         (λ value. bound (λ (n : List ℕ). has_text b.names n ≡ false) IsBuilt (untaken b name) (λ n. added b n (terms.Quote value)) (untaken_free b name)
-        (λ n h. added_built b n (terms.Quote value) built (h, (tt, tt)))))
+        (λ n h. added_built b n (terms.Quote value) built (h, ((λ _. tt), tt)))))
 
 -- ---- one stored rate more
 
--- other terms of the same kind and the same inputs, in range where the old ones are
+-- other terms of the same kind and the same inputs, in range where the old ones are, and of the same flows
 pub record IsAsBefore (old new : ℕ × Terms) : Type 0 where
   pub number : new.0 ≡ old.0
   pub kind : kind_of new.1 ≡ kind_of old.1
   pub inputs : inputs_of new.1 ≡ inputs_of old.1
-  pub ranged : IsRanged old.1 → IsRanged new.1
+  pub ranged : AreInRange old.1 → AreInRange new.1
+  pub flows : HasFlows new → HasFlows old
 
 kinds_kept : (made : List (ℕ × Terms)) (at : ℕ) (old new : ℕ × Terms) → slice_get made at ≡ Some old → IsAsBefore old new → kinds_of (slice_set made at new) ≡ kinds_of made
 kinds_kept [] at old new is same = absurd cc
@@ -157,13 +167,24 @@ order_kept kinds (e ∷ made) zero old new is same order =
     )
 order_kept kinds (e ∷ made) (suc at) old new is same order = (order.0, order_kept (kinds ++ kind_of e.1 ∷ []) made at old new is same order.1)
 
+flows_kept : (made : List (ℕ × Terms)) (at : ℕ) (old new : ℕ × Terms) → slice_get made at ≡ Some old → IsAsBefore old new
+    → HaveFlowsInRange (slice_set made at new) → HaveFlowsInRange made
+flows_kept [] at old new is same flows = absurd cc
+flows_kept (e ∷ made) zero old new is same flows =
+    let here : old ≡ e = cc in
+    let first : HasFlows old = same.flows (All-head HasFlows new made flows) in
+    All-cons HasFlows e made (subst HasFlows here first) (All-tail HasFlows new made flows)
+flows_kept (e ∷ made) (suc at) old new is same flows =
+    let first : HasFlows e = All-head HasFlows e (slice_set made at new) flows in
+    All-cons HasFlows e made first (flows_kept made at old new is same (All-tail HasFlows e (slice_set made at new) flows))
+
 kept_built : (b : Earlier) (at : ℕ) (old new : ℕ × Terms) → slice_get b.made at ≡ Some old → IsAsBefore old new → IsBuilt b → IsBuilt (record b { made = slice_set b.made at new })
 kept_built b at old new is same built = record {
   kinds = built.kinds ∙ ap (λ (ks : List Kind). Today ∷ ks) (sym (kinds_kept b.made at old new is same));
   names = built.names;
   first = built.first;
   room = built.room;
-  order = order_kept (Today ∷ []) b.made at old new is same built.order;
+  order = λ flows. order_kept (Today ∷ []) b.made at old new is same (built.order (flows_kept b.made at old new is same flows));
 }
 
 abbrev HasSame : Terms → Terms → Type 0
@@ -172,7 +193,7 @@ HasSame old new = (n : ℕ) → IsAsBefore (n, old) (n, new)
 fixed_same : (t : Terms) (day rate : ℤ) → Given (HasSame t) (fixing.fixed t day rate)
 fixed_same (terms.Index index fixings) day rate =
     past (HasSame (terms.Index index fixings)) (fixing.stored fixings day rate (fixing_on fixings day)) (λ more. Ok (terms.Index index more))
-    (λ more n. record { number = refl; kind = refl; inputs = refl; ranged = λ h. h })
+    (λ more n. record { number = refl; kind = refl; inputs = refl; ranged = λ h. h; flows = λ h. h })
 fixed_same (terms.Quote value) day rate = tt
 fixed_same (terms.Derived minus first second) day rate = tt
 fixed_same (terms.Handle target_kind target) day rate = tt
@@ -246,7 +267,7 @@ objects_built document b built =
     in_given IsBuilt section.Objects (entries_from object.behind b 1 (tables_at (codes "object") document)) (entries_built 1 (tables_at (codes "object") document) b built)
 
 started_built : (calendars : Calendars) → IsBuilt (started calendars)
-started_built calendars = record { kinds = refl; names = refl; first = refl; room = omega arith; order = tt }
+started_built calendars = record { kinds = refl; names = refl; first = refl; room = omega arith; order = λ _. tt }
 
 all_built : (document : Members) (top : TopTable) (quotes fixings : List ℕ) → Given IsBuilt (objects_of document top quotes fixings)
 all_built document top quotes fixings =
@@ -268,13 +289,23 @@ board_built text quotes fixings =
     (λ top. bound IsBuilt IsBoard (objects_of document top quotes fixings) (λ board. Ok (top.today, board)) (all_built document top quotes fixings) (λ b built. built))))
 
 -- the objects of a market that is read are ready for a session
-pub ready : (text quotes fixings : List ℕ) (today : ℤ) (b : Earlier) → board_of text quotes fixings ≡ Ok (today, b) → IsReady b.names b.made
-ready text quotes fixings today b is =
+pub ready : (text quotes fixings : List ℕ) (today : ℤ) (b : Earlier) → board_of text quotes fixings ≡ Ok (today, b)
+    → HaveFlowsInRange b.made → IsReady b.names b.made
+ready text quotes fixings today b is flows =
     let built : IsBuilt b = holds IsBoard (board_of text quotes fixings) (today, b) is (board_built text quotes fixings) in
     let count : length b.kinds ≡ suc (length b.made) = ap length built.kinds ∙ ap suc (kinds_count b.made) in
     record {
       first = built.first;
       named = omega (arith, built.names, count);
       room = omega (arith, built.room, count);
-      order = built.order;
+      order = built.order flows;
     }
+
+abbrev AreRanged : ℕ × Terms → Type 0
+AreRanged entry = AreInRange entry.1
+
+-- the terms of objects in order are in range
+pub ranged : (kinds : List Kind) (made : List (ℕ × Terms)) → AreInOrder kinds made → All AreRanged made
+ranged kinds [] order = All-nil AreRanged
+ranged kinds (e ∷ made) order =
+    All-cons AreRanged e made order.0.ranged (ranged (kinds ++ kind_of e.1 ∷ []) made order.1)

@@ -1,12 +1,12 @@
 -- Each field of an object's table is what its place wants, so that each object rests on those before it.
-use Rattle.std.proofs.Common.{◌≡◌, ◌≤◌, ◌<◌, ℕ, zero, suc, ◌+◌, arith, Bool, true, false, ◌||◌, ◌&&◌, ◌==◌, List, [], ◌∷◌, ◌++◌, length, Option, Some, None, Result, Ok, Err, refl, ◌∙◌, ap, All, ℤ, pos, negsuc, int_le, nat_le, nat_lt, unsigned_abs}
-use Rattle.std.specs.Prelude.{if◌then◌else◌, slice_get, unwrap_or}
+use Rattle.std.proofs.Common.{◌≡◌, ◌≤◌, ℕ, zero, suc, ◌+◌, arith, Bool, true, false, ◌||◌, ◌&&◌, ◌==◌, List, [], ◌∷◌, length, Option, Some, None, Result, Ok, Err, refl, ◌∙◌, ap, All, ℤ, pos, negsuc, int_le, nat_lt, unsigned_abs}
+use Rattle.std.specs.Prelude.{if◌then◌else◌, slice_get}
 use Rattle.std.specs.Int.{IsInRange as IsFrom}
 use Rattle.std.proofs.lemmas.Bool.Decides.{nat_tests}
 use Rattle.std.proofs.lemmas.Int.{ints}
 use Rattle.std.proofs.lemmas.List.Elements.{All-nil, All-cons}
 use Rattle.toml.specs.Data.{Data, Items, no_items, item, Members, as_integer}
-use Rattle.day_number.specs.Text.{tenor_of_text, day_of_text}
+use Rattle.day_number.specs.Text.{tenor_of_text}
 use Rattle.day_number.specs.Tenor.{IsTenor}
 use Rattle.day_number.specs.declared.tenors.Tenor.{Tenor}
 use Rattle.day_number.specs.declared.tenors.Unit.{Unit as TimeUnit}
@@ -24,6 +24,7 @@ use Rattle.desk_terms.specs.declared.terms.Part.{Part}
 use Rattle.desk_terms.specs.declared.terms.Terms.{Terms}
 use Rattle.desk_terms.specs.declared.terms.Terms.TheVariants as terms
 use Rattle.desk_terms.specs.Kind.{serves}
+use Rattle.desk_terms.specs.Reading.{AreInRange}
 use Rattle.desk_terms.specs.Terms.{inputs_of, part_references, helper_references}
 use Rattle.flow_terms.specs.declared.flows.FlowTerm.{FlowTerm}
 use Rattle.flow_terms.specs.declared.limits.TheConstants.{MOST_FLOWS}
@@ -49,12 +50,11 @@ use Rattle.market_fields.specs.declared.keys.HelperKind.{HelperKind}
 use Rattle.market_fields.specs.declared.keys.HelperKind.TheVariants as helper
 use Rattle.market_fields.specs.declared.keys.ObjectPlace.{ObjectPlace}
 use Rattle.market_fields.specs.declared.keys.ObjectPlace.TheVariants as place
-use Rattle.market_fields.specs.declared.presence.KeyPresence.{KeyPresence}
-use Rattle.market_fields.specs.Earlier.{Earlier, object_at, known_object, named_object, untaken, new_name, served, index_terms}
+use Rattle.market_fields.specs.Earlier.{Earlier, object_at, known_object, named_object, untaken, new_name, served}
 use Rattle.market_fields.specs.Presence.{required}
 use Rattle.market_fields.specs.Keys.{kind_of, keys_of, part_keys, helper_kind_of, helper_keys_of}
 use Rattle.market_fields.specs.Field.{must, name_in, object_in, named_in, target_in, day_in, count_in, tenor_in, weight_in, parts_in, helpers_in, convention_in, flag_in, counter_in, calendar_in, notional_in}
-use Rattle.market_fields.specs.Places.{name_field, named_at, object_field, any_object_field, count_of, count_field, tenor_in as tenor_of, months_by, months_of, tenor_field, months_field, plain_field}
+use Rattle.market_fields.specs.Places.{name_field, named_at, object_field, any_object_field, count_of, count_field, tenor_in as tenor_of, months_of, tenor_field, months_field, plain_field}
 use Rattle.market_fields.specs.Parts.{part_made, part_in, parts_field}
 use Rattle.market_fields.specs.Helpers.{helper_of, helper_made, helper_in, counted, helpers_field, place_field}
 use Rattle.market_instruments.specs.Limits.{limited, instrument_of}
@@ -63,9 +63,10 @@ use Rattle.market_instruments.specs.Appended.{redeemed}
 use Rattle.market_instruments.specs.Bonds.{coupons_of, bond_of}
 use Rattle.market_instruments.specs.Swaps.{fixed_side, float_side, swap_of}
 use Rattle.market_instruments.specs.Forwards.{settlement_of, forward_of}
+use Rattle.market_objects.specs.Board.{HasFlowsInRange}
 use Rattle.market_objects.specs.Making.{derived_of, target_wanted, linked, handle_of, curve_of, implied_of, index_of, engine_of, stock_of, composite_of, or_no_parts, parts_of, terms_of, entry_made}
 use Rattle.market_objects.specs.Reader.{entry_in}
-use Rattle.market_file.specs.Standing.{is_served, AreServed, IsRanged}
+use Rattle.market_file.specs.Standing.{is_served, AreServed}
 use Rattle.market_file.proofs.Given.{Given, bound, always, past, from_sorted, to_sorted}
 use Rattle.market_file.proofs.Fields.{IfThere, must_so, name_so, object_so, named_so, count_so, tenor_so, parts_so, helpers_so}
 
@@ -367,7 +368,11 @@ place_fits e place.Position d = plain_fits e place.Position d
 
 -- ---- terms
 
--- a curve's and an index's terms are in range, and the inputs are of their kinds
+-- the terms are in range if their flows are
+abbrev pub IsRanged : Terms → Type 0
+IsRanged t = HasFlowsInRange t → AreInRange t
+
+-- the terms are in range if their flows are, and the inputs are of their kinds
 abbrev pub MayBeMade : Earlier → Terms → Type 0
 MayBeMade e t = IsRanged t × AreServed e.kinds (inputs_of t)
 
@@ -378,17 +383,17 @@ module _ (e : Earlier) (fs : List (Option Field)) where
   derived_fits : (minus : Bool) → IsOf (Fits e) (place.Object QuoteInput) (field_in fs 1) → IsOf (Fits e) (place.Object QuoteInput) (field_in fs 2) → Given (MayBeMade e) (derived_of minus fs)
   derived_fits minus hf hg =
       bound (IsServed e QuoteInput) (MayBeMade e) (must (object_in (field_in fs 1))) _ (there e QuoteInput (field_in fs 1) hf)
-      (λ a ha. bound (IsServed e QuoteInput) (MayBeMade e) (must (object_in (field_in fs 2))) _ (there e QuoteInput (field_in fs 2) hg) (λ b hb. (tt, (ha, (hb, tt)))))
+      (λ a ha. bound (IsServed e QuoteInput) (MayBeMade e) (must (object_in (field_in fs 2))) _ (there e QuoteInput (field_in fs 2) hg) (λ b hb. ((λ _. tt), (ha, (hb, tt)))))
 
   linked_fits : (k : HandleKind) (n : Option Named) → IfThere (IsKnown e) n → Given (MayBeMade e) (linked k n)
-  linked_fits handle.Quote None h = (tt, tt)
-  linked_fits handle.Curve None h = (tt, tt)
+  linked_fits handle.Quote None h = ((λ _. tt), tt)
+  linked_fits handle.Curve None h = ((λ _. tt), tt)
   linked_fits handle.Quote (Some n) h =
       bound (IsServed e (target_wanted handle.Quote)) (MayBeMade e) (served (target_wanted handle.Quote) n) (λ o. Ok (terms.Handle handle.Quote (Some o)))
-      (served_so e (target_wanted handle.Quote) n h) (λ o ho. (tt, (ho, tt)))
+      (served_so e (target_wanted handle.Quote) n h) (λ o ho. ((λ _. tt), (ho, tt)))
   linked_fits handle.Curve (Some n) h =
       bound (IsServed e (target_wanted handle.Curve)) (MayBeMade e) (served (target_wanted handle.Curve) n) (λ o. Ok (terms.Handle handle.Curve (Some o)))
-      (served_so e (target_wanted handle.Curve) n h) (λ o ho. (tt, (ho, tt)))
+      (served_so e (target_wanted handle.Curve) n h) (λ o ho. ((λ _. tt), (ho, tt)))
 
   handle_fits : IsOf (Fits e) place.AnyObject (field_in fs 2) → Given (MayBeMade e) (handle_of fs)
   handle_fits h =
@@ -400,12 +405,12 @@ module _ (e : Earlier) (fs : List (Option Field)) where
       bound (λ n. n ≤ 30) (MayBeMade e) (must (count_in (field_in fs 2))) _ (must_so (λ n. n ≤ 30) (count_in (field_in fs 2)) (count_so (Fits e) place.Count (field_in fs 2) hc))
       (λ settlement few. past (MayBeMade e) (must (calendar_in (field_in fs 1))) _
       (λ cal. bound (AreFewServed e) (MayBeMade e) (must (helpers_in (field_in fs 3))) _ (must_so (AreFewServed e) (helpers_in (field_in fs 3)) (helpers_so (Fits e) place.Helpers (field_in fs 3) hh))
-      (λ helpers h. (record { settlement = few; count = h.0; helpers = h.1.1 }, h.1.0))))
+      (λ helpers h. ((λ _. record { settlement = few; count = h.0; helpers = h.1.1 }), h.1.0))))
 
   implied_fits : IsOf (Fits e) (place.Object CurveInput) (field_in fs 1) → Given (MayBeMade e) (implied_of fs)
   implied_fits h =
       bound (IsServed e CurveInput) (MayBeMade e) (must (object_in (field_in fs 1))) _ (there e CurveInput (field_in fs 1) h)
-      (λ c hc. past (MayBeMade e) (must (day_in (field_in fs 2))) _ (λ day. (tt, (hc, tt))))
+      (λ c hc. past (MayBeMade e) (must (day_in (field_in fs 2))) _ (λ day. ((λ _. tt), (hc, tt))))
 
   index_fits : IsOf (Fits e) place.Count (field_in fs 2) → IsOf (Fits e) place.Tenor (field_in fs 3) → IsOf (Fits e) (place.Object CurveInput) (field_in fs 7) → Given (MayBeMade e) (index_of fs)
   index_fits hn ht hc =
@@ -413,19 +418,19 @@ module _ (e : Earlier) (fs : List (Option Field)) where
       (λ days few. bound IsTenor (MayBeMade e) (must (tenor_in (field_in fs 3))) _ (must_so IsTenor (tenor_in (field_in fs 3)) (tenor_so (Fits e) place.Tenor (field_in fs 3) ht))
       (λ tenor h. past (MayBeMade e) (must (convention_in (field_in fs 4))) _ (λ conv. past (MayBeMade e) (flag_in (field_in fs 5)) _ (λ eom. past (MayBeMade e) (must (counter_in (field_in fs 6))) _
       (λ counter. bound (IsServed e CurveInput) (MayBeMade e) (must (object_in (field_in fs 7))) _ (there e CurveInput (field_in fs 7) hc)
-      (λ curve is. past (MayBeMade e) (must (calendar_in (field_in fs 1))) _ (λ cal. (record { fixing_days = few; tenor = h }, (is, tt)))))))))
+      (λ curve is. past (MayBeMade e) (must (calendar_in (field_in fs 1))) _ (λ cal. ((λ _. record { fixing_days = few; tenor = h }), (is, tt)))))))))
 
   engine_fits : IsOf (Fits e) (place.Object CurveInput) (field_in fs 1) → Given (MayBeMade e) (engine_of fs)
-  engine_fits h = bound (IsServed e CurveInput) (MayBeMade e) (must (object_in (field_in fs 1))) _ (there e CurveInput (field_in fs 1) h) (λ c hc. (tt, (hc, tt)))
+  engine_fits h = bound (IsServed e CurveInput) (MayBeMade e) (must (object_in (field_in fs 1))) _ (there e CurveInput (field_in fs 1) h) (λ c hc. ((λ _. tt), (hc, tt)))
 
   stock_fits : IsOf (Fits e) (place.Object QuoteInput) (field_in fs 1) → Given (MayBeMade e) (stock_of fs)
-  stock_fits h = bound (IsServed e QuoteInput) (MayBeMade e) (must (object_in (field_in fs 1))) _ (there e QuoteInput (field_in fs 1) h) (λ q hq. (tt, (hq, tt)))
+  stock_fits h = bound (IsServed e QuoteInput) (MayBeMade e) (must (object_in (field_in fs 1))) _ (there e QuoteInput (field_in fs 1) h) (λ q hq. ((λ _. tt), (hq, tt)))
 
   composite_fits : (parts : List Part) → ArePartsServed e parts → Given (MayBeMade e) (composite_of parts)
   composite_fits parts h = by_test (nat_lt 4095 (length parts))
     where
       by_fault : (found : Option LimitFault) → Given (MayBeMade e) (limited (unless found parts))
-      by_fault None = (tt, h)
+      by_fault None = ((λ _. tt), h)
       by_fault (Some f) = tt
 
       by_test : (b : Bool) → Given (MayBeMade e) (if b then Err fault.Parts else limited (composite_or_fault parts))
@@ -454,7 +459,7 @@ instrument_fits e flows index engine hi he = by_none (length flows == 0)
   where
     by_many : (b : Bool) → Given (MayBeMade e) (limited (if b then Err TooManyFlows else Ok (terms.Flows (record { flows = flows; index = index }) engine)))
     by_many true = tt
-    by_many false = (tt, flows_served e flows index engine hi he)
+    by_many false = ((λ within. within), flows_served e flows index engine hi he)
 
     by_none : (b : Bool) → Given (MayBeMade e) (limited (if b then Err NoFlow else (if nat_lt MOST_FLOWS (length flows) then Err TooManyFlows else Ok (terms.Flows (record { flows = flows; index = index }) engine))))
     by_none true = tt
@@ -466,7 +471,7 @@ module _ (e : Earlier) (fs : List (Option Field)) where
       past (MayBeMade e) (must (notional_in (field_in fs 1))) _ (λ n. past (MayBeMade e) (span_of fs 2) _
       (λ span. bound (IfThere (IsServed e Engine)) (MayBeMade e) (object_in (field_in fs 5)) _ (found e Engine (field_in fs 5) he)
       (λ engine engine_is. bound (IfThere (IsServed e Index)) (MayBeMade e) (object_in (field_in fs 7)) _ (found e Index (field_in fs 7) hi)
-      (λ index index_is. past (MayBeMade e) (coupons_of e fs span n []) _ (λ coupons. past (MayBeMade e) (redeemed coupons span.cal span.end n) _ (λ flows. instrument_fits e flows index engine index_is engine_is))))))
+      (λ index index_is. past (MayBeMade e) (coupons_of e fs span n index []) _ (λ coupons. past (MayBeMade e) (redeemed coupons span.cal span.end n) _ (λ flows. instrument_fits e flows index engine index_is engine_is))))))
 
   swap_fits : IsOf (Fits e) (place.Object Engine) (field_in fs 6) → IsOf (Fits e) (place.Object Index) (field_in fs 14) → Given (MayBeMade e) (swap_of e fs)
   swap_fits he hi =
@@ -476,7 +481,7 @@ module _ (e : Earlier) (fs : List (Option Field)) where
       (λ fixed_every. bound (IfThere (IsServed e Index)) (MayBeMade e) (object_in (field_in fs 14)) _ (found e Index (field_in fs 14) hi)
       (λ index index_is. past (MayBeMade e) (must (tenor_in (field_in fs 16))) _ (λ float_every. past (MayBeMade e) (dates_of span rules fixed_every None None) _
       (λ fixed_days. past (MayBeMade e) (dates_of span rules float_every None None) _ (λ float_days. past (MayBeMade e) (fixed_side fs span.cal fixed_days []) _
-      (λ fixed. past (MayBeMade e) (float_side e fs span.cal float_days fixed) _ (λ flows. instrument_fits e flows index engine index_is engine_is))))))))))
+      (λ fixed. past (MayBeMade e) (float_side e fs span.cal float_days index fixed) _ (λ flows. instrument_fits e flows index engine index_is engine_is))))))))))
 
   forward_fits : IsOf (Fits e) (place.Object Index) (field_in fs 3) → IsOf (Fits e) (place.Object Engine) (field_in fs 6) → Given (MayBeMade e) (forward_of e fs)
   forward_fits hi he =

@@ -1,5 +1,6 @@
 // A market from its files.
 ghost use Rattle.std.specs.Prelude.{◌≡◌, Option, Ok, option_map, codes, IfOk, OnErr};
+ghost use Rattle.std.specs.List.{All};
 ghost use Rattle.toml.specs.View.{view, table_view, items_view};
 ghost use Rattle.market_tables.specs.Given.{Gives};
 ghost use Rattle.market_calendars.specs.Reader.{calendars_in};
@@ -7,6 +8,7 @@ ghost use Rattle.market_file.specs.Fault.{Answers, at_entry, in_section};
 ghost use Rattle.market_file.specs.Document.{document_of};
 ghost use Rattle.market_file.specs.Top.{top_of};
 ghost use Rattle.market_file.specs.Market.{items_of, tables_at, sized, table_sized, quotes_onto, objects_onto, fixings_onto, objects_of, board_of, read_market};
+ghost use Rattle.desk_terms.specs.Reading.{AreInRange};
 ghost use Rattle.market_file.specs.Standing.{IsReady};
 ghost use Rattle.market_file.specs.declared.fault.Section.TheVariants as section;
 ghost use Rattle.market_objects.specs.Board.{started};
@@ -195,8 +197,8 @@ fn board_of(
 
 /// The market of a text and of the tables that it names, or its first fault; a table that it does not name is not read.
 /// `names` becomes the names of the market's objects, `today` first, and stays as it was where the market is refused;
-/// the names of calendars are not among them. Curves and indexes are within their limits, and each object rests on
-/// objects before it that are of the kinds that it wants.
+/// the names of calendars are not among them. The terms of curves, indexes and instruments are within their limits, and
+/// each object rests on objects before it that are of the kinds that it wants.
 pub fn read_market(
     alloc: Global,
     text: &[u8],
@@ -207,6 +209,7 @@ pub fn read_market(
     ensures market { Answers (λ market. record { today = market.today; made = market.made.items; names = names.new })
         result (read_market text.now quotes.now fixings.now) }
     ensures ready { IfOk result (λ market. IsReady names.new market.made.items) }
+    ensures ranged { IfOk result (λ market. All (λ entry. AreInRange entry.1) market.made.items) }
     ensures err { OnErr result (names.new ≡ names.old) }
 {
     let (today, board) = board_of(alloc, text, quotes, fixings)?;

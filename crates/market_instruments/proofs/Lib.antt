@@ -1,2 +1,4 @@
 mod PlanLemmas
 mod AppendLemmas
+mod KnownLemmas
+mod LimitLemmas

@@ -1,5 +1,5 @@
 -- Faults of plans.
-use Rattle.std.proofs.Common.{◌≡◌, ◌⊎◌, inl, inr, ◌∙◌, sym, refl, subst, List, ℤ, Bool, Result, Ok, Err}
+use Rattle.std.proofs.Common.{◌≡◌, ◌⊎◌, inl, inr, ◌∙◌, sym, refl, subst, List, ℤ, Bool, Err}
 use Rattle.std.specs.Borrow.{Bor}
 use Rattle.holiday_calendars.specs.declared.calendars.Calendar.{Calendar}
 use Rattle.schedule_rules.specs.declared.plans.Plan.{Plan}

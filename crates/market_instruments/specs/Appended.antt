@@ -1,10 +1,12 @@
 -- Flows put behind others.
-use Rattle.std.specs.Prelude.{ℤ, List, ◌++◌, Option, Result, Ok}
+use Rattle.std.specs.Prelude.{ℕ, ℤ, List, ◌++◌, Option, Result, Ok}
+use Rattle.std.specs.List.{All}
 use Rattle.year_parts.specs.declared.counters.Counter.{Counter}
 use Rattle.holiday_calendars.specs.declared.calendars.Calendar.{Calendar}
 use Rattle.holiday_calendars.specs.Calendar.{is_business_day}
 use Rattle.flow_terms.specs.declared.flows.FlowTerm.{FlowTerm}
 use Rattle.flow_terms.specs.declared.indexes.IndexTerms.{IndexTerms}
+use Rattle.flow_terms.specs.Ranges.{IsFlow, IsIndexNamed}
 use Rattle.cash_flow_legs.specs.Appended.{one_flow}
 use Rattle.cash_flow_legs.specs.Legs.{each_period, fixed_flow, float_flow}
 use Rattle.cash_flow_legs.specs.Singles.{redemption_flow, settlement_flow}
@@ -34,3 +36,12 @@ redeemed flows cal end notional = behind flows (one_flow (redemption_flow (is_bu
 -- the settlement of a forward rate agreement
 abbrev pub settled : List FlowTerm → IndexTerms → ℤ → ℤ → ℤ → Result (List FlowTerm) MarketKind
 settled flows index start notional strike = behind flows (one_flow (settlement_flow index start notional strike))
+
+-- flows within their limits, with an index where one is on an index
+pub record AreWithin (index : Option ℕ) (list : List FlowTerm) : Type 0 where
+  pub limits : All IsFlow list
+  pub named : IsIndexNamed list index
+
+-- flows that are within their limits with an index stay so
+abbrev pub StayWithin : Option ℕ → List FlowTerm → List FlowTerm → Type 0
+StayWithin index old new = AreWithin index old → AreWithin index new

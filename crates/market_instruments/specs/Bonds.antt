@@ -41,15 +41,14 @@ coupons_by e fs span n flows (Some rate) index = fixed_coupons fs span n rate fl
 coupons_by e fs span n flows None (Some index) = float_coupons e fs span n index flows
 coupons_by e fs span n flows None None = no_coupons span flows
 
--- flows with the coupons of a bond behind them
-abbrev pub coupons_of : Earlier → List (Option Field) → Span → ℤ → List FlowTerm → Result (List FlowTerm) MarketKind
-coupons_of e fs span n flows =
-    rate_in (field_in fs 6) >>= (λ coupon. object_in (field_in fs 7) >>= (λ index. coupons_by e fs span n flows coupon index))
+-- flows with the coupons of a bond behind them, by its rate or its index
+abbrev pub coupons_of : Earlier → List (Option Field) → Span → ℤ → Option ℕ → List FlowTerm → Result (List FlowTerm) MarketKind
+coupons_of e fs span n index flows = rate_in (field_in fs 6) >>= (λ coupon. coupons_by e fs span n flows coupon index)
 
 -- a bond of its fields: its coupons, and then its redemption
 abbrev pub bond_of : Earlier → List (Option Field) → Result Terms MarketKind
 bond_of e fs =
     must (notional_in (field_in fs 1)) >>= (λ n. span_of fs 2 >>= (λ span.
     object_in (field_in fs 5) >>= (λ engine. object_in (field_in fs 7) >>= (λ index.
-    coupons_of e fs span n [] >>= (λ coupons. redeemed coupons span.cal span.end n >>= (λ flows.
+    coupons_of e fs span n index [] >>= (λ coupons. redeemed coupons span.cal span.end n >>= (λ flows.
     instrument_of flows index engine))))))

@@ -1,5 +1,5 @@
 -- The schedules of bonds and swaps (QuantLib's Schedule).
-use Rattle.std.specs.Prelude.{ℕ, ℤ, ◌+◌, Bool, false, unwrap_or, List, Option, Some, None, Result, Ok, Err}
+use Rattle.std.specs.Prelude.{ℕ, ℤ, ◌+◌, false, unwrap_or, List, Option, Result, Ok, Err}
 use Rattle.day_number.specs.declared.tenors.Tenor.{Tenor}
 use Rattle.day_number.specs.declared.conventions.Convention.TheVariants.{ModifiedFollowing}
 use Rattle.holiday_calendars.specs.declared.calendars.Calendar.{Calendar}

@@ -4,8 +4,10 @@ use Rattle.flow_terms.specs.declared.flows.FlowTerm.{FlowTerm}
 use Rattle.desk_terms.specs.declared.terms.Terms.{Terms}
 use Rattle.holiday_calendars.specs.declared.calendars.Calendar.{Calendar}
 use Rattle.market_tables.specs.declared.fault.MarketKind.{MarketKind}
+use Rattle.market_tables.specs.declared.fault.MarketKind.TheVariants as fault
 use Rattle.market_tables.specs.Fields.{field_in}
 use Rattle.market_tables.specs.Given.{◌>>=◌}
+use Rattle.market_tables.specs.Values.{or_fault}
 use Rattle.market_fields.specs.declared.field.Field.{Field}
 use Rattle.market_fields.specs.Field.{must, object_in, tenor_in, counter_in, notional_in, rate_in, sign_in}
 use Rattle.market_fields.specs.Limited.{signed, opposite}
@@ -22,10 +24,10 @@ fixed_side fs cal days flows =
     fixed_behind flows cal (signed sign n) rate counter days))))
 
 -- the floating leg behind other flows, negative where the fixed one is received
-abbrev pub float_side : Earlier → List (Option Field) → Calendar → List ℤ → List FlowTerm → Result (List FlowTerm) MarketKind
-float_side e fs cal days flows =
+abbrev pub float_side : Earlier → List (Option Field) → Calendar → List ℤ → Option ℕ → List FlowTerm → Result (List FlowTerm) MarketKind
+float_side e fs cal days index flows =
     must (notional_in (field_in fs 1)) >>= (λ n. must (sign_in (field_in fs 2)) >>= (λ sign.
-    must (object_in (field_in fs 14)) >>= (λ index. rate_in (field_in fs 15) >>= (λ spread.
+    or_fault fault.Key index >>= (λ index. rate_in (field_in fs 15) >>= (λ spread.
     must (counter_in (field_in fs 17)) >>= (λ counter. index_terms e index >>= (λ terms.
     float_behind flows cal (signed (opposite sign) n) (unwrap_or spread (pos 0)) counter terms days))))))
 
@@ -36,5 +38,5 @@ swap_of e fs =
     must (tenor_in (field_in fs 12)) >>= (λ fixed_every. object_in (field_in fs 14) >>= (λ index.
     must (tenor_in (field_in fs 16)) >>= (λ float_every.
     dates_of span rules fixed_every None None >>= (λ fixed_days. dates_of span rules float_every None None >>= (λ float_days.
-    fixed_side fs span.cal fixed_days [] >>= (λ fixed. float_side e fs span.cal float_days fixed >>= (λ flows.
+    fixed_side fs span.cal fixed_days [] >>= (λ fixed. float_side e fs span.cal float_days index fixed >>= (λ flows.
     instrument_of flows index engine))))))))))

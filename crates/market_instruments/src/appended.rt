@@ -1,12 +1,12 @@
 // Flows put behind others.
-ghost use Rattle.std.specs.Prelude.{◌≡◌, List, Option};
+ghost use Rattle.std.specs.Prelude.{◌≡◌, ℕ, List, Option, Some};
 ghost use Rattle.holiday_calendars.specs.Calendar.{is_business_day};
 ghost use Rattle.flow_terms.specs.declared.flows.FlowTerm.{FlowTerm};
 ghost use Rattle.flow_terms.specs.Fixings.{IsRate};
 ghost use Rattle.flow_terms.specs.Ranges.{IsNotional};
 ghost use Rattle.cash_flow_legs.specs.Appended.{Appends};
 ghost use Rattle.market_tables.specs.Given.{Gives};
-ghost use Rattle.market_instruments.specs.Appended.{behind, fixed_behind, float_behind, redeemed, settled};
+ghost use Rattle.market_instruments.specs.Appended.{behind, fixed_behind, float_behind, redeemed, settled, StayWithin};
 
 use cash_flow_legs::{LegFault, fixed_leg, float_leg, forward_flow, redemption};
 use day_number::Day;
@@ -40,7 +40,8 @@ pub(crate) fn push_fixed(
 ) -> Result<(), TableFault>
     requires notional { IsNotional notional }
     requires rate { IsRate rate }
-    ensures { Gives (λ _. out.new) result (fixed_behind out.old cal.now notional rate counter schedule.now) }
+    ensures flows { Gives (λ _. out.new) result (fixed_behind out.old cal.now notional rate counter schedule.now) }
+    ensures range { (index : Option ℕ) → StayWithin index out.old out.new }
 {
     ranged(fixed_leg(schedule, cal, notional, rate, counter, out))
 }
@@ -57,7 +58,8 @@ pub(crate) fn push_float(
 ) -> Result<(), TableFault>
     requires notional { IsNotional notional }
     requires spread { IsRate spread }
-    ensures { Gives (λ _. out.new) result (float_behind out.old cal.now notional spread counter index.now schedule.now) }
+    ensures flows { Gives (λ _. out.new) result (float_behind out.old cal.now notional spread counter index.now schedule.now) }
+    ensures range { (object : ℕ) → StayWithin (Some object) out.old out.new }
 {
     ranged(float_leg(schedule, cal, notional, spread, counter, index, out))
 }
@@ -70,7 +72,8 @@ pub(crate) fn push_redemption(
     out: &mut FlowTermList,
 ) -> Result<(), TableFault>
     requires { IsNotional notional }
-    ensures { Gives (λ _. out.new) result (redeemed out.old cal.now end notional) }
+    ensures flows { Gives (λ _. out.new) result (redeemed out.old cal.now end notional) }
+    ensures range { (index : Option ℕ) → StayWithin index out.old out.new }
 {
     ranged(redemption(cal, end, notional, out))
 }
@@ -85,7 +88,8 @@ pub(crate) fn push_settlement(
 ) -> Result<(), TableFault>
     requires notional { IsNotional notional }
     requires strike { IsRate strike }
-    ensures { Gives (λ _. out.new) result (settled out.old index.now start notional strike) }
+    ensures flows { Gives (λ _. out.new) result (settled out.old index.now start notional strike) }
+    ensures range { (object : ℕ) → StayWithin (Some object) out.old out.new }
 {
     ranged(forward_flow(index, start, notional, strike, out))
 }

@@ -1,10 +1,12 @@
 // Bonds.
-ghost use Rattle.std.specs.Prelude.{◌≡◌, Option, []};
+ghost use Rattle.std.specs.Prelude.{◌≡◌, ℕ, Option, Some, [], IfOk};
 ghost use Rattle.flow_terms.specs.Ranges.{IsNotional};
 ghost use Rattle.flow_terms.specs.Fixings.{IsRate};
+ghost use Rattle.desk_terms.specs.Reading.{AreInRange};
 ghost use Rattle.market_tables.specs.Given.{Gives};
 ghost use Rattle.market_fields.specs.Earlier.{seen};
 ghost use Rattle.market_instruments.specs.Schedules.{span_seen};
+ghost use Rattle.market_instruments.specs.Appended.{StayWithin};
 ghost use Rattle.market_instruments.specs.Bonds.{bond_dates, fixed_coupons, float_coupons, no_coupons, coupons_by, coupons_of, bond_of};
 
 use crate::appended::{push_fixed, push_float, push_redemption};
@@ -44,7 +46,8 @@ fn fixed_coupons(
     rate: TermRate,
     out: &mut FlowTermList,
 ) -> Result<(), TableFault>
-    ensures { Gives (λ _. out.new) result (fixed_coupons fields.now (span_seen span.now) notional rate out.old) }
+    ensures flows { Gives (λ _. out.new) result (fixed_coupons fields.now (span_seen span.now) notional rate out.old) }
+    ensures range { (index : Option ℕ) → StayWithin index out.old out.new }
 {
     let schedule = bond_dates(alloc, fields, span)?;
     let counter = must(counter_at(fields, 14)?)?;
@@ -68,7 +71,8 @@ fn float_coupons(
     index: ObjId,
     out: &mut FlowTermList,
 ) -> Result<(), TableFault>
-    ensures { Gives (λ _. out.new) result (float_coupons (seen earlier.entry) fields.now (span_seen span.now) notional index out.old) }
+    ensures flows { Gives (λ _. out.new) result (float_coupons (seen earlier.entry) fields.now (span_seen span.now) notional index out.old) }
+    ensures range { StayWithin (Some index) out.old out.new }
 {
     let schedule = bond_dates(alloc, fields, span)?;
     let counter = must(counter_at(fields, 14)?)?;
@@ -95,19 +99,20 @@ fn no_coupons(span: &Span<'_>, out: &FlowTermList) -> Result<(), TableFault>
     Err(TableFault::Kind(MarketKind::Plan))
 }
 
-// Appends the coupons of a bond, by its rate or its index.
+// Appends the coupons of a bond, by its rate or its index, if it has one.
 fn push_coupons(
     alloc: Global,
     earlier: Earlier<'_>,
     fields: &[Option<Field>],
     span: &Span<'_>,
     notional: Notional,
+    index: Option<ObjId>,
     out: &mut FlowTermList,
 ) -> Result<(), TableFault>
-    ensures { Gives (λ _. out.new) result (coupons_of (seen earlier.entry) fields.now (span_seen span.now) notional out.old) }
+    ensures flows { Gives (λ _. out.new) result (coupons_of (seen earlier.entry) fields.now (span_seen span.now) notional index out.old) }
+    ensures range { StayWithin index out.old out.new }
 {
     let coupon = rate_at(fields, 6)?;
-    let index = object_at(fields, 7)?;
     match (coupon, index) {
         (Some(rate), _) => fixed_coupons(alloc, fields, span, notional, rate, out),
         (None, Some(index)) => float_coupons(alloc, earlier, fields, span, notional, index, out),
@@ -123,7 +128,8 @@ pub fn bond(
     earlier: Earlier<'_>,
     fields: &[Option<Field>],
 ) -> Result<Terms, TableFault>
-    ensures { Gives (λ terms. terms) result (bond_of (seen earlier.entry) fields.now) }
+    ensures terms { Gives (λ terms. terms) result (bond_of (seen earlier.entry) fields.now) }
+    ensures range { IfOk result AreInRange }
 {
     let notional = must(notional_at(fields, 1)?)?;
     let span = match span_of(fields, 2) {
@@ -133,7 +139,7 @@ pub fn bond(
     let engine = object_at(fields, 5)?;
     let index = object_at(fields, 7)?;
     let mut flows = FlowTermList::new(alloc);
-    push_coupons(alloc, earlier, fields, &span, notional, &mut flows)?;
+    push_coupons(alloc, earlier, fields, &span, notional, index, &mut flows)?;
     push_redemption(span.cal, span.end, notional.signed(Sign::Plus), &mut flows)?;
     instrument_of(flows, index, engine)
 }

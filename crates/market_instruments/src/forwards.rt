@@ -1,7 +1,9 @@
 // Forward rate agreements.
-ghost use Rattle.std.specs.Prelude.{◌≡◌, Option, []};
+ghost use Rattle.std.specs.Prelude.{◌≡◌, Option, Some, [], IfOk};
+ghost use Rattle.desk_terms.specs.Reading.{AreInRange};
 ghost use Rattle.market_tables.specs.Given.{Gives};
 ghost use Rattle.market_fields.specs.Earlier.{seen};
+ghost use Rattle.market_instruments.specs.Appended.{StayWithin};
 ghost use Rattle.market_instruments.specs.Forwards.{settlement_of, forward_of};
 
 use crate::appended::push_settlement;
@@ -19,7 +21,8 @@ fn push_agreed(
     index: ObjId,
     out: &mut FlowTermList,
 ) -> Result<(), TableFault>
-    ensures { Gives (λ _. out.new) result (settlement_of (seen earlier.entry) fields.now index out.old) }
+    ensures flows { Gives (λ _. out.new) result (settlement_of (seen earlier.entry) fields.now index out.old) }
+    ensures range { StayWithin (Some index) out.old out.new }
 {
     let notional = must(notional_at(fields, 1)?)?;
     let sign = must(sign_at(fields, 2)?)?;
@@ -36,7 +39,8 @@ pub fn forward_agreement(
     earlier: Earlier<'_>,
     fields: &[Option<Field>],
 ) -> Result<Terms, TableFault>
-    ensures { Gives (λ terms. terms) result (forward_of (seen earlier.entry) fields.now) }
+    ensures terms { Gives (λ terms. terms) result (forward_of (seen earlier.entry) fields.now) }
+    ensures range { IfOk result AreInRange }
 {
     let index = must(object_at(fields, 3)?)?;
     let engine = object_at(fields, 6)?;

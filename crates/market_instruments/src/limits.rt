@@ -1,6 +1,8 @@
 // Instruments of flows within the limits of terms.
-ghost use Rattle.std.specs.Prelude.{◌≡◌};
+ghost use Rattle.std.specs.Prelude.{◌≡◌, IfOk};
+ghost use Rattle.desk_terms.specs.Reading.{AreInRange};
 ghost use Rattle.market_tables.specs.Given.{Gives};
+ghost use Rattle.market_instruments.specs.Appended.{AreWithin};
 ghost use Rattle.market_instruments.specs.Limits.{limit_kind, instrument_of};
 
 use desk_names::ObjId;
@@ -25,7 +27,9 @@ pub(crate) fn instrument_of(
     index: Option<ObjId>,
     engine: Option<ObjId>,
 ) -> Result<Terms, TableFault>
-    ensures { Gives (λ terms. terms) result (instrument_of flows index engine) }
+    requires { AreWithin index flows }
+    ensures terms { Gives (λ terms. terms) result (instrument_of flows index engine) }
+    ensures range { IfOk result AreInRange }
 {
     match flows_terms(flows, index, engine) {
         Ok(terms) => Ok(terms),

@@ -1,12 +1,15 @@
 // Swaps.
-ghost use Rattle.std.specs.Prelude.{◌≡◌, Option, []};
+ghost use Rattle.std.specs.Prelude.{◌≡◌, ℕ, Option, [], IfOk};
+ghost use Rattle.desk_terms.specs.Reading.{AreInRange};
 ghost use Rattle.market_tables.specs.Given.{Gives};
 ghost use Rattle.market_fields.specs.Earlier.{seen};
+ghost use Rattle.market_instruments.specs.Appended.{StayWithin};
 ghost use Rattle.market_instruments.specs.Swaps.{fixed_side, float_side, swap_of};
 
 use crate::appended::{push_fixed, push_float};
 use crate::limits::instrument_of;
 use crate::schedules::{dates_of, rules_of, span_of};
+use desk_names::ObjId;
 use desk_terms::{FlowTermList, Terms};
 use holiday_calendars::Calendar;
 use market_fields::{
@@ -23,7 +26,8 @@ fn push_fixed_side(
     schedule: &Schedule,
     out: &mut FlowTermList,
 ) -> Result<(), TableFault>
-    ensures { Gives (λ _. out.new) result (fixed_side fields.now cal.now schedule.now out.old) }
+    ensures flows { Gives (λ _. out.new) result (fixed_side fields.now cal.now schedule.now out.old) }
+    ensures range { (index : Option ℕ) → StayWithin index out.old out.new }
 {
     let notional = must(notional_at(fields, 1)?)?;
     let sign = must(sign_at(fields, 2)?)?;
@@ -39,13 +43,15 @@ fn push_float_side(
     fields: &[Option<Field>],
     cal: &Calendar,
     schedule: &Schedule,
+    index: Option<ObjId>,
     out: &mut FlowTermList,
 ) -> Result<(), TableFault>
-    ensures { Gives (λ _. out.new) result (float_side (seen earlier.entry) fields.now cal.now schedule.now out.old) }
+    ensures flows { Gives (λ _. out.new) result (float_side (seen earlier.entry) fields.now cal.now schedule.now index out.old) }
+    ensures range { StayWithin index out.old out.new }
 {
     let notional = must(notional_at(fields, 1)?)?;
     let sign = must(sign_at(fields, 2)?)?;
-    let index = must(object_at(fields, 14)?)?;
+    let index = must(index)?;
     let spread = rate_at(fields, 15)?.unwrap_or(TermRate::zero());
     let counter = must(counter_at(fields, 17)?)?;
     let terms = earlier.index_terms(index)?;
@@ -60,7 +66,8 @@ pub fn swap(
     earlier: Earlier<'_>,
     fields: &[Option<Field>],
 ) -> Result<Terms, TableFault>
-    ensures { Gives (λ terms. terms) result (swap_of (seen earlier.entry) fields.now) }
+    ensures terms { Gives (λ terms. terms) result (swap_of (seen earlier.entry) fields.now) }
+    ensures range { IfOk result AreInRange }
 {
     let span = match span_of(fields, 3) {
         Ok(span) => span,
@@ -75,6 +82,6 @@ pub fn swap(
     let float_dates = dates_of(alloc, &span, rules, float_every, None, None)?;
     let mut flows = FlowTermList::new(alloc);
     push_fixed_side(fields, span.cal, &fixed_dates, &mut flows)?;
-    push_float_side(earlier, fields, span.cal, &float_dates, &mut flows)?;
+    push_float_side(earlier, fields, span.cal, &float_dates, index, &mut flows)?;
     instrument_of(flows, index, engine)
 }

@@ -35,12 +35,13 @@ pub struct Board {
 impl Model for Board {
     ghost use Rattle.std.specs.Prelude.{length, ◌≤◌};
     ghost use Rattle.market_fields.specs.Earlier.{Earlier};
+    ghost use Rattle.market_objects.specs.Board.{HaveFlowsInRange};
 
     ghost Value = { Earlier };
 
     ghost view = { λ b. record { names = b.names; kinds = b.kinds.items; made = b.made.items; calendars = b.calendars } };
 
-    ghost invariant = { λ b. (length b.names ≤ length b.kinds.items) × (length b.kinds.items ≤ 4096) };
+    ghost invariant = { λ b. (length b.names ≤ length b.kinds.items) × (length b.kinds.items ≤ 4096) × HaveFlowsInRange b.made.items };
 }
 
 // The number of a name among the names, which it joins where it is new.
@@ -66,7 +67,7 @@ impl Board {
     ghost use Rattle.market_tables.specs.Given.{Gives};
     ghost use Rattle.market_fields.specs.Earlier.{seen};
     ghost use Rattle.flow_terms.specs.Fixings.{IsRate};
-    ghost use Rattle.market_objects.specs.Board.{started, added};
+    ghost use Rattle.market_objects.specs.Board.{started, added, HasFlowsInRange, HaveFlowsInRange};
     ghost use Rattle.market_objects.specs.Fixings.{with_fixing_of};
 
     /// `today` alone, over some calendars.
@@ -106,6 +107,7 @@ impl Board {
 
     /// Puts an object behind the others, or refuses it with `Limit` where there are as many as there may be.
     pub(crate) fn add(&mut self, name: &NameText, terms: Terms) -> Result<(), TableFault>
+        requires { HasFlowsInRange terms }
         ensures { Gives (λ _. self.new) result (added self.old name.now terms) }
     {
         if self.kinds.len() >= MOST_OBJECTS {
@@ -131,6 +133,7 @@ impl Board {
     pub fn into_parts(self) -> (Names, MadeList)
         ensures names { result.0 ≡ self.names }
         ensures made { result.1.items ≡ self.made }
+        ensures range { HaveFlowsInRange result.1.items }
     {
         (self.names, self.made)
     }

@@ -7,6 +7,7 @@ ghost use Rattle.market_tables.specs.Entries.{GivesAt};
 ghost use Rattle.market_tables.specs.Values.{day_of};
 ghost use Rattle.market_records.specs.Records.{behind_records};
 ghost use Rattle.flow_terms.specs.Fixings.{fixing_on, IsRate};
+ghost use Rattle.market_objects.specs.Board.{HasFlowsInRange, HaveFlowsInRange};
 ghost use Rattle.market_objects.specs.Fixings.{is_header, stored, fixed, fixed_in, behind};
 
 use crate::Board;
@@ -59,7 +60,8 @@ fn store(fixings: &mut Fixings, day: Day, rate: Rate) -> Result<(), TableFault>
 // Stores a rate for an index, or `Kind` where the terms are none.
 fn fix(terms: &mut Terms, day: Day, rate: Rate) -> Result<(), TableFault>
     requires { IsRate rate }
-    ensures { Gives (λ _. terms.new) result (fixed terms.old day rate) }
+    ensures terms { Gives (λ _. terms.new) result (fixed terms.old day rate) }
+    ensures range { HasFlowsInRange terms.old → HasFlowsInRange terms.new }
 {
     match terms {
         Terms::Index(_, fixings) => store(fixings, day, rate),
@@ -83,7 +85,8 @@ pub(crate) fn fix_at(
     rate: Rate,
 ) -> Result<(), TableFault>
     requires { IsRate rate }
-    ensures { Gives (λ _. made.new.items) result (fixed_in made.old.items at day rate (slice_get made.old.items at)) }
+    ensures made { Gives (λ _. made.new.items) result (fixed_in made.old.items at day rate (slice_get made.old.items at)) }
+    ensures range { HaveFlowsInRange made.old.items → HaveFlowsInRange made.new.items }
 {
     if at < made.len() {
         fix(&mut made[at].1, day, rate)

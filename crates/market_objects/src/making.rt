@@ -1,7 +1,8 @@
 // What the fields of an object's table make.
-ghost use Rattle.std.specs.Prelude.{◌≡◌, Option};
+ghost use Rattle.std.specs.Prelude.{◌≡◌, Option, IfOk};
 ghost use Rattle.market_tables.specs.Given.{Gives};
 ghost use Rattle.market_fields.specs.Earlier.{seen};
+ghost use Rattle.market_objects.specs.Board.{HasFlowsInRange};
 ghost use Rattle.market_objects.specs.Making.{derived_of, target_wanted, linked, handle_of, curve_of, implied_of, index_of, engine_of, stock_of, composite_of, parts_of, terms_of, entry_made};
 
 use desk_terms::{CurveTerms, Fixings, HandleKind, IndexTerms, PartList, Terms, Wanted};
@@ -19,7 +20,8 @@ const MOST_PARTS: usize = 4095;
 
 // A sum or a difference.
 fn derived_of(minus: bool, fields: &[Option<Field>]) -> Result<Terms, TableFault>
-    ensures { Gives (λ terms. terms) result (derived_of minus fields.now) }
+    ensures terms { Gives (λ terms. terms) result (derived_of minus fields.now) }
+    ensures range { IfOk result HasFlowsInRange }
 {
     let first = must(object_at(fields, 1)?)?;
     let second = must(object_at(fields, 2)?)?;
@@ -42,7 +44,8 @@ fn target_wanted(target_kind: HandleKind) -> Wanted
 
 // A handle with its target, or without one.
 fn linked(target_kind: HandleKind, to: Option<Named>) -> Result<Terms, TableFault>
-    ensures { Gives (λ terms. terms) result (linked target_kind to) }
+    ensures terms { Gives (λ terms. terms) result (linked target_kind to) }
+    ensures range { IfOk result HasFlowsInRange }
 {
     match to {
         None => Ok(Terms::Handle {
@@ -60,7 +63,8 @@ fn linked(target_kind: HandleKind, to: Option<Named>) -> Result<Terms, TableFaul
 }
 
 fn handle_of(fields: &[Option<Field>]) -> Result<Terms, TableFault>
-    ensures { Gives (λ terms. terms) result (handle_of fields.now) }
+    ensures terms { Gives (λ terms. terms) result (handle_of fields.now) }
+    ensures range { IfOk result HasFlowsInRange }
 {
     let target_kind = must(target_at(fields, 1)?)?;
     linked(target_kind, named_at(fields, 2)?)
@@ -69,7 +73,8 @@ fn handle_of(fields: &[Option<Field>]) -> Result<Terms, TableFault>
 // A curve; it takes its calendar and its helpers out of the fields.
 #[tactic(auto, using(market_tables::proofs::FieldPlaces::other))]
 fn curve_of(fields: &mut Vec<Option<Field>>) -> Result<Terms, TableFault>
-    ensures { Gives (λ terms. terms) result (curve_of fields.old.items) }
+    ensures terms { Gives (λ terms. terms) result (curve_of fields.old.items) }
+    ensures range { IfOk result HasFlowsInRange }
 {
     let settlement = must(count_at(fields, 2)?)?;
     let cal = must(calendar_in(take_field(fields, 1))?)?;
@@ -82,7 +87,8 @@ fn curve_of(fields: &mut Vec<Option<Field>>) -> Result<Terms, TableFault>
 }
 
 fn implied_of(fields: &[Option<Field>]) -> Result<Terms, TableFault>
-    ensures { Gives (λ terms. terms) result (implied_of fields.now) }
+    ensures terms { Gives (λ terms. terms) result (implied_of fields.now) }
+    ensures range { IfOk result HasFlowsInRange }
 {
     let curve = must(object_at(fields, 1)?)?;
     let reference = must(day_at(fields, 2)?)?;
@@ -91,7 +97,8 @@ fn implied_of(fields: &[Option<Field>]) -> Result<Terms, TableFault>
 
 // An index without stored rates; it takes its calendar out of the fields.
 fn index_of(alloc: Global, fields: &mut Vec<Option<Field>>) -> Result<Terms, TableFault>
-    ensures { Gives (λ terms. terms) result (index_of fields.old.items) }
+    ensures terms { Gives (λ terms. terms) result (index_of fields.old.items) }
+    ensures range { IfOk result HasFlowsInRange }
 {
     let fixing_days = must(count_at(fields, 2)?)?;
     let tenor = must(tenor_at(fields, 3)?)?;
@@ -113,14 +120,16 @@ fn index_of(alloc: Global, fields: &mut Vec<Option<Field>>) -> Result<Terms, Tab
 }
 
 fn engine_of(fields: &[Option<Field>]) -> Result<Terms, TableFault>
-    ensures { Gives (λ terms. terms) result (engine_of fields.now) }
+    ensures terms { Gives (λ terms. terms) result (engine_of fields.now) }
+    ensures range { IfOk result HasFlowsInRange }
 {
     let curve = must(object_at(fields, 1)?)?;
     Ok(Terms::Engine { curve })
 }
 
 fn stock_of(fields: &[Option<Field>]) -> Result<Terms, TableFault>
-    ensures { Gives (λ terms. terms) result (stock_of fields.now) }
+    ensures terms { Gives (λ terms. terms) result (stock_of fields.now) }
+    ensures range { IfOk result HasFlowsInRange }
 {
     let quote = must(object_at(fields, 1)?)?;
     Ok(stock(quote))
@@ -128,7 +137,8 @@ fn stock_of(fields: &[Option<Field>]) -> Result<Terms, TableFault>
 
 // A composite, which names no member twice. One of more parts than there may be objects names one twice.
 fn composite_of(parts: PartList) -> Result<Terms, TableFault>
-    ensures { Gives (λ terms. terms) result (composite_of parts) }
+    ensures terms { Gives (λ terms. terms) result (composite_of parts) }
+    ensures range { IfOk result HasFlowsInRange }
 {
     if parts.len() > MOST_PARTS {
         return Err(TableFault::Kind(MarketKind::Parts));
@@ -141,7 +151,8 @@ fn composite_of(parts: PartList) -> Result<Terms, TableFault>
 
 // The composite of a key that may be missing, which says no parts.
 fn parts_of(alloc: Global, field: Option<Field>) -> Result<Terms, TableFault>
-    ensures { Gives (λ terms. terms) result (parts_of field) }
+    ensures terms { Gives (λ terms. terms) result (parts_of field) }
+    ensures range { IfOk result HasFlowsInRange }
 {
     match parts_in(field)? {
         Some(parts) => composite_of(parts),
@@ -156,7 +167,8 @@ fn terms_of(
     kind: ObjectKind,
     fields: &mut Vec<Option<Field>>,
 ) -> Result<Terms, TableFault>
-    ensures { Gives (λ terms. terms) result (terms_of (seen earlier.entry) kind fields.old.items) }
+    ensures terms { Gives (λ terms. terms) result (terms_of (seen earlier.entry) kind fields.old.items) }
+    ensures range { IfOk result HasFlowsInRange }
 {
     match kind {
         ObjectKind::Sum => derived_of(false, fields),
@@ -181,7 +193,8 @@ pub(crate) fn entry_made(
     kind: ObjectKind,
     fields: Vec<Option<Field>>,
 ) -> Result<(NameText, Terms), TableFault>
-    ensures { Gives (λ entry. (entry.0, entry.1)) result (entry_made (seen earlier.entry) kind fields.items) }
+    ensures entry { Gives (λ entry. (entry.0, entry.1)) result (entry_made (seen earlier.entry) kind fields.items) }
+    ensures range { IfOk result (λ entry. HasFlowsInRange entry.1) }
 {
     let mut fields = fields;
     let name = must(name_in(take_field(&mut fields, 0))?)?;

@@ -1,11 +1,12 @@
 // The tables of objects.
-ghost use Rattle.std.specs.Prelude.{◌≡◌, map};
+ghost use Rattle.std.specs.Prelude.{◌≡◌, map, IfOk};
 ghost use Rattle.toml.specs.View.{view, items_view};
 ghost use Rattle.market_tables.specs.Given.{Gives};
 ghost use Rattle.market_tables.specs.Entries.{GivesAt, entries_from};
 ghost use Rattle.market_tables.specs.Table.{listed};
 ghost use Rattle.market_fields.specs.Earlier.{seen};
 ghost use Rattle.market_fields.specs.Keys.{keys_of, kind_of};
+ghost use Rattle.market_objects.specs.Board.{HasFlowsInRange};
 ghost use Rattle.market_objects.specs.Reader.{entry_in, behind};
 
 use crate::Board;
@@ -78,7 +79,8 @@ fn entry_in(
     earlier: Earlier<'_>,
     value: &Value,
 ) -> Result<(NameText, Terms), TableFault>
-    ensures { Gives (λ entry. (entry.0, entry.1)) result (entry_in (seen earlier.entry) (view value.now)) }
+    ensures entry { Gives (λ entry. (entry.0, entry.1)) result (entry_in (seen earlier.entry) (view value.now)) }
+    ensures range { IfOk result (λ entry. HasFlowsInRange entry.1) }
 {
     let reader = ObjectReader { alloc, earlier };
     let (kind, fields) = entry_of(alloc, &reader, table_in(value)?)?;

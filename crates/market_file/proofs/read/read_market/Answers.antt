@@ -1,11 +1,17 @@
 use Rattle.std.proofs.Common.{List, ℕ, sym, subst}
 use Rattle.desk_terms.specs.declared.terms.Terms.{Terms}
+use Rattle.market_objects.specs.Board.{HaveFlowsInRange}
 use Rattle.market_file.specs.Standing.{IsReady}
-use Rattle.market_file.proofs.Built.{ready}
+use Rattle.market_file.proofs.Built.{ready, ranged}
 use Rattle.market_file.proofs.read.read_market.Goals as goal
 
 pub returns-clause-ready : goal.returns-clause-ready
 returns-clause-ready c =
+    let found = c.into_parts-found.ensures in
+    let flows : HaveFlowsInRange c.in_ok-today.board.made = subst HaveFlowsInRange found.made found.range in
     subst (λ (names : List (List ℕ)). IsReady names c.into_parts-found.result.1.items) (sym c.into_parts-found.ensures.names)
     (subst (λ (made : List (ℕ × Terms)). IsReady c.in_ok-today.board.names made) (sym c.into_parts-found.ensures.made)
-    (ready c.args.text.now c.args.quotes.now c.args.fixings.now c.in_ok-today.today c.in_ok-today.board c.in_ok-today.ensures))
+    (ready c.args.text.now c.args.quotes.now c.args.fixings.now c.in_ok-today.today c.in_ok-today.board c.in_ok-today.ensures flows))
+
+pub returns-clause-ranged : goal.returns-clause-ranged
+returns-clause-ranged c = ranged _ _ (returns-clause-ready c).order

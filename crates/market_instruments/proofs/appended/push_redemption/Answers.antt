@@ -1,4 +1,12 @@
+use Rattle.holiday_calendars.specs.Calendar.{is_business_day}
+use Rattle.market_instruments.proofs.AppendLemmas.{stay_known}
+use Rattle.market_instruments.proofs.KnownLemmas.{redemption_known}
 use Rattle.market_instruments.proofs.appended.push_redemption.Goals as goal
 
-pub returns : goal.returns
-returns c = c.ranged.ensures _ _ _ c.redemption.ensures.flows
+pub returns-clause-flows : goal.returns-clause-flows
+returns-clause-flows c = c.ranged.ensures _ _ _ c.redemption.ensures.flows
+
+pub returns-clause-range : goal.returns-clause-range
+returns-clause-range c =
+    let known = redemption_known (is_business_day c.args.cal.now) c.args.end c.args.notional in
+    stay_known _ _ _ _ known c.redemption.ensures.flows c.redemption.ensures.range

@@ -14,5 +14,5 @@ returns-in_err-fix_at c =
     let made = c.self.inside.made.items in
     let at : c.saturating_sub-at.result ≡ c.args.index - 1 = c.saturating_sub-at.ensures ∙ ap (λ (n : ℕ). n - 1) c.place.ensures in
     let here : Fails fault (fixed_in made (c.args.index - 1) c.args.day c.args.rate (slice_get made (c.args.index - 1))) =
-    subst (λ (n : ℕ). Fails fault (fixed_in made n c.args.day c.args.rate (slice_get made n))) at c.in_err-fix_at.ensures in
+    subst (λ (n : ℕ). Fails fault (fixed_in made n c.args.day c.args.rate (slice_get made n))) at c.in_err-fix_at.ensures.made in
     rw (p.1, p.2) (subst (λ (e : Earlier). Fails fault (with_fixing_of e c.args.index c.args.day c.args.rate)) c.self.view_is (passed fault _ _ here))

@@ -1,6 +1,7 @@
 -- What a command is once its names are looked up, or why it is refused (this project's profile). The first reason in
 -- this order: it is not built; its new name is taken; another name, in the order in which they are written, is unknown
--- or of another kind; it closes a cycle, the object is in use, or a rate is stored already; there is no room.
+-- or of another kind; it closes a cycle, the object is in use, a rate is stored already, or the object is late; there
+-- is no room.
 use Rattle.std.specs.Prelude.{ℕ, Bool, true, false, not, ◌&&◌, ◌||◌, ◌==◌, if◌then◌else◌, [], Option, Some, None, is_some, Result, Ok, Err, ℤ, pos}
 use Rattle.std.specs.Ordering.{int_eq}
 use Rattle.desk_terms.specs.declared.terms.Terms.{Terms}
@@ -11,10 +12,11 @@ use Rattle.flow_terms.specs.Fixings.{fixing_on}
 use Rattle.desk_model.specs.Market.{Market, kind_at, least_user}
 use Rattle.desk_model.specs.Uses.{index_at, fixings_in}
 use Rattle.desk_model.specs.Links.{reaches}
+use Rattle.desk_model.specs.State.{least_source}
 use Rattle.session_commands.specs.declared.command.Command.{Command}
 use Rattle.session_commands.specs.declared.command.Command.TheVariants as command
 use Rattle.session_commands.specs.declared.refusal.Refusal.{Refusal}
-use Rattle.session_commands.specs.declared.refusal.Refusal.TheVariants.{Unknown, Taken, Kind, Cycle, InUse, FixingExists, TooMany, Unbuilt}
+use Rattle.session_commands.specs.declared.refusal.Refusal.TheVariants.{Unknown, Taken, Kind, Cycle, InUse, FixingExists, TooMany, Deferred, Unbuilt}
 use Rattle.session_model.specs.declared.act.Act.{Act}
 use Rattle.session_model.specs.declared.act.Act.TheVariants as act
 use Rattle.session_model.specs.declared.place.Place.{Place}
@@ -45,6 +47,10 @@ unless_used None a = Ok a
 unfoldable pub unless_kept : Option ℤ → Act → Result Act Refusal
 unless_kept (Some rate) a = Err (FixingExists rate)
 unless_kept None a = Ok a
+
+unfoldable pub unless_late : Option ℕ → Act → Result Act Refusal
+unless_late (Some source) a = Err (Deferred source)
+unless_late None a = Ok a
 
 -- whether an edge from the holder to the target would close a cycle
 abbrev pub closes : Market → ℕ → ℕ → Bool
@@ -126,12 +132,13 @@ resolve p (command.Engine i e) = with_found (find place.Flows p i) (λ x. engage
 resolve p (command.Today day) = Ok (act.Today day)
 resolve p (command.Fixing x day rate) =
     with_found (find index p x) (λ y. unless_kept (rate_at p.state.market y day) (act.Fixing y day rate))
-resolve p (command.Freeze o) = Err Unbuilt
-resolve p (command.Thaw o) = Err Unbuilt
-resolve p (command.Recalc o) = Err Unbuilt
-resolve p (command.Forward o is_on) = Err Unbuilt
-resolve p command.Defer = Err Unbuilt
-resolve p command.Resume = Err Unbuilt
+resolve p (command.Freeze o) = with_found (find place.Priced p o) (λ x. Ok (act.Freeze x))
+resolve p (command.Thaw o) = with_found (find place.Priced p o) (λ x. Ok (act.Thaw x))
+resolve p (command.Recalc o) =
+    with_found (find place.Priced p o) (λ x. unless_late (least_source p.state x) (act.Recalc o x))
+resolve p (command.Forward o is_on) = with_found (find place.Priced p o) (λ x. Ok (act.Forward x is_on))
+resolve p command.Defer = Ok act.Defer
+resolve p command.Resume = Ok act.Resume
 resolve p (command.Watch w action) = Err Unbuilt
 resolve p (command.Register w o) = Err Unbuilt
 resolve p (command.Unregister w o) = Err Unbuilt

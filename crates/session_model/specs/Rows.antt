@@ -18,9 +18,8 @@ use Rattle.desk_terms.specs.declared.value.Value.TheVariants.{Money, Curve}
 use Rattle.desk_terms.specs.declared.cause.Cause.TheVariants.{TooLarge}
 use Rattle.desk_terms.specs.Reading.{Outcome, Calc}
 use Rattle.session_commands.specs.declared.command.Command.{Command}
-use Rattle.session_commands.specs.declared.command.Command.TheVariants.{Quote, Sum, Difference, Handle, Stock, Composite, Member, Set, Unset, Link, Unlink, Engine, Today, Fixing, Freeze, Drop, Ask, Df}
-use Rattle.desk_model.specs.Effect as effect
-use Rattle.session_model.specs.Standing.{Standing, start_of}
+use Rattle.session_commands.specs.declared.command.Command.TheVariants.{Quote, Sum, Difference, Handle, Stock, Composite, Member, Set, Unset, Link, Unlink, Engine, Today, Fixing, Freeze, Thaw, Recalc, Forward, Defer, Resume, Drop, Ask, Df, Watch, Register}
+use Rattle.session_model.specs.Standing.{Standing, start_of, start_with}
 use Rattle.session_model.specs.Rounds.{transcript, calls_of}
 
 -- A stock is worth its quote, rounded from units of 10^-9 to units of 10^-6, and a composite the weighted sum of its
@@ -85,7 +84,7 @@ pub record AreRefused : Type 0 where
   pub places : written (Quote 1 (Some (units 1)) ∷ Stock 2 3 ∷ Stock 1 1 ∷ Stock 2 1 ∷ Set 2
       (units 2) ∷ Freeze 2 ∷ Ask 2 ∷ [])
       ≡ codes "refused stock unknown z\nrefused stock taken q\nrefused set kind s\n"
-      ++ codes "refused freeze unbuilt\ns 1.000000 fresh 1\n"
+      ++ codes "s refused unpriced s 0\n"
   pub today : written (Quote 0
       (Some (units 1)) ∷ Ask 0 ∷ Stock 2
       0 ∷ []) ≡ codes "refused quote taken today\nrefused ask kind today\nrefused stock kind today\n"
@@ -94,6 +93,8 @@ pub record AreRefused : Type 0 where
       (pos 1) ∷ []))
       ≡ codes "refused sum taken s\nrefused sum kind s\nrefused sum unknown z\n"
       ++ codes "refused member unknown z\nrefused member kind s\nrefused member kind q\n"
+  pub unbuilt : written (with_stock (units 1) (Watch 2 0 ∷ Register 2 1 ∷ Ask 2 ∷ []))
+      ≡ codes "refused watch unbuilt\nrefused register unbuilt\ns 1.000000 fresh 1\n"
 
 pub record AreUnset : Type 0 where
   pub set : written (Quote 1 None ∷ Stock 2 1 ∷ Ask 2 ∷ Set 1
@@ -147,6 +148,64 @@ pub record AreDropped : Type 0 where
   pub number_anew : computed
       (with_stock (units 1) (Ask 2 ∷ Drop 2 ∷ Stock 2 1 ∷ Ask 2 ∷ [])) ≡ (2, true) ∷ (3, true) ∷ []
 
+-- the stock `s` on the quote `q`, and the composite `k` of it
+abbrev pub with_composite : ℤ → List Command → List Command
+with_composite value commands = with_stock value (Composite 7 ∷ Member 7 2 (pos 1) ∷ commands)
+
+pub record AreFrozen : Type 0 where
+  pub last_value : written
+      (with_stock (units 1) (Ask 2 ∷ Unset 1 ∷ Ask 2 ∷ Freeze 2 ∷ Ask 2 ∷ []))
+      ≡ codes "s 1.000000 fresh 1\ns refused unset q 0\ns 1.000000 frozen 0\n"
+  pub beneath : written
+      (with_composite (units 2) (Ask 2 ∷ Freeze 2 ∷ Set 1 (units 3) ∷ Ask 2 ∷ Ask 7 ∷ Thaw 2 ∷ Ask 7 ∷ []))
+      ≡ codes "s 2.000000 fresh 1\ns 2.000000 frozen 0\nk 2.000000 held 1\nk 3.000000 fresh 2\n"
+  pub flags : written
+      (with_stock (units 1)
+      (Freeze 2 ∷ Ask 2 ∷ Recalc 2 ∷ Ask 2 ∷ Thaw 2 ∷ Thaw 2 ∷ Ask 2 ∷ Forward 2 true ∷ Set 1 (units 2) ∷ Ask 2 ∷ []))
+      ≡ codes "s refused unpriced s 0\ns 1.000000 recalc 1\ns 1.000000 frozen 0\ns 1.000000 fresh 0\n"
+      ++ codes "s 2.000000 fresh 1\n"
+  pub kinds : written
+      (with_stock (units 1)
+      (Freeze 1 ∷ Thaw 3 ∷ Recalc 1 ∷ Recalc 3 ∷ Forward 1 true ∷ Forward 0 false ∷ Defer ∷ Recalc 3 ∷ []))
+      ≡ codes "refused freeze kind q\nrefused thaw unknown z\nrefused recalc kind q\nrefused recalc unknown z\n"
+      ++ codes "refused forward kind q\nrefused forward kind today\nrefused recalc unknown z\n"
+
+pub record AreRecalculated : Type 0 where
+  pub late : written
+      (with_stock (units 1)
+      (Ask 2 ∷ Freeze 2 ∷ Set 1 (units 4) ∷ Recalc 2 ∷ Ask 2 ∷ Defer ∷ Set 1 (units 5) ∷ Recalc 2 ∷ []))
+      ≡ codes "s 1.000000 fresh 1\ns 4.000000 recalc 1\ns 4.000000 frozen 0\nrefused recalc deferred q\n"
+  pub cause : written
+      (with_stock (units 1) (Ask 2 ∷ Unset 1 ∷ Recalc 2 ∷ Ask 2 ∷ Freeze 2 ∷ Ask 2 ∷ []))
+      ≡ codes "s 1.000000 fresh 1\ns refused unset q 0\ns refused unset q 0\ns 1.000000 frozen 0\n"
+  pub own_source : written
+      (with_stock (units 1) (Defer ∷ Recalc 2 ∷ Ask 2 ∷ Recalc 2 ∷ Resume ∷ Ask 2 ∷ []))
+      ≡ codes "s 1.000000 recalc 1\ns 1.000000 late 0\nrefused recalc deferred s\ns 1.000000 fresh 0\n"
+  pub reruns : computed
+      (with_composite (units 1)
+      (Recalc 7 ∷ Recalc 7 ∷ Recalc 2 ∷ Ask 7 ∷ [])) ≡ (2, true) ∷ (3, true) ∷ (3, true) ∷ (2, true) ∷ (3, true) ∷ []
+  pub inputs : written
+      (with_composite (units 1)
+      (Recalc 7 ∷ Recalc 7 ∷ Recalc 2 ∷ Ask 7 ∷ Defer ∷ Set 1 (units 2) ∷ Recalc 7 ∷ Freeze 2 ∷ Recalc 7 ∷ Ask 7
+      ∷ Resume ∷ Ask 7 ∷ []))
+      ≡ codes "k 1.000000 recalc 2\nk 1.000000 recalc 1\ns 1.000000 recalc 1\nk 1.000000 fresh 1\n"
+      ++ codes "refused recalc deferred q\nk 1.000000 recalc 1\nk 1.000000 late 0\nk 1.000000 held 0\n"
+
+pub record AreDeferred : Type 0 where
+  pub late : written
+      (with_stock (units 1)
+      (Stock 6 1 ∷ Ask 2 ∷ Defer ∷ Set 1 (units 2) ∷ Ask 2 ∷ Ask 6 ∷ Resume ∷ Ask 2 ∷ []))
+      ≡ codes "s 1.000000 fresh 1\ns 1.000000 late 0\nt refused unpriced t 0\ns 2.000000 fresh 1\n"
+  pub relinked : written
+      (Quote 4 (Some (units 1)) ∷ Quote 5 (Some (units 5)) ∷ Quote 3 (Some (pos 0)) ∷ Handle 9 false ∷ Link 9 4
+      ∷ Stock 2 9 ∷ Stock 6 4 ∷ Ask 2 ∷ Ask 6 ∷ Defer ∷ Set 4 (units 2) ∷ Set 3 (units 1) ∷ Link 9 5 ∷ Ask 2 ∷ Drop 3
+      ∷ Resume ∷ Ask 2 ∷ Ask 6 ∷ [])
+      ≡ codes "s 1.000000 fresh 1\nt 1.000000 fresh 1\ns 1.000000 late 0\ns 5.000000 fresh 1\nt 2.000000 fresh 1\n"
+  pub frozen_between : written
+      (with_composite (units 1)
+      (Ask 7 ∷ Defer ∷ Set 1 (units 2) ∷ Ask 7 ∷ Freeze 2 ∷ Ask 7 ∷ Resume ∷ Ask 7 ∷ Thaw 2 ∷ Ask 7 ∷ []))
+      ≡ codes "k 1.000000 fresh 2\nk 1.000000 late 0\nk 1.000000 held 0\nk 1.000000 held 0\nk 2.000000 fresh 2\n"
+
 -- a session of the names `today`, `a`, `h`, `s`, `q` and `d`, by the numbers 0 to 5
 abbrev pub some_handles : Standing
 some_handles = start_of (pos 0)
@@ -170,10 +229,6 @@ pub record AreLinked : Type 0 where
       ≡ codes "refused handle taken h\nrefused link kind q\nrefused link kind h\nrefused link kind a\n"
       ++ codes "refused link kind q\nrefused link kind today\nrefused unlink kind q\nrefused link unknown d\n"
 
--- an object made under a name
-abbrev pub also : ℕ → Terms → Standing → Standing
-also name t p = record p { state = effect.made t p.state; of_object = p.of_object ++ name ∷ [] }
-
 abbrev pub deposit : Helper
 deposit = record {
   quote = 1;
@@ -188,24 +243,27 @@ deposit = record {
 -- on it, an index and an engine over the curve, a bond that pays 100 on day 100, a handle of curves, and a curve implied
 -- by what it stands for.
 abbrev pub some_market : Standing
-some_market =
-    also 7 (terms.Implied 6 (pos 10))
-    (also 6 (terms.Handle handle.TheVariants.Curve None)
-    (also 5 (terms.Flows (record { flows = Known (pos 100) (pos 100_000_000) ∷ []; index = None }) (Some 4))
-    (also 4 (terms.Engine 2)
-    (also 3 (terms.Index (record {
-      cal = One Null;
-      fixing_days = 0;
-      tenor = record { count = pos 50; unit = Days };
-      conv = Following;
-      eom = false;
-      counter = Act360;
-      curve = 2;
-    }) [])
-    (also 2 (terms.Curve (record { cal = One Null; settlement = 0; helpers = deposit ∷ [] }))
-    (also 1 (terms.Quote (Some (pos 36_000_000)))
-    (start_of (pos 0)
-    (codes "today" ∷ codes "q" ∷ codes "c" ∷ codes "x" ∷ codes "e" ∷ codes "b" ∷ codes "h" ∷ codes "i" ∷ []) [])))))))
+some_market = start_with (pos 0)
+    (codes "today" ∷ codes "q" ∷ codes "c" ∷ codes "x" ∷ codes "e" ∷ codes "b" ∷ codes "h" ∷ codes "i" ∷ [])
+    ((1, terms.Quote (Some (pos 36_000_000)))
+    ∷ (2, terms.Curve (record { cal = One Null; settlement = 0; helpers = deposit ∷ [] }))
+    ∷ (
+      3,
+      terms.Index (record {
+        cal = One Null;
+        fixing_days = 0;
+        tenor = record { count = pos 50; unit = Days };
+        conv = Following;
+        eom = false;
+        counter = Act360;
+        curve = 2;
+      }) [],
+    )
+    ∷ (4, terms.Engine 2)
+    ∷ (5, terms.Flows (record { flows = Known (pos 100) (pos 100_000_000) ∷ []; index = None }) (Some 4))
+    ∷ (6, terms.Handle handle.TheVariants.Curve None)
+    ∷ (7, terms.Implied 6 (pos 10))
+    ∷ []) []
 
 abbrev pub priced : List Command → List ℕ
 priced commands = transcript by_hand some_market commands

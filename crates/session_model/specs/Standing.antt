@@ -1,6 +1,7 @@
 -- A session with its names.
-use Rattle.std.specs.Prelude.{ℕ, ◌+◌, Bool, false, ◌&&◌, ◌||◌, ◌==◌, nat_le, if◌then◌else◌, ℤ, List, [], ◌∷◌, codes, length, Option, Some, None}
+use Rattle.std.specs.Prelude.{ℕ, ◌+◌, Bool, false, ◌&&◌, ◌||◌, ◌==◌, nat_le, if◌then◌else◌, ℤ, List, [], ◌∷◌, ◌++◌, codes, length, Option, Some, None}
 use Rattle.desk_names.specs.Names.{place_of}
+use Rattle.desk_terms.specs.declared.terms.Terms.{Terms}
 use Rattle.session_commands.specs.declared.command.Command.{Command}
 use Rattle.session_commands.specs.Whole.{IsCommand}
 use Rattle.desk_model.specs.Market.{Market, slot_at, is_given, live_count}
@@ -28,6 +29,17 @@ start_of today names actions =
           actions;
       stopped = false;
     }
+
+-- the session with these objects made, in order: each has its name's number and its terms
+unfoldable pub with_objects : List (ℕ × Terms) → Standing → Standing
+with_objects [] p = p
+with_objects (entry ∷ made) p =
+    with_objects made
+    (record p { state = effect.made entry.1 p.state; of_object = p.of_object ++ entry.0 ∷ [] })
+
+-- a new session over a market: this day, these names and actions, and the market's objects; no value is current
+abbrev pub start_with : ℤ → List (List ℕ) → List (ℕ × Terms) → List (List Command) → Standing
+start_with today names made actions = with_objects made (start_of today names actions)
 
 -- the first live object with a name, where the objects from number o on have these names
 unfoldable pub named_from : Market → ℕ → ℕ → List ℕ → Option ℕ

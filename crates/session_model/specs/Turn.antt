@@ -2,12 +2,14 @@
 use Rattle.std.specs.Prelude.{ℕ, ℤ, Bool, List, [], ◌∷◌, ◌++◌, length, Result, Ok, Err}
 use Rattle.curve_points.specs.Point.{discount_at}
 use Rattle.desk_terms.specs.declared.value.Value.TheVariants.{Money, Curve}
+use Rattle.desk_terms.specs.declared.asked.Mark as mark
 use Rattle.desk_terms.specs.declared.cause.Cause.{Cause}
 use Rattle.desk_terms.specs.declared.cause.Cause.TheVariants.{Unpriced}
 use Rattle.desk_terms.specs.Point.{found_at}
 use Rattle.desk_terms.specs.Reading.{Outcome, Calc}
-use Rattle.desk_model.specs.State.{State, mark_of, shows}
+use Rattle.desk_model.specs.State.{State, now, mark_of, shows}
 use Rattle.desk_model.specs.Visit.{runs, log_of, asked}
+use Rattle.desk_model.specs.Recalc.{reruns, recalced}
 use Rattle.desk_model.specs.Effect as effect
 use Rattle.session_commands.specs.declared.command.Command.{Command}
 use Rattle.session_commands.specs.declared.refusal.Refusal.{Refusal}
@@ -33,6 +35,12 @@ step calc s (act.Link handle target) = effect.relinked handle target s
 step calc s (act.Engine instrument engine) = effect.engine_set instrument engine s
 step calc s (act.Today day) = effect.today_set day s
 step calc s (act.Fixing index day rate) = effect.fixing_added index day rate s
+step calc s (act.Freeze object) = effect.frozen_set object s
+step calc s (act.Thaw object) = effect.thawed object s
+step calc s (act.Recalc name object) = recalced calc object s
+step calc s (act.Forward object is_on) = effect.forward_set object is_on s
+step calc s act.Defer = effect.deferred s
+step calc s act.Resume = effect.resumed s
 step calc s (act.Drop object) = effect.dropped object s
 step calc s (act.Ask name object) = asked calc object s
 step calc s (act.Df name object day) = asked calc object s
@@ -46,6 +54,12 @@ enrolled (act.Link handle target) of_object = of_object
 enrolled (act.Engine instrument engine) of_object = of_object
 enrolled (act.Today day) of_object = of_object
 enrolled (act.Fixing index day rate) of_object = of_object
+enrolled (act.Freeze object) of_object = of_object
+enrolled (act.Thaw object) of_object = of_object
+enrolled (act.Recalc name object) of_object = of_object
+enrolled (act.Forward object is_on) of_object = of_object
+enrolled act.Defer of_object = of_object
+enrolled act.Resume of_object = of_object
 enrolled (act.Drop object) of_object = of_object
 enrolled (act.Ask name object) of_object = of_object
 enrolled (act.Df name object day) of_object = of_object
@@ -59,7 +73,8 @@ discount_in o day (Ok (Money amount)) = Err (Unpriced o)
 discount_in o day (Err cause) = Err cause
 
 -- The lines that an act writes. An ask shows the price afresh from the market of that moment where nothing beneath the
--- object is held back; a discount factor is that of the curve which an ask shows.
+-- object is held back; a discount factor is that of the curve which an ask shows; a recalculation shows the price over
+-- what is seen of its inputs.
 abbrev pub own_lines : Calc → Standing → Act → List ℕ
 own_lines calc p (act.Make name terms) = []
 own_lines calc p (act.Set quote value) = []
@@ -68,6 +83,14 @@ own_lines calc p (act.Link handle target) = []
 own_lines calc p (act.Engine instrument engine) = []
 own_lines calc p (act.Today day) = []
 own_lines calc p (act.Fixing index day rate) = []
+own_lines calc p (act.Freeze object) = []
+own_lines calc p (act.Thaw object) = []
+own_lines calc p (act.Recalc name object) =
+    asked_line p.names p.of_object name (now calc p.state object) mark.TheVariants.Recalc
+    (length (reruns calc p.state object))
+own_lines calc p (act.Forward object is_on) = []
+own_lines calc p act.Defer = []
+own_lines calc p act.Resume = []
 own_lines calc p (act.Drop object) = []
 own_lines calc p (act.Ask name object) =
     asked_line p.names p.of_object name (shows calc p.state object) (mark_of p.state object)
@@ -85,6 +108,12 @@ own_calls calc s (act.Link handle target) = []
 own_calls calc s (act.Engine instrument engine) = []
 own_calls calc s (act.Today day) = []
 own_calls calc s (act.Fixing index day rate) = []
+own_calls calc s (act.Freeze object) = []
+own_calls calc s (act.Thaw object) = []
+own_calls calc s (act.Recalc name object) = log_of (reruns calc s object)
+own_calls calc s (act.Forward object is_on) = []
+own_calls calc s act.Defer = []
+own_calls calc s act.Resume = []
 own_calls calc s (act.Drop object) = []
 own_calls calc s (act.Ask name object) = log_of (runs calc s object)
 own_calls calc s (act.Df name object day) = log_of (runs calc s object)

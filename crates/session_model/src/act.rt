@@ -22,6 +22,18 @@ pub enum Act {
     Today(Day),
     /// Stores a rate of an index, in units of 10^-9, for a day that has none.
     Fixing(ObjId, Day, Rate),
+    /// Freezes a lazy object: from then on it answers its last value.
+    Freeze(ObjId),
+    /// Ends that, and tells.
+    Thaw(ObjId),
+    /// Prices a lazy object by its name, whatever its flags say.
+    Recalc(NameId, ObjId),
+    /// Lets a lazy object pass each notice on, or only those that reach it while its value is current.
+    Forward(ObjId, bool),
+    /// Holds notices back from then on.
+    Defer,
+    /// Gives all notices that are held back, and holds none back from then on.
+    Resume,
     /// Takes an object out.
     Drop(ObjId),
     /// Asks a lazy object by its name.

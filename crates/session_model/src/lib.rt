@@ -15,7 +15,8 @@ pub use act::Act;
 pub use limits::{MOST_LIVE, MOST_NUMBERS};
 pub use place::Place;
 pub use rows::{
-    drops_and_cycles_are_worked_through, handles_are_worked_through, members_are_worked_through,
-    objects_of_a_market_are_worked_through, refusals_are_worked_through,
-    unset_quotes_are_worked_through,
+    deferral_is_worked_through, drops_and_cycles_are_worked_through,
+    frozen_objects_are_worked_through, handles_are_worked_through, members_are_worked_through,
+    objects_of_a_market_are_worked_through, recalculation_is_worked_through,
+    refusals_are_worked_through, unset_quotes_are_worked_through,
 };

@@ -1,5 +1,5 @@
 // The definitions checked against sessions that were worked through by hand.
-ghost use Rattle.session_model.specs.Rows.{AreRefused, AreUnset, AreMembers, AreDropped, AreLinked, AreOfAMarket};
+ghost use Rattle.session_model.specs.Rows.{AreRefused, AreUnset, AreMembers, AreDropped, AreFrozen, AreRecalculated, AreDeferred, AreLinked, AreOfAMarket};
 
 /// Each refusal comes in its order.
 pub fn refusals_are_worked_through()
@@ -19,6 +19,21 @@ pub fn members_are_worked_through()
 /// A composite reaches itself by no path, and an object that is used is not dropped.
 pub fn drops_and_cycles_are_worked_through()
     ensures { AreDropped }
+{}
+
+/// A frozen object answers its last value, and none is told of it.
+pub fn frozen_objects_are_worked_through()
+    ensures { AreFrozen }
+{}
+
+/// A recalculation is refused where the object is late, else it prices the object over what is seen of its inputs.
+pub fn recalculation_is_worked_through()
+    ensures { AreRecalculated }
+{}
+
+/// Under deferral a late object answers its last value, until the notices that are held back are given.
+pub fn deferral_is_worked_through()
+    ensures { AreDeferred }
 {}
 
 /// A handle stands for nothing, then for a target of its kind that does not reach it.

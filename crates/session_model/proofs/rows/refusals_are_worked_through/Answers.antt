@@ -9,7 +9,7 @@ use Rattle.desk_model.specs.State.{is_frozen, is_source, is_late, is_clear, held
 use Rattle.desk_model.specs.Visit.{visit_by, runs, stored, asked}
 use Rattle.desk_model.specs.Told.{told, tell, forwards}
 use Rattle.desk_model.specs.Links.{reaches}
-use Rattle.desk_model.specs.Effect.{made, notified, revised, quote_set, member_set, dropped}
+use Rattle.desk_model.specs.Effect.{made, notified, revised, quote_set, member_set, dropped, frozen_set}
 use Rattle.session_commands.specs.Parts.{parts_of}
 use Rattle.session_commands.specs.Table.{row_of}
 use Rattle.price_report.specs.Line.{asked_line, refusal_line}
@@ -20,11 +20,12 @@ use Rattle.session_model.specs.Rounds.{rounds, lines_of, calls_in}
 use Rattle.session_model.proofs.rows.refusals_are_worked_through.Goals as goal
 
 pub returns : goal.returns
-unfolding digits below_by decimal_text place_of input_by input_at answer_by fresh is_frozen is_source is_late is_clear held seen now mark_of shows visit_by runs stored asked told tell forwards reaches made notified revised quote_set member_set dropped parts_of row_of asked_line refusal_line named_from is_full find with_found unless unless_used unless_taken resolve step effect_of turn rounds lines_of calls_in
+unfolding digits below_by decimal_text place_of input_by input_at answer_by fresh is_frozen is_source is_late is_clear held seen now mark_of shows visit_by runs stored asked told tell forwards reaches made notified revised quote_set member_set dropped frozen_set parts_of row_of asked_line refusal_line named_from is_full find with_found unless unless_used unless_taken resolve step effect_of turn rounds lines_of calls_in
 returns c = record {
   nothing = refl;
   names = refl;
   places = refl;
   today = refl;
   order = refl;
+  unbuilt = refl;
 }

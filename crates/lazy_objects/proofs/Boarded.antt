@@ -139,18 +139,6 @@ boarded_added board new slots put slot is quote plain before = record { quotes =
       | inr other ↦ subst (λ (s : Slot). valued None s ≡ s) (sym (before_end slots slot y other)) (before.bare y)
     ]
 
-same_from : (board new : Board) (at : ℕ) (slots : List Slot) → IsSame board new → joined_from new at slots ≡ joined_from board at slots
-same_from board new at [] same = refl
-same_from board new at (slot ∷ slots) same = ap (λ (e : Option (Option ℤ)). joined e slot ∷ joined_from new (at + 1) slots) (same at)
-    ∙ ap (λ (l : List Slot). joined (entry board at) slot ∷ l) (same_from board new (at + 1) slots same)
-
--- a board with more room
-pub objects_same : (board new : Board) (slots : List Slot) → IsSame board new → objects_of new slots ≡ objects_of board slots
-objects_same board new slots same = same_from board new 0 slots same
-
-pub boarded_same : (board new : Board) (slots : List Slot) → IsSame board new → IsBoarded board slots → IsBoarded new slots
-boarded_same board new slots same before = record { quotes = λ x. ap is_some (same x) ∙ before.quotes x; bare = before.bare }
-
 -- a quote's slot, with a value
 pub quote_valued : (value : Option ℤ) (slot : Slot) → has_quote slot ≡ true → valued value slot ≡ Live (Quote value)
 quote_valued value Free is = absurd (false≢true is)
@@ -357,33 +345,6 @@ module _ (board room new : Board) (slots : List Slot) (terms : Terms) (boarded :
 
   pub made_boarded : IsBoarded new (slots ++ Live (with_quote None terms) ∷ [])
   made_boarded = boarded_added board new slots (quoted terms) (Live (with_quote None terms)) over_board (bare_quote terms) (ap Live (twice None None terms)) boarded
-
--- terms without a value that are no quote's are the object's own
-pub bare_is : (t : Option Terms) (terms : Terms) → bare t ≡ Some terms → quoted terms ≡ None → t ≡ Some terms
-bare_is None terms is none = absurd (none_some terms is)
-  where
-    none_some : (t : Terms) → bare None ≡ Some t → ⊥
-    none_some t e = absurd (cc)
-bare_is (Some t) terms is none = by_kind t terms (some_inj is) none
-  where
-    some_inj : {a b : Terms} → Some a ≡ Some b → a ≡ b
-    some_inj e = cc
-
-    by_kind : (t terms : Terms) → with_quote None t ≡ terms → quoted terms ≡ None → Some t ≡ Some terms
-    by_kind (Quote held) terms e none = absurd (cc)
-    by_kind (Derived minus first second) terms e none = ap Some e
-    by_kind (Handle kind target) terms e none = ap Some e
-    by_kind (Curve curve) terms e none = ap Some e
-    by_kind (Implied curve reference) terms e none = ap Some e
-    by_kind (Index index fixings) terms e none = ap Some e
-    by_kind (Engine curve) terms e none = ap Some e
-    by_kind (Stock quote) terms e none = ap Some e
-    by_kind (Composite parts) terms e none = ap Some e
-    by_kind (Flows flows engine) terms e none = ap Some e
-
-pub bare_none : (t : Option Terms) → bare t ≡ None → t ≡ None
-bare_none None is = refl
-bare_none (Some t) is = absurd (cc)
 
 -- whether the board has this value is whether the quote has it
 pub value_is : (board : Board) (slots : List Slot) (x : ℕ) (value : Option ℤ) → IsBoarded board slots → has_quote (slice_index_or (objects_of board slots) x Free) ≡ true

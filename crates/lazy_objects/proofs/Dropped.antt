@@ -1,5 +1,5 @@
 -- What stands after an object that none observes is taken out.
-use Rattle.std.proofs.Common.{◌≡◌, ◌≢◌, inl, inr, ◌<◌, ℕ, true, false, List, length, None, refl, sym, ◌∙◌, ap, subst, arith}
+use Rattle.std.proofs.Common.{◌≡◌, ◌≢◌, inl, inr, ◌<◌, ℕ, Bool, true, false, List, length, None, refl, sym, ◌∙◌, ap, subst, arith}
 use Rattle.std.specs.Prelude.{ℤ, slice_index_or, slice_set}
 use Rattle.std.proofs.lemmas.List.{length-set, get_or-set_same, get_or-set_other, get_or_past}
 use Rattle.std.proofs.lemmas.Bool.{cases_eq, cases_lt, false≢true}
@@ -8,7 +8,7 @@ use Rattle.desk_model.specs.declared.kept.Kept.{Kept}
 use Rattle.desk_model.specs.declared.slot.Slot.{Slot}
 use Rattle.desk_model.specs.declared.slot.Slot.TheVariants.{Free}
 use Rattle.desk_model.specs.Market.{terms_in, is_given, is_watcher, least_user}
-use Rattle.desk_model.specs.State.{State, unpriced, is_frozen, is_source}
+use Rattle.desk_model.specs.State.{State, unpriced}
 use Rattle.desk_model.specs.Sound.{IsSound, KeepsCurrent}
 use Rattle.desk_model.specs.Laws.{Keeps}
 use Rattle.desk_model.specs.Links.{IsRanged}
@@ -19,6 +19,7 @@ use Rattle.desk_model.proofs.Carried.{sound_kept}
 use Rattle.desk_model.proofs.Users.{none_uses}
 use Rattle.lazy_objects.specs.Slots.{market_of, state_of}
 use Rattle.lazy_objects.specs.Scratch.{ScratchView, IsEmpty}
+use Rattle.lazy_objects.specs.Store.{StoreView, TakesObject}
 use Rattle.lazy_objects.specs.Stands.{Stands}
 
 -- an object is there
@@ -56,13 +57,10 @@ module _ (s : State) (scratch : ScratchView) (stands : Stands s scratch) (x : �
   drop_keeps = dropped_keeps s x stands.whole apart (none_uses s.market x unused)
 
   drop_stands : Stands (dropped x s) scratch
-  unfolding dropped is_frozen is_source
+  unfolding dropped
   drop_stands = record {
     whole = drop_keeps.whole;
-    unheld = record {
-      frozen = set_as (λ (k : Kept). k.frozen) false s.kept x unpriced unpriced refl refl stands.unheld.frozen;
-      sources = set_as (λ (k : Kept). k.source) false s.kept x unpriced unpriced refl refl stands.unheld.sources;
-    };
+    sources = drop_keeps.current.sources stands.sources;
     kinds = dropped_kinded s x stands.whole apart (none_uses s.market x unused) stands.kinds;
     ranged = set_in s.market.objects x stands.ranged;
     unwatched = set_as is_watcher false s.market.objects x Free Free refl refl stands.unwatched;
@@ -77,16 +75,16 @@ pub record Drops (s new : State) (x : ℕ) (scratch : ScratchView) : Type 0 wher
   pub keeps : KeepsCurrent s new
   pub sound : (calc : Calc) → IsSound calc s → IsSound calc new
 
-dropped_state : (today : ℤ) (slots slots2 : List Slot) (kept kept2 : List Kept) (x : ℕ) → slots2 ≡ slice_set slots x Free → kept2 ≡ slice_set kept x unpriced
-    → state_of today slots2 kept2 ≡ dropped x (state_of today slots kept)
+dropped_state : (today : ℤ) (slots slots2 : List Slot) (kept kept2 : List Kept) (on on2 : Bool) (x : ℕ) → on2 ≡ on → slots2 ≡ slice_set slots x Free → kept2 ≡ slice_set kept x unpriced
+    → state_of today slots2 kept2 on2 ≡ dropped x (state_of today slots kept on)
 unfolding dropped
-dropped_state today slots slots2 kept kept2 x is are = ap (λ (l : List Slot). state_of today l kept2) is ∙ ap (state_of today (slice_set slots x Free)) are
+dropped_state today slots slots2 kept kept2 on on2 x switch is are = ap (state_of today slots2 kept2) switch ∙ ap (λ (l : List Slot). state_of today l kept2 on) is ∙ ap (λ (k : List Kept). state_of today (slice_set slots x Free) k on) are
 
-pub drops : (today : ℤ) (slots slots2 : List Slot) (kept kept2 : List Kept) (scratch : ScratchView) (x : ℕ) → Stands (state_of today slots kept) scratch → x ≢ 0 → least_user (market_of today slots) x ≡ None
-    → slots2 ≡ slice_set slots x Free → kept2 ≡ slice_set kept x unpriced → Drops (state_of today slots kept) (state_of today slots2 kept2) x scratch
-drops today slots slots2 kept kept2 scratch x stands apart unused is are =
-    let s = state_of today slots kept in
-    let e = dropped_state today slots slots2 kept kept2 x is are in
+pub drops : (today : ℤ) (slots slots2 : List Slot) (old new : StoreView) (scratch : ScratchView) (x : ℕ) → Stands (state_of today slots old.kept old.deferring) scratch → x ≢ 0 → least_user (market_of today slots) x ≡ None
+    → slots2 ≡ slice_set slots x Free → TakesObject x old new → Drops (state_of today slots old.kept old.deferring) (state_of today slots2 new.kept new.deferring) x scratch
+drops today slots slots2 old new scratch x stands apart unused is takes =
+    let s = state_of today slots old.kept old.deferring in
+    let e = dropped_state today slots slots2 old.kept new.kept old.deferring new.deferring x takes.switch is takes.kept in
     let current = (drop_keeps s scratch stands x apart unused).current in
     record {
       stands = subst (λ (t : State). Stands t scratch) (sym e) (drop_stands s scratch stands x apart unused);

@@ -1,5 +1,5 @@
 -- What stands after each call of a desk.
-use Rattle.std.proofs.Common.{◌≡◌, inl, inr, ◌<◌, ◌^◌, ◌+◌, ℕ, zero, suc, true, false, List, [], ◌∷◌, ◌++◌, length, Some, None, refl, sym, ◌∙◌, ap, subst, arith}
+use Rattle.std.proofs.Common.{◌≡◌, inl, inr, ◌<◌, ◌^◌, ◌+◌, ℕ, zero, suc, Bool, true, false, List, [], ◌∷◌, ◌++◌, length, Some, None, refl, sym, ◌∙◌, ap, subst, arith}
 use Rattle.std.specs.Prelude.{ℤ, slice_index_or}
 use Rattle.std.proofs.lemmas.List.{length-append}
 use Rattle.std.proofs.lemmas.Bool.{cases_eq}
@@ -9,7 +9,7 @@ use Rattle.desk_model.specs.declared.kept.Kept.{Kept}
 use Rattle.desk_model.specs.declared.slot.Slot.{Slot}
 use Rattle.desk_model.specs.declared.slot.Slot.TheVariants.{Live, Today}
 use Rattle.desk_model.specs.Market.{terms_in, terms_at, slot_at, is_watcher}
-use Rattle.desk_model.specs.State.{State, kept_at, unpriced, is_frozen, is_source}
+use Rattle.desk_model.specs.State.{State, kept_at, unpriced, is_source}
 use Rattle.desk_model.specs.Links.{AreOfKind, IsRanged, is_lazy_at}
 use Rattle.desk_model.specs.Sound.{IsSound, KeepsCurrent}
 use Rattle.desk_model.specs.Laws.{Keeps}
@@ -20,6 +20,8 @@ use Rattle.desk_model.proofs.Starts.{whole_start, kinded_start}
 use Rattle.desk_model.proofs.Carried.{keeps_itself, sound_kept}
 use Rattle.lazy_objects.specs.Slots.{state_of}
 use Rattle.lazy_objects.specs.Scratch.{ScratchView, IsEmpty}
+use Rattle.observer_graph.specs.declared.node.Role.{Role}
+use Rattle.lazy_objects.specs.Store.{StoreView, AddsObject}
 use Rattle.lazy_objects.specs.Asks.{MayAsk, Stays}
 use Rattle.lazy_objects.specs.Stands.{Stands}
 use Rattle.lazy_objects.proofs.Touched.{pushed_default}
@@ -36,10 +38,10 @@ empty_grown n old new empty entries positions = record {
 }
 
 pub started : (today : ℤ) (scratch : ScratchView) → IsEmpty 1 scratch → Stands (start today) scratch
-unfolding is_frozen is_source
+unfolding is_source
 started today scratch empty = record {
   whole = whole_start today;
-  unheld = record { frozen = λ x. flag_none x; sources = λ x. source_none x };
+  sources = λ off x. source_none x;
   kinds = kinded_start today;
   ranged = λ x. ranged_none x;
   unwatched = λ x. unwatched_none x;
@@ -47,10 +49,6 @@ started today scratch empty = record {
   empty = empty;
 }
   where
-    flag_none : (x : ℕ) → (kept_at (start today) x).frozen ≡ false
-    flag_none zero = refl
-    flag_none (suc x) = refl
-
     source_none : (x : ℕ) → (kept_at (start today) x).source ≡ false
     source_none zero = refl
     source_none (suc x) = refl
@@ -69,13 +67,10 @@ module _ (s : State) (scratch new : ScratchView) (terms : Terms) (stands : Stand
   add_keeps = added_keeps s (Live terms) stands.whole (may_be_made s stands.whole terms kinds)
 
   pub add_stands : length s.market.objects < 2 ^ 16 → IsEmpty (length s.market.objects + 1) new → Stands (made terms s) new
-  unfolding made is_frozen is_source
+  unfolding made
   add_stands room empty = record {
     whole = add_keeps.whole;
-    unheld = record {
-      frozen = λ x. ap (λ (k : Kept). k.frozen) (pushed_default s.kept unpriced x) ∙ stands.unheld.frozen x;
-      sources = λ x. ap (λ (k : Kept). k.source) (pushed_default s.kept unpriced x) ∙ stands.unheld.sources x;
-    };
+    sources = add_keeps.current.sources stands.sources;
     kinds = added_kinded s (Live terms) kinds stands.kinds;
     ranged = λ x. elim (cases_eq x (length s.market.objects)) [
       | inl same ↦ subst (λ (t : Slot). IsRanged (terms_in t)) (sym (ap (λ (n : ℕ). slot_at (added (Live terms) s).market n) same ∙ new_slot s (Live terms))) own
@@ -96,15 +91,17 @@ pub keeps_same : (s : State) (scratch : ScratchView) → Stands s scratch → Ke
 keeps_same s scratch stands = (keeps_itself s stands.whole).current
 
 pub may_ask : (calc : Calc) (s : State) (o : ℕ) (scratch : ScratchView) → Stands s scratch → IsSound calc s → is_lazy_at s.market o ≡ true → IsFitting calc → MayAsk calc s o
-may_ask calc s o scratch stands sound lazy fits = record { fits = fits; whole = stands.whole; unheld = stands.unheld; sound = sound; kinds = stands.kinds; ranged = stands.ranged; lazy = lazy; limit = stands.limit }
+may_ask calc s o scratch stands sound lazy fits = record { fits = fits; whole = stands.whole; sound = sound; kinds = stands.kinds; ranged = stands.ranged; lazy = lazy; limit = stands.limit }
 
 -- an ask changes nothing of the market
 pub stands_then : (calc : Calc) (s : State) (kept : List Kept) (scratch new : ScratchView) → Stands s scratch → Stays calc (record s { kept = kept }) → IsEmpty (length s.market.objects) new → Stands (record s { kept = kept }) new
-stands_then calc s kept scratch new stands stays empty = record { whole = stays.whole; unheld = stays.unheld; kinds = stands.kinds; ranged = stands.ranged; unwatched = stands.unwatched; limit = stands.limit; empty = empty }
+stands_then calc s kept scratch new stands stays empty = record { whole = stays.whole; sources = stays.sound.sources; kinds = stands.kinds; ranged = stands.ranged; unwatched = stands.unwatched; limit = stands.limit; empty = empty }
 
-pub added_state : (today : ℤ) (slots slots2 : List Slot) (kept kept2 : List Kept) (terms : Terms) → slots2 ≡ slots ++ Live terms ∷ [] → kept2 ≡ kept ++ unpriced ∷ [] → state_of today slots2 kept2 ≡ made terms (state_of today slots kept)
+pub added_state : {named : List ℕ} {role : Role} (today : ℤ) (slots slots2 : List Slot) (old new : StoreView) (terms : Terms) → slots2 ≡ slots ++ Live terms ∷ [] → AddsObject role named old new
+    → state_of today slots2 new.kept new.deferring ≡ made terms (state_of today slots old.kept old.deferring)
 unfolding made
-added_state today slots slots2 kept kept2 terms is are = ap (λ (l : List Slot). state_of today l kept2) is ∙ ap (state_of today (slots ++ Live terms ∷ [])) are
+added_state today slots slots2 old new terms is adds = ap (state_of today slots2 new.kept) adds.switch ∙ ap (λ (l : List Slot). state_of today l new.kept old.deferring) is
+    ∙ ap (λ (k : List Kept). state_of today (slots ++ Live terms ∷ []) k old.deferring) adds.kept
 
-pub start_state : (today : ℤ) (slots : List Slot) (kept : List Kept) → slots ≡ Today ∷ [] → kept ≡ unpriced ∷ [] → state_of today slots kept ≡ start today
-start_state today slots kept is are = ap (λ (l : List Slot). state_of today l kept) is ∙ ap (state_of today (Today ∷ [])) are
+pub start_state : (today : ℤ) (slots : List Slot) (kept : List Kept) (on : Bool) → slots ≡ Today ∷ [] → kept ≡ unpriced ∷ [] → on ≡ false → state_of today slots kept on ≡ start today
+start_state today slots kept on is are off = ap (state_of today slots kept) off ∙ ap (λ (l : List Slot). state_of today l kept false) is ∙ ap (λ (k : List Kept). state_of today (Today ∷ []) k false) are

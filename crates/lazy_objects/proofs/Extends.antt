@@ -18,10 +18,10 @@ Extends calls later = (more : List (ℕ × Outcome)) × (later ≡ calls ++ more
 itself : (calls : List (ℕ × Outcome)) → Extends calls calls
 itself calls = ([], sym (append-nil calls))
 
-further : (a b c : List (ℕ × Outcome)) → Extends a b → Extends b c → Extends a c
+pub further : (a b c : List (ℕ × Outcome)) → Extends a b → Extends b c → Extends a c
 further a b c p q = (p.0 ++ q.0, q.1 ∙ ap (λ (l : List (ℕ × Outcome)). l ++ q.0) p.1 ∙ append_assoc a p.0 q.0)
 
-settle_extends : (visit : List (ℕ × Outcome) → ℕ → Visit) → ((calls : List (ℕ × Outcome)) (x : ℕ) → Extends calls (visit calls x).calls) → (calls : List (ℕ × Outcome)) (entries : List Entry) → Extends calls (settle_all visit calls entries).calls
+pub settle_extends : (visit : List (ℕ × Outcome) → ℕ → Visit) → ((calls : List (ℕ × Outcome)) (x : ℕ) → Extends calls (visit calls x).calls) → (calls : List (ℕ × Outcome)) (entries : List Entry) → Extends calls (settle_all visit calls entries).calls
 settle_extends visit each calls [] = itself calls
 settle_extends visit each calls (Gives i ∷ entries) = settle_extends visit each calls entries
 settle_extends visit each calls (Refuses cause ∷ entries) = itself calls
@@ -31,14 +31,14 @@ settle_extends visit each calls (Needs x ∷ entries) = by_outcome (visit calls 
     by_outcome (Ok value) rest = further calls (visit calls x).calls _ (each calls x) rest
     by_outcome (Err cause) rest = each calls x
 
-walk_extends : (price : Outcome) (o : ℕ) (calls : List (ℕ × Outcome)) (walk : Walk) → Extends calls walk.calls → Extends calls (settle_walk price o walk).calls
+pub walk_extends : (price : Outcome) (o : ℕ) (calls : List (ℕ × Outcome)) (walk : Walk) → Extends calls walk.calls → Extends calls (settle_walk price o walk).calls
 walk_extends price o calls walk on = by_refusal walk.refusal
   where
     by_refusal : (refusal : Option Cause) → Extends calls (settle_walk price o (record { calls = walk.calls; refusal = refusal })).calls
     by_refusal (Some cause) = on
     by_refusal None = further calls walk.calls (walk.calls ++ (o, price) ∷ []) on ((o, price) ∷ [], refl)
 
-visit_extends : (calc : Calc) (s : State) (n : ℕ) (calls : List (ℕ × Outcome)) (o : ℕ) → Extends calls (visit_by calc s n calls o).calls
+pub visit_extends : (calc : Calc) (s : State) (n : ℕ) (calls : List (ℕ × Outcome)) (o : ℕ) → Extends calls (visit_by calc s n calls o).calls
 unfolding visit_by
 visit_extends calc s zero calls o = itself calls
 visit_extends calc s (suc n) calls o = by_idle (is_idle s calls o) (visit_extends calc s n)

@@ -15,7 +15,8 @@ use Rattle.desk_terms.specs.declared.value.Input as input
 use Rattle.desk_model.specs.declared.entry.Next.TheVariants.{Ready}
 use Rattle.desk_model.specs.Market.{terms_at}
 use Rattle.desk_model.specs.Next.{next_of}
-use Rattle.lazy_objects.specs.Slots.{is_now, answer_of}
+use Rattle.lazy_objects.specs.Begun.{is_at_hand}
+use Rattle.lazy_objects.specs.Slots.{answer_of}
 
 -- what holds on every exit holds where memory ran out
 pub on_err : {A E X : Type 0} (r : Result A E) → X → OnErr r X
@@ -39,7 +40,7 @@ not_none call more e = absurd (cc)
 
 module _ (calc : Calc) (s : State) (o count0 : ℕ) (log0 : Option (List (ℕ × Bool))) (stack : List ℕ) (top : ℕ) (kept : List Kept) (number count : ℕ) (log : Option (List (ℕ × Bool))) (a : Asking calc s o count0 log0 (stack ++ top ∷ []) kept number count log) where
   -- the bench ran out of memory in one call more
-  pub stopped_in_bench : (inputs : List input.Input) (terms : Terms) (after : List Kept) (count2 : ℕ) (log2 : Option (List (ℕ × Bool))) → next_of (is_now kept) (answer_of kept) (uses s.market top) ≡ Ready inputs → terms_at s.market top ≡ Some terms
+  pub stopped_in_bench : (inputs : List input.Input) (terms : Terms) (after : List Kept) (count2 : ℕ) (log2 : Option (List (ℕ × Bool))) → next_of (is_at_hand kept) (answer_of kept) (uses s.market top) ≡ Ready inputs → terms_at s.market top ≡ Some terms
       → after ≡ kept → count2 ≡ counted count 1 → log2 ≡ log → Stops calc o s (record s { kept = after }) count0 count2 log0 log2
   unfolding stored
   stopped_in_bench inputs terms after count2 log2 ready there same once logs =

@@ -1,6 +1,6 @@
 -- Members that were read stay read.
 use Rattle.std.proofs.Common.{◌≡◌, inl, inr, ℕ, zero, suc, ◌+◌, ◌<◌, ◌≤◌, Bool, true, false, List, [], ◌∷◌, ◌++◌, length, take, drop, replicate, Option, Some, None, Ok, refl, sym, ◌∙◌, ap, subst, arith}
-use Rattle.std.specs.Prelude.{slice_index_or, slice_set, is_some, if◌then◌else◌}
+use Rattle.std.specs.Prelude.{slice_index_or, slice_set, is_some, if◌then◌else◌, ◌||◌}
 use Rattle.std.proofs.lemmas.List.{get_or-set_same, get_or-set_other, length-set, length-replicate, take_more}
 use Rattle.std.proofs.Math.ListN.{get_or}
 use Rattle.std.proofs.lemmas.Bool.{cases_eq, false≢true}
@@ -18,27 +18,27 @@ use Rattle.desk_model.specs.State.{unpriced, last_of}
 use Rattle.desk_model.specs.Visit.{with_value}
 use Rattle.desk_model.specs.Fresh.{input_of}
 use Rattle.desk_model.specs.Next.{and_next, and_answer, next_of}
-use Rattle.lazy_objects.specs.Slots.{market_of, is_now, answer_of, answered_of}
+use Rattle.lazy_objects.specs.Slots.{market_of, answer_of, answered_of}
 use Rattle.std.specs.Prelude.{ℤ}
 use Rattle.desk_model.specs.Market.{terms_at}
 use Rattle.desk_model.specs.Links.{is_lazy_at}
 use Rattle.lazy_objects.specs.Asks.{Computes}
 use Rattle.lazy_objects.proofs.Loop.{lazy_terms}
-use Rattle.lazy_objects.specs.Begun.{IsSettled, AreSettled, parts_at, Begun}
+use Rattle.lazy_objects.specs.Begun.{IsSettled, AreSettled, parts_at, Begun, is_at_hand}
 use Rattle.lazy_objects.proofs.Members.{prepend, prepend_none}
 
 -- what is settled is at hand
 pub settled_front : (kept : List Kept) (parts : List Part) (at : ℕ) → AreSettled kept (take at parts)
-    → (inputs : List input.Input) × (next_of (is_now kept) (answer_of kept) (member_entries parts) ≡ prepend inputs (next_of (is_now kept) (answer_of kept) (member_entries (drop at parts))))
+    → (inputs : List input.Input) × (next_of (is_at_hand kept) (answer_of kept) (member_entries parts) ≡ prepend inputs (next_of (is_at_hand kept) (answer_of kept) (member_entries (drop at parts))))
 settled_front kept parts zero are = ([], sym (prepend_none _))
 settled_front kept [] (suc at) are = ([], sym (prepend_none _))
 settled_front kept (p ∷ ps) (suc at) are =
     let more = settled_front kept ps at are.1 in
-    let rest = next_of (is_now kept) (answer_of kept) (member_entries ps) in (
+    let rest = next_of (is_at_hand kept) (answer_of kept) (member_entries ps) in (
       input_of are.0.0 ∷ more.0,
       ap (λ (b : Bool). if b then and_answer (answer_of kept p.member) rest else First p.member) are.0.1
           ∙ ap (λ (r : Outcome). and_answer r rest) are.0.2
-          ∙ ap (and_next (input_of are.0.0)) more.1 ∙ one (input_of are.0.0) more.0 (next_of (is_now kept) (answer_of kept) (member_entries (drop at ps))),
+          ∙ ap (and_next (input_of are.0.0)) more.1 ∙ one (input_of are.0.0) more.0 (next_of (is_at_hand kept) (answer_of kept) (member_entries (drop at ps))),
     )
   where
     one : (i : input.Input) (inputs : List input.Input) (next : Next) → and_next i (prepend inputs next) ≡ prepend (i ∷ inputs) next
@@ -55,22 +55,23 @@ answered_settled true r value e = (refl, cc)
 answered_settled false r value e = absurd (cc)
 
 -- one member more
-pub settled_more : (kept : List Kept) (parts : List Part) (at : ℕ) (part : Part) (value : Value) → at < length parts → part ≡ get_or parts at part → answered_of (is_now kept part.member) (answer_of kept part.member) ≡ Some (Ok value)
+pub settled_more : (kept : List Kept) (parts : List Part) (at : ℕ) (part : Part) (value : Value) → at < length parts → part ≡ get_or parts at part → answered_of (is_at_hand kept part.member) (answer_of kept part.member) ≡ Some (Ok value)
     → AreSettled kept (take at parts) → AreSettled kept (take (at + 1) parts)
 settled_more kept parts at part value within get answered are =
-    let a = answered_settled (is_now kept part.member) (answer_of kept part.member) value answered in
+    let a = answered_settled (is_at_hand kept part.member) (answer_of kept part.member) value answered in
     subst (AreSettled kept) (sym (take_more parts at part within ∙ ap (λ (p : Part). take at parts ++ p ∷ []) (sym get)))
     (settled_push kept (take at parts) part are (value, a.0, a.1))
 
 -- a value more
 settled_still : (kept : List Kept) (top : ℕ) (value : Value) → top < length kept → (x : ℕ) → IsSettled kept x → IsSettled (slice_set kept top (with_value (slice_index_or kept top unpriced) (Some value))) x
+unfolding is_at_hand
 settled_still kept top value within x s = elim (cases_eq x top) [
   | inl same ↦
       let here = ap (λ (n : ℕ). slice_index_or (slice_set kept top (with_value (slice_index_or kept top unpriced) (Some value))) n unpriced) same ∙ get_or-set_same kept top (with_value (slice_index_or kept top unpriced) (Some value)) unpriced within in
-      (value, ap (λ (k : Kept). k.current) here, ap (λ (k : Kept). last_of x k.last) here)
+      (value, ap (λ (k : Kept). k.current || k.frozen) here, ap (λ (k : Kept). last_of x k.last) here)
   | inr other ↦
       let there = get_or-set_other kept top x (with_value (slice_index_or kept top unpriced) (Some value)) unpriced other in
-      (s.0, ap (λ (k : Kept). k.current) there ∙ s.1, ap (λ (k : Kept). last_of x k.last) there ∙ s.2)
+      (s.0, ap (λ (k : Kept). k.current || k.frozen) there ∙ s.1, ap (λ (k : Kept). last_of x k.last) there ∙ s.2)
 ]
 
 all_still : (kept : List Kept) (top : ℕ) (value : Value) → top < length kept → (ps : List Part) → AreSettled kept ps → AreSettled (slice_set kept top (with_value (slice_index_or kept top unpriced) (Some value))) ps
@@ -120,3 +121,9 @@ begun_valued calc today slots top inputs kept after begun None count count2 log 
       low = b.low;
       settled = λ o. all_still kept top price.0 within (take (slice_index_or begun o 0) (parts_at slots o)) (b.settled o);
     })
+
+-- a refusal stores nothing
+pub begun_refused : (calc : Calc) (today : ℤ) (slots : List Slot) (top : ℕ) (inputs : List input.Input) (kept after : List Kept) (begun : List ℕ) (cause : Option Cause) (count count2 : ℕ) (log log2 : Option (List (ℕ × Bool)))
+    → Begun slots kept begun → is_lazy_at (market_of today slots) top ≡ true → Computes calc (market_of today slots) top inputs kept after cause count count2 log log2 → is_some cause ≡ true → Begun slots after begun
+begun_refused calc today slots top inputs kept after begun None count count2 log log2 b lazy c is = absurd (false≢true is)
+begun_refused calc today slots top inputs kept after begun (Some cause) count count2 log log2 b lazy c is = let t = lazy_terms (terms_at (market_of today slots) top) lazy in subst (λ (k : List Kept). Begun slots k begun) (sym (c.price t.0 t.1).1) b

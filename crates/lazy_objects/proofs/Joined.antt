@@ -21,10 +21,9 @@ use Rattle.desk_model.specs.declared.slot.Slot.TheVariants.{Live, Free, Today, W
 use Rattle.desk_model.specs.Market.{Market, slot_at, terms_in, kind_in, is_given, is_observable, is_lazy, role_of, named, each_once, edges_of, edges, or_number, least_where, least_user}
 use Rattle.desk_model.specs.Links.{IsLinked, is_lazy_at, reaches}
 use Rattle.desk_model.specs.Laws.{MayBeMade}
-use Rattle.desk_model.specs.State.{State, kept_at, is_source}
+use Rattle.desk_model.specs.State.{State}
 use Rattle.desk_model.specs.Effect.{revised, notified, notified_as, with_terms}
 use Rattle.desk_model.proofs.Stores.{told_market}
-use Rattle.lazy_objects.specs.Asks.{IsUnheld}
 use Rattle.desk_model.proofs.Bounds.{ranks_of}
 use Rattle.desk_model.proofs.Edges.{once_among, among_once}
 use Rattle.desk_model.proofs.Users.{least_first, none_uses}
@@ -358,12 +357,16 @@ joined_dropped today slots slots2 x old new joined within unused takes is = subs
     low : x < length old.shape.roles
     low = let l = joined.long in omega (arith, l, within)
 
--- nothing is marked between two calls
-pub unmarked : (s : State) → IsUnheld s → (x : ℕ) → (kept_at s x).source ≡ false
-unfolding is_source
-unmarked s unheld x = unheld.sources x
+-- a notice changes nothing of the market, whether it is held back or not
+pub notified_market : (x : ℕ) (s : State) → (notified x s).market ≡ s.market
+unfolding notified
+notified_market x s = by_switch s.deferring
+  where
+    by_switch : (b : Bool) → (notified_as b x s).market ≡ s.market
+    by_switch true = refl
+    by_switch false = told_market (λ y. y == x) s
 
 -- a change leaves the market of the new terms
-pub revised_market : (x : ℕ) (terms : Terms) (s : State) → s.deferring ≡ false → (revised x terms s).market ≡ (with_terms x terms s).market
-unfolding revised notified
-revised_market x terms s off = ap (λ (b : Bool). (notified_as b x (with_terms x terms s)).market) off ∙ told_market (λ y. y == x) (with_terms x terms s)
+pub revised_market : (x : ℕ) (terms : Terms) (s : State) → (revised x terms s).market ≡ (with_terms x terms s).market
+unfolding revised
+revised_market x terms s = notified_market x (with_terms x terms s)

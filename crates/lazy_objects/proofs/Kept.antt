@@ -4,6 +4,7 @@ use Rattle.std.specs.Prelude.{slice_index_or, slice_set, map, is_some, IsSome}
 use Rattle.std.proofs.lemmas.List.{length-set, length-append, get_or-set_same, get_or-set_other, get_or_past, map-set, map-append}
 use Rattle.std.proofs.lemmas.Bool.{cases_eq, cases_lt, false≢true}
 use Rattle.walks.proofs.Ranks.{below_wider}
+use Rattle.observer_graph.proofs.Wholes.{live_within}
 use Rattle.desk_terms.specs.declared.value.Value.{Value}
 use Rattle.desk_model.specs.declared.kept.Kept.{Kept}
 use Rattle.desk_model.specs.State.{unpriced}
@@ -15,7 +16,7 @@ use Rattle.observer_graph.specs.Notice.{IsTold, Tells, passes_at, passes_of, uns
 use Rattle.observer_graph.specs.Change.{AddsNode, TakesNode, flagged, with_flags, with_source}
 use Rattle.desk_model.specs.Visit.{with_value}
 use Rattle.lazy_objects.specs.Shape.{role_at, observed_by, role_in, kept_as, kept_from, kept_of, shape_of}
-use Rattle.lazy_objects.specs.Store.{StoreView, AddsObject, TakesObject, Notices, IsNotified, stored_at, passes_by, notified_kept}
+use Rattle.lazy_objects.specs.Store.{StoreView, AddsObject, TakesObject, Notices, IsNotified, stored_at, stored_as, marked, passes_by, notified_kept}
 use Rattle.lazy_objects.proofs.Touched.{pushed_default}
 
 -- lists that have the same at each place
@@ -92,6 +93,10 @@ same_roles nodes nodes2 long each = same_lists (map role_in nodes2) (map role_in
 pub same_shape : (graph new : GraphView) → map role_in new.nodes ≡ map role_in graph.nodes → new.subjects ≡ graph.subjects → shape_of new ≡ shape_of graph
 same_shape graph new roles subjects = λ i. record { roles = roles i; subjects = subjects i }
 
+-- stores that have the same
+pub same_view : (a b : StoreView) → a.kept ≡ b.kept → a.shape ≡ b.shape → a.deferring ≡ b.deferring → a ≡ b
+same_view a b kept shape switch = λ i. record { kept = kept i; shape = shape i; deferring = switch i }
+
 -- a live node
 pub live_node : (graph : GraphView) (x : ℕ) → is_some (role_at (shape_of graph) x) ≡ true → IsSome (node_at graph x)
 live_node graph x is = by_node (node_at graph x) (sym (ap is_some (role_at_node graph.nodes x)) ∙ is)
@@ -137,13 +142,35 @@ module _ (graph : GraphView) (lasts : List (Option Value)) (fits : Fits graph la
       role_kept None = refl
       role_kept (Some node) = refl
 
-  -- a lazy object with a value
-  module _ (flags : Flags) (is : flags ≡ record (flags_of (node_at graph x)) { current = true }) where
+  -- an object with other flags
+  module _ (flags : Flags) where
     abbrev node2 : Option Node
     node2 = flagged flags (node_at graph x)
 
-    pub valued_kept : (value : Value) → IsSome (node_at graph x) → kept_of (with_flags x flags graph) (slice_set lasts x (Some value)) ≡ slice_set (kept_of graph lasts) x (with_value (slice_index_or (kept_of graph lasts) x unpriced) (Some value))
-    valued_kept value live = kept_set graph (with_flags x flags graph) lasts (slice_set lasts x (Some value)) fits
+    pub flagged_kept : (k : Kept) → kept_as node2 (is_source graph x) (slice_index_or lasts x None) ≡ k → kept_of (with_flags x flags graph) lasts ≡ slice_set (kept_of graph lasts) x k
+    flagged_kept k is = kept_set graph (with_flags x flags graph) lasts lasts fits (record { nodes = length-set graph.nodes x node2 ∙ fits.nodes; sources = fits.sources }) refl x k low
+        (ap (λ (n : Option Node). kept_as n (is_source graph x) (slice_index_or lasts x None)) (get_or-set_same graph.nodes x node2 None in_nodes) ∙ is)
+        (λ o other. (get_or-set_other graph.nodes x o node2 None other, refl, refl))
+
+    pub frozen_kept : (on : Bool) → flags ≡ record (flags_of (node_at graph x)) { frozen = on } → IsSome (node_at graph x)
+        → kept_of (with_flags x flags graph) lasts ≡ slice_set (kept_of graph lasts) x (record (slice_index_or (kept_of graph lasts) x unpriced) { frozen = on })
+    frozen_kept on is live = flagged_kept (record (slice_index_or (kept_of graph lasts) x unpriced) { frozen = on }) (flag_as (node_at graph x) live is ∙ sym (ap (λ (k : Kept). record k { frozen = on }) here))
+      where
+        flag_as : (node : Option Node) → IsSome node → flags ≡ record (flags_of node) { frozen = on } → kept_as (flagged flags node) (is_source graph x) (slice_index_or lasts x None) ≡ record (kept_as node (is_source graph x) (slice_index_or lasts x None)) { frozen = on }
+        flag_as None live is = absurd (false≢true live)
+        flag_as (Some node) live is = ap (λ (f : Flags). kept_as (Some (record node { flags = f })) (is_source graph x) (slice_index_or lasts x None)) is
+
+    pub forward_kept : (on : Bool) → flags ≡ record (flags_of (node_at graph x)) { forward = on } → IsSome (node_at graph x)
+        → kept_of (with_flags x flags graph) lasts ≡ slice_set (kept_of graph lasts) x (record (slice_index_or (kept_of graph lasts) x unpriced) { forward = on })
+    forward_kept on is live = flagged_kept (record (slice_index_or (kept_of graph lasts) x unpriced) { forward = on }) (flag_as (node_at graph x) live is ∙ sym (ap (λ (k : Kept). record k { forward = on }) here))
+      where
+        flag_as : (node : Option Node) → IsSome node → flags ≡ record (flags_of node) { forward = on } → kept_as (flagged flags node) (is_source graph x) (slice_index_or lasts x None) ≡ record (kept_as node (is_source graph x) (slice_index_or lasts x None)) { forward = on }
+        flag_as None live is = absurd (false≢true live)
+        flag_as (Some node) live is = ap (λ (f : Flags). kept_as (Some (record node { flags = f })) (is_source graph x) (slice_index_or lasts x None)) is
+
+    -- a lazy object with a value
+    pub valued_kept : flags ≡ record (flags_of (node_at graph x)) { current = true } → (value : Value) → IsSome (node_at graph x) → kept_of (with_flags x flags graph) (slice_set lasts x (Some value)) ≡ slice_set (kept_of graph lasts) x (with_value (slice_index_or (kept_of graph lasts) x unpriced) (Some value))
+    valued_kept is value live = kept_set graph (with_flags x flags graph) lasts (slice_set lasts x (Some value)) fits
         (record { nodes = length-set graph.nodes x node2 ∙ fits.nodes ∙ sym (length-set lasts x (Some value)); sources = fits.sources ∙ sym (length-set lasts x (Some value)) }) (length-set lasts x (Some value)) x _ low
         (ap (λ (n : Option Node). kept_as n (is_source graph x) (slice_index_or (slice_set lasts x (Some value)) x None)) (get_or-set_same graph.nodes x node2 None in_nodes)
         ∙ ap (kept_as node2 (is_source graph x)) (get_or-set_same lasts x (Some value) None low)
@@ -154,8 +181,8 @@ module _ (graph : GraphView) (lasts : List (Option Value)) (fits : Fits graph la
         value_as None live is = absurd (false≢true live)
         value_as (Some node) live is = ap (λ (f : Flags). kept_as (Some (record node { flags = f })) (is_source graph x) (Some value)) is
 
-    pub valued_shape : shape_of (with_flags x flags graph) ≡ shape_of graph
-    valued_shape = same_shape graph (with_flags x flags graph) (same_roles graph.nodes (slice_set graph.nodes x node2) (length-set graph.nodes x node2)
+    pub flagged_shape : shape_of (with_flags x flags graph) ≡ shape_of graph
+    flagged_shape = same_shape graph (with_flags x flags graph) (same_roles graph.nodes (slice_set graph.nodes x node2) (length-set graph.nodes x node2)
         (λ o. elim (cases_eq o x) [
           | inl same ↦ subst (λ (z : ℕ). role_in (slice_index_or (slice_set graph.nodes x node2) z None) ≡ role_in (slice_index_or graph.nodes z None)) (sym same)
               (ap role_in (get_or-set_same graph.nodes x node2 None in_nodes) ∙ role_kept (node_at graph x))
@@ -167,8 +194,10 @@ module _ (graph : GraphView) (lasts : List (Option Value)) (fits : Fits graph la
         role_kept (Some node) = refl
 
   -- an object that is gone
-  pub taken_kept : (new : GraphView) → TakesNode graph new x → TakesObject x (record { kept = kept_of graph lasts; shape = shape_of graph }) (record { kept = kept_of new (slice_set lasts x None); shape = shape_of new })
-  taken_kept new takes = record {
+  pub taken_kept : (new : GraphView) (on : Bool) → TakesNode graph new x
+      → TakesObject x (record { kept = kept_of graph lasts; shape = shape_of graph; deferring = on }) (record { kept = kept_of new (slice_set lasts x None); shape = shape_of new; deferring = on })
+  taken_kept new on takes = record {
+    switch = refl;
     kept = kept_set graph new lasts (slice_set lasts x None) fits
         (record { nodes = ap length takes.nodes ∙ length-set graph.nodes x None ∙ fits.nodes ∙ sym (length-set lasts x None); sources = ap length takes.sources ∙ length-set graph.sources x false ∙ fits.sources ∙ sym (length-set lasts x None) })
         (length-set lasts x None) x unpriced low
@@ -186,9 +215,10 @@ module _ (graph : GraphView) (lasts : List (Option Value)) (fits : Fits graph la
   }
 
 -- an object more
-pub grown_kept : (graph new : GraphView) (lasts lasts2 : List (Option Value)) (role : Role) (named : List ℕ) → Fits graph lasts → AddsNode role named graph new → lasts2 ≡ lasts ++ None ∷ []
-    → AddsObject role named (record { kept = kept_of graph lasts; shape = shape_of graph }) (record { kept = kept_of new lasts2; shape = shape_of new })
-grown_kept graph new lasts lasts2 role named fits adds more = record {
+pub grown_kept : (graph new : GraphView) (lasts lasts2 : List (Option Value)) (on : Bool) (role : Role) (named : List ℕ) → Fits graph lasts → AddsNode role named graph new → lasts2 ≡ lasts ++ None ∷ []
+    → AddsObject role named (record { kept = kept_of graph lasts; shape = shape_of graph; deferring = on }) (record { kept = kept_of new lasts2; shape = shape_of new; deferring = on })
+grown_kept graph new lasts lasts2 on role named fits adds more = record {
+  switch = refl;
   kept = kept_is new lasts2 (record { nodes = ap length adds.nodes ∙ length-append graph.nodes (Some node ∷ []) ∙ ap (λ (n : ℕ). n + 1) fits.nodes ∙ sym longer; sources = ap length adds.sources ∙ length-append graph.sources (false ∷ []) ∙ ap (λ (n : ℕ). n + 1) fits.sources ∙ sym longer })
       (kept_of graph lasts ++ unpriced ∷ []) (length-append (kept_of graph lasts) (unpriced ∷ []) ∙ ap (λ (n : ℕ). n + 1) (length-kept graph 0 lasts) ∙ sym longer)
       (λ o. pushed_default (kept_of graph lasts) unpriced o ∙ kept_at_node graph lasts fits o ∙ sym (at_each o));
@@ -233,12 +263,12 @@ grown_kept graph new lasts lasts2 role named fits adds more = record {
         ∙ ap (kept_as (node_at new o) (is_source graph o)) (last_at o) ∙ node_as o
 
 -- a notice
-module _ (graph new : GraphView) (lasts : List (Option Value)) (fits : Fits graph lasts) (tells : Tells graph new) where
+module _ (graph new : GraphView) (lasts : List (Option Value)) (on off : Bool) (fits : Fits graph lasts) (tells : Tells graph new) where
   fits2 : Fits new lasts
   fits2 = record { nodes = tells.len ∙ fits.nodes; sources = tells.marks ∙ fits.sources }
 
   abbrev old_view : StoreView
-  old_view = record { kept = kept_of graph lasts; shape = shape_of graph }
+  old_view = record { kept = kept_of graph lasts; shape = shape_of graph; deferring = on }
 
   source_is : (y : ℕ) → (stored_at old_view y).source ≡ is_source graph y
   source_is y = ap (λ (k : Kept). k.source) (kept_at_node graph lasts fits y)
@@ -267,7 +297,7 @@ module _ (graph new : GraphView) (lasts : List (Option Value)) (fits : Fits grap
   told_as None b last = refl
   told_as (Some node) b last = refl
 
-  pub notices : Notices old_view (record { kept = kept_of new lasts; shape = shape_of new })
+  pub notices : Notices old_view (record { kept = kept_of new lasts; shape = shape_of new; deferring = off })
   notices = record {
     shape = same_shape graph new (same_roles graph.nodes new.nodes tells.len (λ o. elim (tells.node o) [
       | inl told ↦ ap role_in told.1 ∙ role_kept (node_at graph o)
@@ -292,6 +322,48 @@ module _ (graph new : GraphView) (lasts : List (Option Value)) (fits : Fits grap
       role_kept : (node : Option Node) → role_in (unsettled node) ≡ role_in node
       role_kept None = refl
       role_kept (Some node) = refl
+
+-- a notice of one object more
+pub notices_marked : (graph new : GraphView) (lasts : List (Option Value)) (on off : Bool) → Fits graph lasts → (x : ℕ) → x < length lasts → Tells (with_source x graph) new
+    → Notices (marked x (record { kept = kept_of graph lasts; shape = shape_of graph; deferring = on })) (record { kept = kept_of new lasts; shape = shape_of new; deferring = off })
+notices_marked graph new lasts on off fits x low tells =
+    subst (λ (k : List Kept). Notices (record { kept = k; shape = shape_of graph; deferring = on }) (record { kept = kept_of new lasts; shape = shape_of new; deferring = off })) (marked_kept graph lasts fits x low)
+    (notices (with_source x graph) new lasts on off (record { nodes = fits.nodes; sources = length-set graph.sources x true ∙ fits.sources }) tells)
+
+-- THE VIEW of a store
+abbrev pub view_of : GraphView → List (Option Value) → Bool → StoreView
+view_of graph lasts on = record { kept = kept_of graph lasts; shape = shape_of graph; deferring = on }
+
+-- an object that is there has a last value, or none
+pub place_within : (graph : GraphView) (lasts : List (Option Value)) → Fits graph lasts → (x : ℕ) → is_some (role_at (shape_of graph) x) ≡ true → x < length lasts
+place_within graph lasts fits x is = let low = live_within graph.nodes x (live_node graph x is) in let n = fits.nodes in omega (arith, low, n)
+
+module _ (graph : GraphView) (lasts : List (Option Value)) (on : Bool) (fits : Fits graph lasts) (x : ℕ) (is : is_some (role_at (shape_of graph) x) ≡ true) where
+  low : x < length lasts
+  low = place_within graph lasts fits x is
+
+  abbrev stored : Kept
+  stored = stored_at (view_of graph lasts on) x
+
+  pub marked_view : (new : GraphView) (switch : Bool) → new ≡ with_source x graph → switch ≡ on → view_of new lasts switch ≡ marked x (view_of graph lasts on)
+  marked_view new switch e same = ap (λ (g : GraphView). view_of g lasts switch) e
+      ∙ same_view (view_of (with_source x graph) lasts switch) (marked x (view_of graph lasts on)) (marked_kept graph lasts fits x low) refl same
+
+  pub outdated_view : (new : GraphView) → new ≡ with_stale x graph → view_of new lasts on ≡ stored_as x (record stored { current = false }) (view_of graph lasts on)
+  outdated_view new e = ap (λ (g : GraphView). view_of g lasts on) e
+      ∙ same_view (view_of (with_stale x graph) lasts on) (stored_as x (record stored { current = false }) (view_of graph lasts on)) (outdated_kept graph lasts fits x low) (outdated_shape graph lasts fits x low) refl
+
+  pub frozen_view : (new : GraphView) (flags : Flags) (frozen : Bool) → new ≡ with_flags x flags graph → flags ≡ record (flags_of (node_at graph x)) { frozen = frozen }
+      → view_of new lasts on ≡ stored_as x (record stored { frozen = frozen }) (view_of graph lasts on)
+  frozen_view new flags frozen e are = ap (λ (g : GraphView). view_of g lasts on) e
+      ∙ same_view (view_of (with_flags x flags graph) lasts on) (stored_as x (record stored { frozen = frozen }) (view_of graph lasts on))
+      (frozen_kept graph lasts fits x low flags frozen are (live_node graph x is)) (flagged_shape graph lasts fits x low flags) refl
+
+  pub forward_view : (new : GraphView) (flags : Flags) (forward : Bool) → new ≡ with_flags x flags graph → flags ≡ record (flags_of (node_at graph x)) { forward = forward }
+      → view_of new lasts on ≡ stored_as x (record stored { forward = forward }) (view_of graph lasts on)
+  forward_view new flags forward e are = ap (λ (g : GraphView). view_of g lasts on) e
+      ∙ same_view (view_of (with_flags x flags graph) lasts on) (stored_as x (record stored { forward = forward }) (view_of graph lasts on))
+      (forward_kept graph lasts fits x low flags forward are (live_node graph x is)) (flagged_shape graph lasts fits x low flags) refl
 
 -- other pairs
 pub pairs_kept : (graph new : GraphView) (lasts : List (Option Value)) → new.nodes ≡ graph.nodes → new.sources ≡ graph.sources → (kept_of new lasts ≡ kept_of graph lasts) × (map role_in new.nodes ≡ map role_in graph.nodes)

@@ -15,10 +15,9 @@ use Rattle.desk_model.specs.declared.slot.Slot.TheVariants.{Live, Free, Today, W
 use Rattle.desk_model.specs.Market.{slot_at, terms_in, edges_of}
 use Rattle.desk_model.specs.Held.{changeable}
 use Rattle.desk_model.specs.State.{State}
-use Rattle.desk_model.specs.Told.{tell}
 use Rattle.desk_model.specs.Links.{IsLinked, AreOfKind}
 use Rattle.desk_model.specs.Laws.{MayLink, Keeps}
-use Rattle.desk_model.specs.Effect.{notified, revised, number_eq, target_set, relinked, with_terms}
+use Rattle.desk_model.specs.Effect.{revised, number_eq, target_set, relinked, with_terms}
 use Rattle.desk_model.proofs.Commands.{relink_keeps}
 use Rattle.desk_model.proofs.KindsKept.{relink_kinded}
 use Rattle.observer_graph.specs.declared.node.Role.{Role}
@@ -28,7 +27,8 @@ use Rattle.lazy_objects.specs.Shape.{IsJoined, role_at, observed_by, slot_role}
 use Rattle.lazy_objects.specs.Store.{StoreView, JoinsAny, LeavesAny}
 use Rattle.lazy_objects.specs.Scratch.{ScratchView}
 use Rattle.lazy_objects.specs.Stands.{Stands}
-use Rattle.lazy_objects.proofs.Joined.{joined_set, there_seen}
+use Rattle.lazy_objects.proofs.Joined.{joined_set, there_seen, revised_market}
+use Rattle.lazy_objects.proofs.Telling.{IsKept}
 use Rattle.lazy_objects.proofs.Revised.{Changed}
 use Rattle.lazy_objects.proofs.Commanded.{link_stands, commanded}
 
@@ -142,8 +142,20 @@ module _ (today : ℤ) (slots : List Slot) (h : ℕ) (kind : HandleKind) (held t
         λ a. (less x o).1 ((more x o).1 (inl ((joined.pairs o x).1 a)), λ p. other p.1),
       ))
 
-pub linked_kept : (held target : Option ℕ) (h : ℕ) (old middle new : StoreView) → JoinsAny target h old middle → LeavesAny held h middle new → (new.kept ≡ old.kept) × (middle.shape.roles ≡ old.shape.roles)
-linked_kept held target h old middle new joins leaves = ((leaves_roles held h middle new leaves).0 ∙ (joins_roles target h old middle joins).0, (joins_roles target h old middle joins).1)
+pub joins_switch : (target : Option ℕ) (h : ℕ) (old new : StoreView) → JoinsAny target h old new → new.deferring ≡ old.deferring
+joins_switch None h old new same = ap (λ (v : StoreView). v.deferring) same
+joins_switch (Some y) h old new joins = joins.switch
+
+pub leaves_switch : (held : Option ℕ) (h : ℕ) (old new : StoreView) → LeavesAny held h old new → new.deferring ≡ old.deferring
+leaves_switch None h old new same = ap (λ (v : StoreView). v.deferring) same
+leaves_switch (Some y) h old new leaves = leaves.switch
+
+-- other pairs change nothing that is stored
+pub linked_kept : (held target : Option ℕ) (h : ℕ) (old middle new : StoreView) → JoinsAny target h old middle → LeavesAny held h middle new → IsKept old new
+linked_kept held target h old middle new joins leaves = record {
+  kept = (leaves_roles held h middle new leaves).0 ∙ (joins_roles target h old middle joins).0;
+  switch = leaves_switch held h middle new leaves ∙ joins_switch target h old middle joins;
+}
 
 -- a link tells where its target is another
 pub link_as : (s : State) (h : ℕ) (kind : HandleKind) (held target : Option ℕ) (b : Bool) → terms_in (slot_at s.market h) ≡ Some (Handle kind held) → option_eq number_eq held target ≡ b
@@ -152,23 +164,22 @@ unfolding relinked
 link_as s h kind held target b is e = ap (λ (t : Option Terms). target_set (changeable t) h target s) is ∙ ap (λ (c : Bool). if c then s else revised h (Handle kind target) s) e
 
 -- a change tells nothing of the market but the terms
-pub linked_before : (h : ℕ) (terms : Terms) (today : ℤ) (slots : List Slot) (kept : List Kept) → IsLinked (revised h terms (state_of today slots kept)).market → IsLinked (with_terms h terms (state_of today slots kept)).market
-unfolding revised notified tell
-linked_before h terms today slots kept links = links
+pub linked_before : (h : ℕ) (terms : Terms) (today : ℤ) (slots : List Slot) (kept : List Kept) (on : Bool) → IsLinked (revised h terms (state_of today slots kept on)).market → IsLinked (with_terms h terms (state_of today slots kept on)).market
+linked_before h terms today slots kept on links = subst IsLinked (revised_market h terms (state_of today slots kept on)) links
 
-module _ (today : ℤ) (slots : List Slot) (kept : List Kept) (scratch : ScratchView) (stands : Stands (state_of today slots kept) scratch) (h : ℕ) (kind : HandleKind) (held target : Option ℕ)
+module _ (today : ℤ) (slots : List Slot) (kept : List Kept) (on : Bool) (scratch : ScratchView) (stands : Stands (state_of today slots kept on) scratch) (h : ℕ) (kind : HandleKind) (held target : Option ℕ)
     (is : terms_in (slice_index_or slots h Free) ≡ Some (Handle kind held)) (may : MayLink (market_of today slots) h target) (differs : option_eq number_eq held target ≡ false) where
-  changed : relinked h target (state_of today slots kept) ≡ revised h (Handle kind target) (state_of today slots kept)
-  changed = link_as (state_of today slots kept) h kind held target false is differs
+  changed : relinked h target (state_of today slots kept on) ≡ revised h (Handle kind target) (state_of today slots kept on)
+  changed = link_as (state_of today slots kept on) h kind held target false is differs
 
-  keeps : Keeps (state_of today slots kept) (relinked h target (state_of today slots kept))
-  keeps = relink_keeps (state_of today slots kept) stands.whole h target may
+  keeps : Keeps (state_of today slots kept on) (relinked h target (state_of today slots kept on))
+  keeps = relink_keeps (state_of today slots kept on) stands.whole h target may
 
-  pub link_links : IsLinked (with_terms h (Handle kind target) (state_of today slots kept)).market
-  link_links = linked_before h (Handle kind target) today slots kept (subst (λ (t : State). IsLinked t.market) changed keeps.whole.links)
+  pub link_links : IsLinked (with_terms h (Handle kind target) (state_of today slots kept on)).market
+  link_links = linked_before h (Handle kind target) today slots kept on (subst (λ (t : State). IsLinked t.market) changed keeps.whole.links)
 
   pub link_changed : ((k : HandleKind) (t : Option ℕ) → terms_in (slice_index_or slots h Free) ≡ Some (Handle k t) → AreOfKind (market_of today slots) (Some (Handle k target)))
-      → (new : State) → new ≡ revised h (Handle kind target) (state_of today slots kept) → Changed (state_of today slots kept) new (relinked h target (state_of today slots kept)) scratch
+      → (new : State) → new ≡ revised h (Handle kind target) (state_of today slots kept on) → Changed (state_of today slots kept on) new (relinked h target (state_of today slots kept on)) scratch
   link_changed kinds new e =
-      commanded today slots kept scratch stands (relinked h target (state_of today slots kept)) new keeps
-      (link_stands today slots kept scratch stands h target keeps.whole (relink_kinded (state_of today slots kept) stands.whole stands.kinds h target kinds)) (e ∙ sym changed)
+      commanded today slots kept on scratch stands (relinked h target (state_of today slots kept on)) new keeps
+      (link_stands today slots kept on scratch stands h target keeps (relink_kinded (state_of today slots kept on) stands.whole stands.kinds h target kinds)) (e ∙ sym changed)

@@ -9,7 +9,7 @@ use Rattle.desk_terms.specs.declared.value.Value.{Value}
 use Rattle.desk_terms.specs.declared.value.Input as input
 use Rattle.desk_terms.specs.declared.cause.Cause.{Cause}
 use Rattle.desk_terms.specs.declared.asked.Asked.{Asked}
-use Rattle.desk_terms.specs.declared.asked.Mark.TheVariants.{Fresh}
+use Rattle.desk_terms.specs.declared.asked.Mark.{Mark}
 use Rattle.desk_terms.specs.Asked.{Shows}
 use Rattle.desk_terms.specs.Reading.{Outcome, Calc, IsWellFormed}
 use Rattle.desk_terms.specs.Bench.{counted, logged}
@@ -19,30 +19,29 @@ use Rattle.desk_model.specs.declared.entry.Entry.TheVariants.{Gives, Needs, Refu
 use Rattle.desk_model.specs.declared.entry.Next.{Next}
 use Rattle.desk_model.specs.declared.entry.Next.TheVariants.{Ready, First, Stops}
 use Rattle.desk_model.specs.Market.{terms_at, role_of, is_lazy}
-use Rattle.desk_model.specs.Uses.{input_at, uses_of, uses, needs, reading_at}
+use Rattle.desk_model.specs.Uses.{input_at, uses_of, uses, needed, needs, reading_at}
 use Rattle.desk_model.specs.Fresh.{inputs_by, reading_over, priced}
-use Rattle.desk_model.specs.Links.{AreOfKind, is_lazy_at, IsRanged}
+use Rattle.desk_model.specs.Links.{AreOfKind, is_lazy_at, IsRanged, IsWhole}
 use Rattle.desk_model.specs.Laws.{AreValues}
 use Rattle.desk_model.proofs.Valued.{seen_values}
-use Rattle.desk_model.specs.State.{State, kept_at, unpriced, last_of, held, seen, shows, each_kept, is_frozen, is_source}
+use Rattle.desk_model.specs.State.{State, kept_at, unpriced, last_of, held, seen, each_kept, is_frozen, is_late}
 use Rattle.desk_model.specs.Visit.{Visit, log_of, value_among, has_value, is_idle, with_value, or_value, stored, visit_by, runs, asked}
 use Rattle.desk_model.specs.Next.{and_next, and_answer, next_of}
 use Rattle.desk_model.proofs.Bounds.{Ranks, ranks_of}
-use Rattle.desk_model.proofs.Locality.{needs_fall}
+use Rattle.desk_model.proofs.Locality.{needs_near, needs_fall}
 use Rattle.desk_model.proofs.Wants.{well_formed, needs_lazy}
 use Rattle.desk_model.proofs.Watchers.{thawed_forwarder}
-use Rattle.desk_model.proofs.Shown.{HoldsFit, holds_fit, shows_last}
+use Rattle.desk_model.proofs.Shown.{HoldsFit, holds_fit, early_of, shows_last}
 use Rattle.desk_model.proofs.Visits.{IsClosed, has_more, value_more, has_last, none_of, not_idle, idle_grows, grows_more, visit_outcome}
 use Rattle.desk_model.proofs.Asked.{stored_not, stored_length, got, sound_stored, whole_stored, ready_then, idle_current, asked_last}
-use Rattle.desk_model.proofs.Steps.{finish, idle_visit, Answers, first_busy, walk_ready}
+use Rattle.desk_model.proofs.Steps.{finish, Answers, first_busy, walk_ready}
 use Rattle.desk_model.proofs.Finish.{finish_all, finish_push, finish_value, finish_fault, finish_stop}
-use Rattle.desk_model.proofs.Clear.{shows_seen}
 use Rattle.desk_model.proofs.Changes.{lazy_within}
 use Rattle.lazy_objects.specs.Slots.{is_now, answer_of}
-use Rattle.lazy_objects.specs.Asks.{Asks, IsUnheld, MayAsk, Stays, Computes}
+use Rattle.lazy_objects.specs.Asks.{Walks, MayAsk, Stays, Computes}
+use Rattle.lazy_objects.specs.Begun.{is_at_hand}
 use Rattle.lazy_objects.proofs.Stacks.{Rising, rising_length, turned}
 use Rattle.lazy_objects.proofs.Extends.{finish_extends}
-use Rattle.lazy_objects.proofs.Unheld.{early, free, fresh_mark}
 
 -- how many values are not current
 abbrev pub open_of : List Kept → ℕ
@@ -67,7 +66,7 @@ open_set (j ∷ ks) zero k within stale current = step k.current j.current curre
     step false b e f = absurd (cc)
 open_set (j ∷ ks) (suc i) k within stale current = let e = open_set ks i k (omega arith) stale current in omega arith
 
-each_same : (f g : ℕ → Kept → Kept) (from : ℕ) (ks : List Kept) → ((o : ℕ) (k : Kept) → from ≤ o → f o k ≡ g o k) → each_kept f from ks ≡ each_kept g from ks
+pub each_same : (f g : ℕ → Kept → Kept) (from : ℕ) (ks : List Kept) → ((o : ℕ) (k : Kept) → from ≤ o → f o k ≡ g o k) → each_kept f from ks ≡ each_kept g from ks
 each_same f g from [] same = refl
 each_same f g from (k ∷ ks) same = ap (λ (h : Kept). h ∷ each_kept f (from + 1) ks) (same from k (omega arith)) ∙ ap (λ (t : List Kept). g from k ∷ t) (each_same f g (from + 1) ks (λ o k le. same o k (omega arith)))
 
@@ -112,12 +111,12 @@ log_more [] x r = refl
 log_more (call ∷ calls) x r = ap (λ (l : List (ℕ × Bool)). (call.0, is_ok call.1) ∷ l) (log_more calls x r)
 
 -- tests that agree on what is needed give the same step
-pub next_same : (f g : ℕ → Bool) (answer : ℕ → Outcome) (entries : List Entry) → ((x : ℕ) → f x ≡ g x) → next_of f answer entries ≡ next_of g answer entries
+pub next_same : (f g : ℕ → Bool) (answer : ℕ → Outcome) (entries : List Entry) → ((x : ℕ) → Among x (needed entries) → f x ≡ g x) → next_of f answer entries ≡ next_of g answer entries
 next_same f g answer [] same = refl
 next_same f g answer (Gives rate ∷ entries) same = ap (and_next (input.TheVariants.Rate rate)) (next_same f g answer entries same)
 next_same f g answer (Needs x ∷ entries) same =
-    ap (λ (b : Bool). if b then and_answer (answer x) (next_of f answer entries) else First x) (same x)
-    ∙ ap (λ (n : Next). if g x then and_answer (answer x) n else First x) (next_same f g answer entries same)
+    ap (λ (b : Bool). if b then and_answer (answer x) (next_of f answer entries) else First x) (same x (inl refl))
+    ∙ ap (λ (n : Next). if g x then and_answer (answer x) n else First x) (next_same f g answer entries (λ y among. same y (inr among)))
 next_same f g answer (Refuses cause ∷ entries) same = refl
 
 -- a lazy object has terms
@@ -128,6 +127,7 @@ lazy_terms (Some terms) is = (terms, refl)
 -- what stands at each turn of the loop: what was computed, and what is still to be finished, the last of the stack first
 pub record Asking (calc : Calc) (s : State) (o : ℕ) (count0 : ℕ) (log0 : Option (List (ℕ × Bool))) (stack : List ℕ) (kept : List Kept) (number count : ℕ) (log : Option (List (ℕ × Bool))) : Type 0 where
   pub may : MayAsk calc s o
+  pub free : held s o ≡ None
   pub ranks : Ranks s.market
   pub calls : List (ℕ × Outcome)
   pub stores : kept ≡ (stored s calls).kept
@@ -143,46 +143,56 @@ pub record Asking (calc : Calc) (s : State) (o : ℕ) (count0 : ℕ) (log0 : Opt
   pub count_is : count ≡ counted count0 (length calls)
   pub log_is : log ≡ logged log0 (log_of calls)
 
--- where nothing is held, an object is idle where it is current or got a value
-idle_is : (s : State) (calls : List (ℕ × Outcome)) (y : ℕ) → IsUnheld s → is_idle s calls y ≡ ((kept_at s y).current || has_value calls y)
-idle_is s calls y unheld = ap (λ (h : Option Outcome). is_some h || ((kept_at s y).current || has_value calls y)) (free s unheld y)
-
--- what is current then is idle
-now_idle : (calc : Calc) (s : State) (calls : List (ℕ × Outcome)) (o : ℕ) → MayAsk calc s o → IsClosed calc s calls → (y : ℕ) → is_now (stored s calls).kept y ≡ is_idle s calls y
-now_idle calc s calls o may closed y = elim (cases_Bool (has_value calls y)) [
-  | inl has ↦ ap (λ (k : Kept). k.current) (got calc s may.whole calls closed y has) ∙ sym (idle_is s calls y may.unheld ∙ or_yes (kept_at s y).current (has_value calls y) has)
-  | inr none ↦ ap (λ (k : Kept). k.current) (stored_not s calls y none) ∙ sym (idle_is s calls y may.unheld ∙ or_no (kept_at s y).current (has_value calls y) none)
-]
-  where
-    or_yes : (a b : Bool) → b ≡ true → (a || b) ≡ true
-    or_yes true b e = refl
-    or_yes false b e = e
-
-    or_no : (a b : Bool) → b ≡ false → (a || b) ≡ a
-    or_no true b e = refl
-    or_no false b e = e
-
--- what is seen of an object is a value that it may have
-values_of : (calc : Calc) (s : State) (o : ℕ) → MayAsk calc s o → AreValues s.market (seen calc s)
-values_of calc s o may = seen_values calc may.fits s may.whole may.kinds may.ranged
-
-fit_of : (calc : Calc) (s : State) (o : ℕ) → MayAsk calc s o → HoldsFit s
-fit_of calc s o may = holds_fit s may.whole.links (thawed_forwarder s may.whole)
-
 or_no : (a b : Bool) → b ≡ false → (a || b) ≡ a
 or_no true b e = refl
 or_no false b e = e
 
-each_id : (from : ℕ) (ks : List Kept) → each_kept (λ o kept. kept) from ks ≡ ks
+-- Beneath an object that is not late, what is at hand then is idle: it was frozen or current, or got a value.
+pub hand_idle : (calc : Calc) (s : State) (calls : List (ℕ × Outcome)) → IsWhole s → HoldsFit s → IsClosed calc s calls → (top : ℕ) → is_late s top ≡ false → (y : ℕ) → Among y (needs s.market top)
+    → is_at_hand (stored s calls).kept y ≡ is_idle s calls y
+unfolding is_frozen is_at_hand
+hand_idle calc s calls whole fit closed top early y among = elim (cases_Bool (has_value calls y)) [
+  | inl has ↦ ap (λ (k : Kept). k.current || k.frozen) (got calc s whole calls closed y has)
+      ∙ sym (or_right (is_some (held s y)) _ (or_right (kept_at s y).current (has_value calls y) has))
+  | inr none ↦ ap (λ (k : Kept). k.current || k.frozen) (stored_not s calls y none) ∙ by_frozen none (cases_Bool (kept_at s y).frozen)
+]
+  where
+    by_frozen : has_value calls y ≡ false → (((kept_at s y).frozen ≡ true) ⊎ ((kept_at s y).frozen ≡ false))
+        → ((kept_at s y).current || (kept_at s y).frozen) ≡ (is_some (held s y) || ((kept_at s y).current || has_value calls y))
+    by_frozen none (inl frozen) = or_right (kept_at s y).current (kept_at s y).frozen frozen
+        ∙ sym (ap (λ (h : Option Outcome). is_some h || ((kept_at s y).current || has_value calls y)) (fit.frozen y frozen))
+    by_frozen none (inr thawed) = or_no (kept_at s y).current (kept_at s y).frozen thawed ∙ sym (or_no (kept_at s y).current (has_value calls y) none)
+        ∙ sym (ap (λ (h : Option Outcome). is_some h || ((kept_at s y).current || has_value calls y)) (fit.above top y early (needs_near s.market top y among) thawed))
+
+-- what is seen of an object is a value that it may have
+pub values_of : (calc : Calc) (s : State) (o : ℕ) → MayAsk calc s o → AreValues s.market (seen calc s)
+values_of calc s o may = seen_values calc may.fits s may.whole may.kinds may.ranged
+
+pub fit_of : (calc : Calc) (s : State) (o : ℕ) → MayAsk calc s o → HoldsFit s
+fit_of calc s o may = holds_fit s may.whole.links (thawed_forwarder s may.whole)
+
+-- an object that is current and not held has a last value
+pub current_last : (calc : Calc) (s : State) (o : ℕ) → MayAsk calc s o → held s o ≡ None → (kept_at s o).current ≡ true → (value : Value) × ((kept_at s o).last ≡ Some value)
+current_last calc s o may not_held current = elim (may.sound.current o current) [
+  | inl source ↦ absurd ((fit_of calc s o may).source o source not_held)
+  | inr priced ↦ (priced.value, priced.last)
+]
+
+pub each_id : (from : ℕ) (ks : List Kept) → each_kept (λ o kept. kept) from ks ≡ ks
 each_id from [] = refl
 each_id from (k ∷ ks) = ap (λ (t : List Kept). k ∷ t) (each_id (from + 1) ks)
 
+-- there are few computations
+pub few : (calc : Calc) (s : State) (o count0 : ℕ) (log0 : Option (List (ℕ × Bool))) (stack : List ℕ) (kept : List Kept) (number count : ℕ) (log : Option (List (ℕ × Bool))) → Asking calc s o count0 log0 stack kept number count log → number + 1 < 2 ^ 17
+few calc s o count0 log0 stack kept number count log a = let b = a.bound in let e = ap length a.stores in let f = stored_length s a.calls in let w = a.may.whole.length in let l = a.may.limit in omega arith
+
 module _ (calc : Calc) (s : State) (o : ℕ) (count0 : ℕ) (log0 : Option (List (ℕ × Bool))) where
   -- the loop begins
-  pub begins : MayAsk calc s o → (kept_at s o).current ≡ false → Asking calc s o count0 log0 (o ∷ []) s.kept 0 count0 log0
+  pub begins : MayAsk calc s o → held s o ≡ None → (kept_at s o).current ≡ false → Asking calc s o count0 log0 (o ∷ []) s.kept 0 count0 log0
   unfolding stored
-  begins may stale = record {
+  begins may not_held stale = record {
     may = may;
+    free = not_held;
     ranks = ranks_of s.market may.whole.links;
     calls = [];
     stores = sym (stored_none s);
@@ -203,7 +213,7 @@ module _ (calc : Calc) (s : State) (o : ℕ) (count0 : ℕ) (log0 : Option (List
       stored_none s = each_id 0 s.kept
 
       busy_first : (x : ℕ) → Among x (o ∷ []) → is_idle s [] x ≡ false
-      busy_first x (inl same) = idle_is s [] x may.unheld ∙ or_from (kept_at s x).current false (ap (λ (z : ℕ). (kept_at s z).current) same ∙ stale) refl
+      busy_first x (inl same) = ap (is_idle s []) same ∙ ap (λ (h : Option Outcome). is_some h || ((kept_at s o).current || false)) not_held ∙ or_from (kept_at s o).current false stale refl
       busy_first x (inr none) = absurd none
 
       lazy_first : (x : ℕ) → Among x (o ∷ []) → is_lazy (role_of (terms_at s.market x)) ≡ true
@@ -228,20 +238,24 @@ module _ (calc : Calc) (s : State) (o : ℕ) (count0 : ℕ) (log0 : Option (List
     rising_of = subst (Rising a.ranks.0) (turned stack top) a.rising
 
     -- the test and the answers of the code are those of the definition
-    step_is : next_of (is_now kept) (answer_of kept) (uses s.market top) ≡ next_of (is_idle s a.calls) (answer_of kept) (uses s.market top)
-    step_is = next_same (is_now kept) (is_idle s a.calls) (answer_of kept) (uses s.market top) (λ y. ap (λ (k : List Kept). is_now k y) a.stores ∙ now_idle calc s a.calls o a.may a.closed y)
+    top_early : is_late s top ≡ false
+    top_early = early_of s top (not_idle s a.calls top (busy_of top (inl refl))).0
+
+    step_is : next_of (is_at_hand kept) (answer_of kept) (uses s.market top) ≡ next_of (is_idle s a.calls) (answer_of kept) (uses s.market top)
+    step_is = next_same (is_at_hand kept) (is_idle s a.calls) (answer_of kept) (uses s.market top) (λ y among. ap (λ (k : List Kept). is_at_hand k y) a.stores ∙ hand_idle calc s a.calls a.may.whole (fit_of calc s o a.may) a.closed top top_early y among)
 
     answers : Answers calc s (length s.market.objects) a.calls (answer_of kept) (uses s.market top)
-    answers y among idle = ap (λ (k : List Kept). answer_of k y) a.stores ∙ (ready_then calc s a.may.whole a.calls a.closed (fit_of calc s o a.may) a.may.sound.current top y (early s a.may.unheld top) among idle).1
+    answers y among idle = ap (λ (k : List Kept). answer_of k y) a.stores ∙ (ready_then calc s a.may.whole a.calls a.closed (fit_of calc s o a.may) a.may.sound.current top y top_early among idle).1
 
     -- an object that is needed is pushed
-    pub pushes : (y : ℕ) → next_of (is_now kept) (answer_of kept) (uses s.market top) ≡ First y → Asking calc s o count0 log0 ((stack ++ top ∷ []) ++ y ∷ []) kept number count log
+    pub pushes : (y : ℕ) → next_of (is_at_hand kept) (answer_of kept) (uses s.market top) ≡ First y → Asking calc s o count0 log0 ((stack ++ top ∷ []) ++ y ∷ []) kept number count log
     pushes y next =
         let first = sym step_is ∙ next in
         let b = first_busy calc s (length s.market.objects) a.calls (answer_of kept) y (uses s.market top) first in
         let turn : reverse ((stack ++ top ∷ []) ++ y ∷ []) ≡ y ∷ top ∷ reverse stack = turned (stack ++ top ∷ []) y ∙ ap (λ (l : List ℕ). y ∷ l) (turned stack top) in
         record {
           may = a.may;
+          free = a.free;
           ranks = a.ranks;
           calls = a.calls;
           stores = a.stores;
@@ -281,22 +295,18 @@ module _ (calc : Calc) (s : State) (o : ℕ) (count0 : ℕ) (log0 : Option (List
     logged_more None calls more = refl
     logged_more (Some log) calls more = ap Some (append_assoc log calls more)
 
+    top_new : has_value a.calls top ≡ false
+    top_new = (not_idle s a.calls top (busy_of top (inl refl))).2
+
     -- the object on top is not current
     pub top_stale : (slice_index_or kept top unpriced).current ≡ false
-    top_stale = ap (λ (k : List Kept). is_now k top) a.stores ∙ now_idle calc s a.calls o a.may a.closed top ∙ busy_of top (inl refl)
+    top_stale = ap (λ (k : List Kept). is_now k top) a.stores ∙ ap (λ (k : Kept). k.current) (stored_not s a.calls top top_new) ∙ (not_idle s a.calls top (busy_of top (inl refl))).1
 
     pub top_within : top < length kept
     top_within = let e = ap length a.stores in let f = stored_length s a.calls in let w = a.may.whole.length in let t = lazy_within s.market top top_lazy in omega arith
 
-    -- there are few computations
-    pub few : number < 2 ^ 17
-    few = let b = a.bound in let e = ap length a.stores in let f = stored_length s a.calls in let w = a.may.whole.length in let l = a.may.limit in omega arith
-
-    top_new : has_value a.calls top ≡ false
-    top_new = (not_idle s a.calls top (busy_of top (inl refl))).2
-
     -- an object with a value is finished
-    pub values : (inputs : List input.Input) (terms : Terms) (value : Value) → next_of (is_now kept) (answer_of kept) (uses s.market top) ≡ Ready inputs → terms_at s.market top ≡ Some terms
+    pub values : (inputs : List input.Input) (terms : Terms) (value : Value) → next_of (is_at_hand kept) (answer_of kept) (uses s.market top) ≡ Ready inputs → terms_at s.market top ≡ Some terms
         → calc (reading_at s.market top terms inputs) ≡ Ok value
         → Asking calc s o count0 log0 stack (slice_set kept top (with_value (slice_index_or kept top unpriced) (Some value))) (number + 1) (counted count 1) (logged log ((top, true) ∷ []))
     values inputs terms value next there price =
@@ -305,6 +315,7 @@ module _ (calc : Calc) (s : State) (o : ℕ) (count0 : ℕ) (log0 : Option (List
         let long = length-append a.calls ((top, Ok value) ∷ []) in
         record {
           may = a.may;
+          free = a.free;
           ranks = a.ranks;
           calls = a.calls ++ (top, Ok value) ∷ [];
           stores = ap (λ (k : List Kept). slice_set k top (with_value (slice_index_or k top unpriced) (Some value))) a.stores ∙ sym (stored_more s a.calls top value (let e = ap length a.stores in let l = stored_length s a.calls in let w = top_within in omega arith) top_new);
@@ -344,25 +355,25 @@ module _ (calc : Calc) (s : State) (o : ℕ) (count0 : ℕ) (log0 : Option (List
             ap (λ (b : Bool). is_some (held s x) || ((kept_at s x).current || b)) (has_more a.calls top x (Ok value) ∙ or_no (has_value a.calls x) (top == x) other) ∙ busy_of x (inr among)
 
     -- how the ask ends with a refusal
-    ends_with : (calls : List (ℕ × Outcome)) (cause : Cause) (after : List Kept) (answer : Asked) (counted_now : ℕ) (logged_now : Option (List (ℕ × Bool)))
+    ends_with : (calls : List (ℕ × Outcome)) (cause : Cause) (after : List Kept) (given : Mark) (answer : Asked) (counted_now : ℕ) (logged_now : Option (List (ℕ × Bool)))
         → visit_by calc s (suc (length s.market.objects)) [] o ≡ record { calls = calls; outcome = Err cause }
-        → after ≡ (stored s calls).kept → answer ≡ record { cause = Some cause; mark = Fresh; runs = length calls } → counted_now ≡ counted count0 (length calls) → logged_now ≡ logged log0 (log_of calls)
-        → Asks calc o s (record s { kept = after }) answer count0 counted_now log0 logged_now
+        → after ≡ (stored s calls).kept → answer ≡ record { cause = Some cause; mark = given; runs = length calls } → counted_now ≡ counted count0 (length calls) → logged_now ≡ logged log0 (log_of calls)
+        → Walks calc o s (record s { kept = after }) given answer count0 counted_now log0 logged_now
     unfolding runs asked stored
-    ends_with calls cause after answer counted_now logged_now visit stores is counts logs =
+    ends_with calls cause after given answer counted_now logged_now visit stores is counts logs =
         let run : runs calc s o ≡ calls = ap (λ (v : Visit). v.calls) visit in
         let sees : seen calc s o ≡ Err cause = sym (visit_outcome calc s a.may.whole.links (suc (length s.market.objects)) [] o) ∙ ap (λ (v : Visit). v.outcome) visit in
         record {
           state = ap (λ (k : List Kept). record s { kept = k }) (stores ∙ ap (λ (c : List (ℕ × Outcome)). (stored s c).kept) (sym run));
-          shown = subst (λ (b : Asked). Shows b.cause (kept_at (record s { kept = after }) o).last (shows calc s o)) (sym is) (shows_seen s a.may.whole.links calc o ∙ sees);
-          mark = ap (λ (b : Asked). b.mark) is ∙ sym (fresh_mark s a.may.unheld o);
+          shown = subst (λ (b : Asked). Shows b.cause (kept_at (record s { kept = after }) o).last (seen calc s o)) (sym is) sees;
+          mark = ap (λ (b : Asked). b.mark) is;
           number = ap (λ (b : Asked). b.runs) is ∙ ap length (sym run);
           count = counts ∙ ap (λ (c : List (ℕ × Outcome)). counted count0 (length c)) (sym run);
           log = logs ∙ ap (λ (c : List (ℕ × Outcome)). logged log0 (log_of c)) (sym run);
         }
 
     -- there is one computation more at least
-    pub goes_on : (inputs : List input.Input) (terms : Terms) → next_of (is_now kept) (answer_of kept) (uses s.market top) ≡ Ready inputs → terms_at s.market top ≡ Some terms
+    pub goes_on : (inputs : List input.Input) (terms : Terms) → next_of (is_at_hand kept) (answer_of kept) (uses s.market top) ≡ Ready inputs → terms_at s.market top ≡ Some terms
         → (call : ℕ × Outcome) × (more : List (ℕ × Outcome)) × (runs calc s o ≡ a.calls ++ call ∷ more)
     unfolding runs
     goes_on inputs terms next there = by_price (calc (reading_at s.market top terms inputs)) refl
@@ -377,47 +388,47 @@ module _ (calc : Calc) (s : State) (o : ℕ) (count0 : ℕ) (log0 : Option (List
             ((top, Err cause), [], ap (λ (v : Visit). v.calls) (sym rest_top ∙ f))
 
     -- an entry refuses
-    pub stops : (cause : Cause) (answer : Asked) → next_of (is_now kept) (answer_of kept) (uses s.market top) ≡ Stops cause → answer ≡ record { cause = Some cause; mark = Fresh; runs = number }
-        → Asks calc o s (record s { kept = kept }) answer count0 count log0 log
-    stops cause answer next is =
-        ends_with a.calls cause kept answer count log (sym rest_top ∙ finish_stop calc s a.may.whole.links a.calls a.closed (answer_of kept) o top (reverse stack) (busy_of top (inl refl)) answers cause (sym step_is ∙ next))
-        a.stores (is ∙ ap (λ (n : ℕ). record { cause = Some cause; mark = Fresh; runs = n }) a.counts) a.count_is a.log_is
+    pub stops : (cause : Cause) (given : Mark) (answer : Asked) → next_of (is_at_hand kept) (answer_of kept) (uses s.market top) ≡ Stops cause → answer ≡ record { cause = Some cause; mark = given; runs = number }
+        → Walks calc o s (record s { kept = kept }) given answer count0 count log0 log
+    stops cause given answer next is =
+        ends_with a.calls cause kept given answer count log (sym rest_top ∙ finish_stop calc s a.may.whole.links a.calls a.closed (answer_of kept) o top (reverse stack) (busy_of top (inl refl)) answers cause (sym step_is ∙ next))
+        a.stores (is ∙ ap (λ (n : ℕ). record { cause = Some cause; mark = given; runs = n }) a.counts) a.count_is a.log_is
 
     -- the bench refuses
-    pub faults : (inputs : List input.Input) (terms : Terms) (cause : Cause) (answer : Asked) → next_of (is_now kept) (answer_of kept) (uses s.market top) ≡ Ready inputs → terms_at s.market top ≡ Some terms
-        → calc (reading_at s.market top terms inputs) ≡ Err cause → answer ≡ record { cause = Some cause; mark = Fresh; runs = number + 1 }
-        → Asks calc o s (record s { kept = kept }) answer count0 (counted count 1) log0 (logged log ((top, false) ∷ []))
-    faults inputs terms cause answer next there price is =
+    pub faults : (inputs : List input.Input) (terms : Terms) (cause : Cause) (given : Mark) (answer : Asked) → next_of (is_at_hand kept) (answer_of kept) (uses s.market top) ≡ Ready inputs → terms_at s.market top ≡ Some terms
+        → calc (reading_at s.market top terms inputs) ≡ Err cause → answer ≡ record { cause = Some cause; mark = given; runs = number + 1 }
+        → Walks calc o s (record s { kept = kept }) given answer count0 (counted count 1) log0 (logged log ((top, false) ∷ []))
+    faults inputs terms cause given answer next there price is =
         let long = length-append a.calls ((top, Err cause) ∷ []) in
         let more : number + 1 ≡ length (a.calls ++ (top, Err cause) ∷ []) = (let c = a.counts in omega arith) in
-        ends_with (a.calls ++ (top, Err cause) ∷ []) cause kept answer (counted count 1) (logged log ((top, false) ∷ []))
+        ends_with (a.calls ++ (top, Err cause) ∷ []) cause kept given answer (counted count 1) (logged log ((top, false) ∷ []))
         (sym rest_top ∙ finish_fault calc s a.may.whole.links a.calls a.closed (answer_of kept) o top (reverse stack) (busy_of top (inl refl)) answers inputs cause (sym step_is ∙ next) (ap (λ (t : Option Terms). priced calc (reading_over s.market top t (Ok inputs))) there ∙ price))
         (a.stores ∙ stored_fault s a.calls top cause)
-        (is ∙ ap (λ (n : ℕ). record { cause = Some cause; mark = Fresh; runs = n }) more)
+        (is ∙ ap (λ (n : ℕ). record { cause = Some cause; mark = given; runs = n }) more)
         (ap (λ (n : ℕ). counted n 1) a.count_is ∙ counted_more count0 (length a.calls) ∙ ap (counted count0) (sym long))
         (ap (λ (l : Option (List (ℕ × Bool))). logged l ((top, false) ∷ [])) a.log_is ∙ logged_more log0 (log_of a.calls) ((top, false) ∷ []) ∙ ap (logged log0) (sym (log_more a.calls top (Err cause))))
 
     -- the inputs are those that the terms ask for
-    pub fits : (inputs : List input.Input) (terms : Terms) → next_of (is_now kept) (answer_of kept) (uses s.market top) ≡ Ready inputs → terms_at s.market top ≡ Some terms → IsWellFormed (reading_at s.market top terms inputs)
+    pub fits : (inputs : List input.Input) (terms : Terms) → next_of (is_at_hand kept) (answer_of kept) (uses s.market top) ≡ Ready inputs → terms_at s.market top ≡ Some terms → IsWellFormed (reading_at s.market top terms inputs)
     fits inputs terms next there =
         let w = walk_ready calc s (length s.market.objects) a.calls (answer_of kept) inputs (uses s.market top) answers (sym step_is ∙ next) in
         well_formed s.market a.may.kinds (seen calc s) (values_of calc s o a.may) top terms inputs (subst IsRanged there (a.may.ranged top)) (subst (AreOfKind s.market) there (a.may.kinds top)) (subst (λ (t : Option Terms). is_lazy (role_of t) ≡ true) there top_lazy)
         (subst (λ (t : Option Terms). inputs_by (seen calc s) (uses_of (input_at s.market) s.market top t) ≡ Ok inputs) there w.1)
 
     -- what a computation leaves
-    pub faulted : (inputs : List input.Input) (after : List Kept) (cause : Option Cause) (number2 count2 : ℕ) (log2 : Option (List (ℕ × Bool))) (answer : Asked) → next_of (is_now kept) (answer_of kept) (uses s.market top) ≡ Ready inputs
-        → Computes calc s.market top inputs kept after cause count count2 log log2 → is_some cause ≡ true → number2 ≡ number + 1 → answer ≡ record { cause = cause; mark = Fresh; runs = number2 }
-        → Asks calc o s (record s { kept = after }) answer count0 count2 log0 log2
-    faulted inputs after None number2 count2 log2 answer next c is more said = absurd (false≢true is)
-    faulted inputs after (Some cause) number2 count2 log2 answer next c is more said =
+    pub faulted : (inputs : List input.Input) (after : List Kept) (cause : Option Cause) (number2 count2 : ℕ) (log2 : Option (List (ℕ × Bool))) (given : Mark) (answer : Asked) → next_of (is_at_hand kept) (answer_of kept) (uses s.market top) ≡ Ready inputs
+        → Computes calc s.market top inputs kept after cause count count2 log log2 → is_some cause ≡ true → number2 ≡ number + 1 → answer ≡ record { cause = cause; mark = given; runs = number2 }
+        → Walks calc o s (record s { kept = after }) given answer count0 count2 log0 log2
+    faulted inputs after None number2 count2 log2 given answer next c is more said = absurd (false≢true is)
+    faulted inputs after (Some cause) number2 count2 log2 given answer next c is more said =
         let t = lazy_terms (terms_at s.market top) top_lazy in
         let price = c.price t.0 t.1 in
-        subst (λ (k : List Kept). Asks calc o s (record s { kept = k }) answer count0 count2 log0 log2) (sym price.1)
-        (subst (λ (n : ℕ). Asks calc o s (record s { kept = kept }) answer count0 n log0 log2) (sym c.count)
-        (subst (λ (l : Option (List (ℕ × Bool))). Asks calc o s (record s { kept = kept }) answer count0 (counted count 1) log0 l) (sym c.log)
-        (faults inputs t.0 cause answer next t.1 price.0 (said ∙ ap (λ (n : ℕ). record { cause = Some cause; mark = Fresh; runs = n }) more))))
+        subst (λ (k : List Kept). Walks calc o s (record s { kept = k }) given answer count0 count2 log0 log2) (sym price.1)
+        (subst (λ (n : ℕ). Walks calc o s (record s { kept = kept }) given answer count0 n log0 log2) (sym c.count)
+        (subst (λ (l : Option (List (ℕ × Bool))). Walks calc o s (record s { kept = kept }) given answer count0 (counted count 1) log0 l) (sym c.log)
+        (faults inputs t.0 cause given answer next t.1 price.0 (said ∙ ap (λ (n : ℕ). record { cause = Some cause; mark = given; runs = n }) more))))
 
-    pub valued : (inputs : List input.Input) (after : List Kept) (cause : Option Cause) (number2 count2 : ℕ) (log2 : Option (List (ℕ × Bool))) → next_of (is_now kept) (answer_of kept) (uses s.market top) ≡ Ready inputs
+    pub valued : (inputs : List input.Input) (after : List Kept) (cause : Option Cause) (number2 count2 : ℕ) (log2 : Option (List (ℕ × Bool))) → next_of (is_at_hand kept) (answer_of kept) (uses s.market top) ≡ Ready inputs
         → Computes calc s.market top inputs kept after cause count count2 log log2 → is_some cause ≡ false → number2 ≡ number + 1
         → Asking calc s o count0 log0 stack after number2 count2 log2 × (open_of after + 1 ≡ open_of kept)
     valued inputs after (Some cause) number2 count2 log2 next c is more = absurd (false≢true (sym is))
@@ -441,18 +452,18 @@ module _ (calc : Calc) (s : State) (o : ℕ) (count0 : ℕ) (log0 : Option (List
         let r = length-reverse stack in omega arith
 
   -- the loop ends with nothing left to finish
-  pub ends : (kept : List Kept) (number count : ℕ) (log : Option (List (ℕ × Bool))) (answer : Asked) → Asking calc s o count0 log0 [] kept number count log → answer ≡ record { cause = None; mark = Fresh; runs = number }
-      → Asks calc o s (record s { kept = kept }) answer count0 count log0 log
+  pub ends : (kept : List Kept) (number count : ℕ) (log : Option (List (ℕ × Bool))) (given : Mark) (answer : Asked) → Asking calc s o count0 log0 [] kept number count log → answer ≡ record { cause = None; mark = given; runs = number }
+      → Walks calc o s (record s { kept = kept }) given answer count0 count log0 log
   unfolding runs asked finish stored
-  ends kept number count log answer a is =
+  ends kept number count log given answer a is =
       let run : runs calc s o ≡ a.calls = ap (λ (v : Visit). v.calls) (sym a.rest) in
       let state : record s { kept = kept } ≡ asked calc o s = ap (λ (k : List Kept). record s { kept = k }) (a.stores ∙ ap (λ (c : List (ℕ × Outcome)). (stored s c).kept) (sym run)) in
       let value = root_value a.root in
       record {
         state = state;
-        shown = subst (λ (b : Asked). Shows b.cause (kept_at (record s { kept = kept }) o).last (shows calc s o)) (sym is)
-            (subst (λ (l : Option Value). Shows None l (shows calc s o)) (sym (ap (λ (t : State). (kept_at t o).last) state ∙ asked_last calc s o value.0 a.may.whole (fit_of calc s o a.may) a.may.sound.current (free s a.may.unheld o) value.1)) (shows_seen s a.may.whole.links calc o ∙ value.1));
-        mark = ap (λ (b : Asked). b.mark) is ∙ sym (fresh_mark s a.may.unheld o);
+        shown = subst (λ (b : Asked). Shows b.cause (kept_at (record s { kept = kept }) o).last (seen calc s o)) (sym is)
+            (subst (λ (l : Option Value). Shows None l (seen calc s o)) (sym (ap (λ (t : State). (kept_at t o).last) state ∙ asked_last calc s o value.0 a.may.whole (fit_of calc s o a.may) a.may.sound.current a.free value.1)) value.1);
+        mark = ap (λ (b : Asked). b.mark) is;
         number = ap (λ (b : Asked). b.runs) is ∙ a.counts ∙ ap length (sym run);
         count = a.count_is ∙ ap (λ (c : List (ℕ × Outcome)). counted count0 (length c)) (sym run);
         log = a.log_is ∙ ap (λ (c : List (ℕ × Outcome)). logged log0 (log_of c)) (sym run);
@@ -463,61 +474,16 @@ module _ (calc : Calc) (s : State) (o : ℕ) (count0 : ℕ) (log0 : Option (List
       root_value (inr idle) = elim (cases_Bool (has_value a.calls o)) [
         | inl has ↦ let r = a.closed o has in (r.value, r.seen)
         | inr none ↦
-            let current = idle_current s a.calls o idle (free s a.may.unheld o) none in
-            elim (a.may.sound.current o current) [
-              | inl source ↦ absurd ((fit_of calc s o a.may).source o source (free s a.may.unheld o))
-              | inr priced ↦ (priced.value, shows_last calc s a.may.whole.links (fit_of calc s o a.may) a.may.sound.current o current (free s a.may.unheld o) ∙ ap (last_of o) priced.last)
-            ]
+            let current = idle_current s a.calls o idle a.free none in
+            let last = current_last calc s o a.may a.free current in
+            (last.0, shows_last calc s a.may.whole.links (fit_of calc s o a.may) a.may.sound.current o current a.free ∙ ap (last_of o) last.1)
       ]
-
-  -- an object that is current ends it at once
-  pub ends_at_once : (answer : Asked) → MayAsk calc s o → (kept_at s o).current ≡ true → answer ≡ record { cause = None; mark = Fresh; runs = 0 } → Asks calc o s s answer count0 count0 log0 log0
-  unfolding finish stored
-  ends_at_once answer may current is = ends s.kept 0 count0 log0 answer (record {
-    may = may;
-    ranks = ranks_of s.market may.whole.links;
-    calls = [];
-    stores = sym (each_id 0 s.kept);
-    closed = λ x e. absurd (cc);
-    gets = λ x e. absurd (cc);
-    rest = sym (idle_visit calc s (suc (length s.market.objects)) [] o idle);
-    busy = λ x among. absurd among;
-    lazy = λ x among. absurd among;
-    rising = tt;
-    root = inr idle;
-    counts = refl;
-    bound = let le = open_le s.kept in omega arith;
-    count_is = refl;
-    log_is = log_none log0;
-  }) is
-    where
-      idle : is_idle s [] o ≡ true
-      idle = idle_is s [] o may.unheld ∙ ap (λ (b : Bool). b || false) current
-
-      log_none : (log : Option (List (ℕ × Bool))) → log ≡ logged log []
-      log_none None = refl
-      log_none (Some entries) = ap Some (sym (append-nil entries))
-
--- flags stay
-unheld_stored : (calc : Calc) (s : State) (o : ℕ) → MayAsk calc s o → (calls : List (ℕ × Outcome)) → IsClosed calc s calls → IsUnheld (stored s calls)
-unfolding is_frozen is_source
-unheld_stored calc s o may calls closed = record {
-  frozen = λ x. elim (cases_Bool (has_value calls x)) [
-    | inl has ↦ ap (λ (k : Kept). k.frozen) (got calc s may.whole calls closed x has) ∙ may.unheld.frozen x
-    | inr none ↦ ap (λ (k : Kept). k.frozen) (stored_not s calls x none) ∙ may.unheld.frozen x
-  ];
-  sources = λ x. elim (cases_Bool (has_value calls x)) [
-    | inl has ↦ ap (λ (k : Kept). k.source) (got calc s may.whole calls closed x has) ∙ may.unheld.sources x
-    | inr none ↦ ap (λ (k : Kept). k.source) (stored_not s calls x none) ∙ may.unheld.sources x
-  ];
-}
 
 -- what was computed so far may stand
 pub left : (calc : Calc) (s : State) (o count0 : ℕ) (log0 : Option (List (ℕ × Bool))) (stack : List ℕ) (kept : List Kept) (number count : ℕ) (log : Option (List (ℕ × Bool))) → Asking calc s o count0 log0 stack kept number count log → Stays calc (record s { kept = kept })
 unfolding stored
 left calc s o count0 log0 stack kept number count log a = subst (λ (k : List Kept). Stays calc (record s { kept = k })) (sym a.stores) (record {
   whole = whole_stored calc s a.may.whole a.calls a.closed (fit_of calc s o a.may) a.may.sound.current a.gets (values_of calc s o a.may);
-  unheld = unheld_stored calc s o a.may a.calls a.closed;
   sound = sound_stored calc s a.calls a.may.whole a.closed (fit_of calc s o a.may) a.may.sound;
 })
 

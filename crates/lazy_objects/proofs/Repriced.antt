@@ -1,5 +1,5 @@
 -- The graph of a desk after another engine of an instrument.
-use Rattle.std.proofs.Common.{◌≡◌, ◌≢◌, ◌⊎◌, inl, inr, ◌<◌, ℕ, suc, true, false, List, [], ◌∷◌, ◌++◌, length, Option, None, Some, refl, sym, ◌∙◌, ap, subst}
+use Rattle.std.proofs.Common.{◌≡◌, ◌≢◌, ◌⊎◌, inl, inr, ◌<◌, ℕ, suc, Bool, true, false, List, [], ◌∷◌, ◌++◌, length, Option, None, Some, refl, sym, ◌∙◌, ap, subst}
 use Rattle.std.specs.Prelude.{ℤ, ◌↔◌, ◌==◌, slice_index_or, slice_set, is_some, IfSome}
 use Rattle.std.specs.List.{list_any}
 use Rattle.std.specs.Option.{option_eq}
@@ -26,10 +26,9 @@ use Rattle.desk_model.specs.declared.slot.Slot.TheVariants.{Live, Free, Today, W
 use Rattle.desk_model.specs.Market.{Market, slot_at, terms_at, terms_in, kind_in, kind_at, named, is_observable, edges_of, edges}
 use Rattle.desk_model.specs.Held.{changeable}
 use Rattle.desk_model.specs.State.{State}
-use Rattle.desk_model.specs.Told.{tell}
 use Rattle.desk_model.specs.Links.{IsLinked, IsKinded, AreOfKind, Serve, serves_as, reaches}
 use Rattle.desk_model.specs.Laws.{MayLink, Keeps}
-use Rattle.desk_model.specs.Effect.{number_eq, revised, priced_by_engine, engine_set}
+use Rattle.desk_model.specs.Effect.{number_eq, notified, revised, priced_by_engine, engine_set}
 use Rattle.desk_model.proofs.Edges.{edge_input, input_edge, today_edge}
 use Rattle.desk_model.proofs.Commands.{kind_there, engine_keeps}
 use Rattle.desk_model.proofs.KindsKept.{engine_kinded}
@@ -41,9 +40,9 @@ use Rattle.lazy_objects.specs.Store.{StoreView, JoinsAny, LeavesAny, Moves}
 use Rattle.lazy_objects.specs.Scratch.{ScratchView}
 use Rattle.lazy_objects.specs.Stands.{Stands}
 use Rattle.lazy_objects.proofs.Joined.{joined_set, there_seen}
-use Rattle.lazy_objects.proofs.Linked.{same_target, joins_pairs, leaves_pairs, joins_roles, leaves_roles, linked_before}
+use Rattle.lazy_objects.proofs.Linked.{same_target, joins_pairs, leaves_pairs, joins_roles, leaves_roles, joins_switch, leaves_switch, linked_before}
 use Rattle.lazy_objects.proofs.Revised.{Changed, After, kind_within}
-use Rattle.lazy_objects.proofs.Telling.{revised_told}
+use Rattle.lazy_objects.proofs.Telling.{revised_told, kept_state}
 use Rattle.lazy_objects.proofs.Commanded.{engine_stands, commanded}
 
 -- what is named as a member is named as nothing else
@@ -209,6 +208,7 @@ moved held target i old middle new differs joins leaves =
     let less = leaves_pairs held i middle new leaves in
     record {
       kept = (leaves_roles held i middle new leaves).0 ∙ (joins_roles target i old middle joins).0;
+      switch = leaves_switch held i middle new leaves ∙ joins_switch target i old middle joins;
       roles = (leaves_roles held i middle new leaves).1 ∙ (joins_roles target i old middle joins).1;
       own = λ x. (
         λ a. let p = (less x i).0 a in elim ((more x i).0 p.0) [ inl was ↦ inl (was, λ e. p.1 (e, refl)) | inr q ↦ inr q.0 ],
@@ -326,21 +326,21 @@ engine_as : (s : State) (i : ℕ) (flows : FlowTerms) (held engine : Option ℕ)
 unfolding engine_set
 engine_as s i flows held engine is = ap (λ (t : Option Terms). priced_by_engine (changeable t) i engine s) is
 
-module _ (today : ℤ) (slots : List Slot) (kept : List Kept) (scratch : ScratchView) (stands : Stands (state_of today slots kept) scratch) (i : ℕ) (flows : FlowTerms) (held engine : Option ℕ)
+module _ (today : ℤ) (slots : List Slot) (kept : List Kept) (on : Bool) (scratch : ScratchView) (stands : Stands (state_of today slots kept on) scratch) (i : ℕ) (flows : FlowTerms) (held engine : Option ℕ)
     (is : terms_in (slice_index_or slots i Free) ≡ Some (terms_of.Flows flows held)) (instrument : kind_at (market_of today slots) i ≡ Some kind.Flows) (serve : Serve (market_of today slots) (optional_reference wanted.Engine engine)) where
-  changed : engine_set i engine (state_of today slots kept) ≡ revised i (terms_of.Flows flows engine) (state_of today slots kept)
-  changed = engine_as (state_of today slots kept) i flows held engine is
+  changed : engine_set i engine (state_of today slots kept on) ≡ revised i (terms_of.Flows flows engine) (state_of today slots kept on)
+  changed = engine_as (state_of today slots kept on) i flows held engine is
 
-  keeps : Keeps (state_of today slots kept) (engine_set i engine (state_of today slots kept))
-  keeps = engine_keeps (state_of today slots kept) stands.whole i engine (engine_may (market_of today slots) stands.kinds stands.whole.today i instrument engine serve)
+  keeps : Keeps (state_of today slots kept on) (engine_set i engine (state_of today slots kept on))
+  keeps = engine_keeps (state_of today slots kept on) stands.whole i engine (engine_may (market_of today slots) stands.kinds stands.whole.today i instrument engine serve)
 
   pub engine_links : IsLinked (market_of today (slice_set slots i (Live (terms_of.Flows flows engine))))
-  engine_links = linked_before i (terms_of.Flows flows engine) today slots kept (subst (λ (t : State). IsLinked t.market) changed keeps.whole.links)
+  engine_links = linked_before i (terms_of.Flows flows engine) today slots kept on (subst (λ (t : State). IsLinked t.market) changed keeps.whole.links)
 
-  pub engine_changed : (new : State) → new ≡ revised i (terms_of.Flows flows engine) (state_of today slots kept) → Changed (state_of today slots kept) new (engine_set i engine (state_of today slots kept)) scratch
+  pub engine_changed : (new : State) → new ≡ revised i (terms_of.Flows flows engine) (state_of today slots kept on) → Changed (state_of today slots kept on) new (engine_set i engine (state_of today slots kept on)) scratch
   engine_changed new e =
-      commanded today slots kept scratch stands (engine_set i engine (state_of today slots kept)) new keeps
-      (engine_stands today slots kept scratch stands i engine keeps.whole (engine_kinded (state_of today slots kept) stands.whole stands.kinds i engine serve)) (e ∙ sym changed)
+      commanded today slots kept on scratch stands (engine_set i engine (state_of today slots kept on)) new keeps
+      (engine_stands today slots kept on scratch stands i engine keeps (engine_kinded (state_of today slots kept on) stands.whole stands.kinds i engine serve)) (e ∙ sym changed)
 
 -- the terms of an instrument
 pub flows_there : (m : Market) (i : ℕ) → kind_at m i ≡ Some kind.Flows → (flows : FlowTerms) × (held : Option ℕ) × (terms_at m i ≡ Some (terms_of.Flows flows held))
@@ -369,15 +369,15 @@ priced_there m i is e held =
 
 -- what an engine that is set leaves of a desk
 pub engine_left : (today : ℤ) (slots slots2 : List Slot) (old middle new : StoreView) (scratch : ScratchView) (i : ℕ) (flows : FlowTerms) (held engine : Option ℕ)
-    → Stands (state_of today slots old.kept) scratch → IsJoined (market_of today slots) old.shape → terms_in (slice_index_or slots i Free) ≡ Some (terms_of.Flows flows held)
+    → Stands (state_of today slots old.kept old.deferring) scratch → IsJoined (market_of today slots) old.shape → terms_in (slice_index_or slots i Free) ≡ Some (terms_of.Flows flows held)
     → kind_at (market_of today slots) i ≡ Some kind.Flows → Serve (market_of today slots) (optional_reference wanted.Engine engine)
     → slots2 ≡ slice_set slots i (Live (terms_of.Flows flows engine)) → Moves held engine i old middle
-    → state_of today slots2 new.kept ≡ tell (λ y. y == i) (outdated i (state_of today slots2 middle.kept)) → new.shape ≡ middle.shape
-    → After (state_of today slots old.kept) (state_of today slots2 new.kept) (engine_set i engine (state_of today slots old.kept)) scratch new.shape
+    → state_of today slots2 new.kept new.deferring ≡ notified i (outdated i (state_of today slots2 middle.kept middle.deferring)) → new.shape ≡ middle.shape
+    → After (state_of today slots old.kept old.deferring) (state_of today slots2 new.kept new.deferring) (engine_set i engine (state_of today slots old.kept old.deferring)) scratch new.shape
 engine_left today slots slots2 old middle new scratch i flows held engine stands joined is instrument serve are moves told same = record {
-  changed = engine_changed today slots old.kept scratch stands i flows held engine is instrument serve (state_of today slots2 new.kept)
-      (revised_told today slots slots2 old.kept (state_of today slots2 new.kept) i (terms_of.Flows flows engine) are
-      (told ∙ ap (λ (k : List Kept). tell (λ y. y == i) (outdated i (state_of today slots2 k))) moves.kept));
+  changed = engine_changed today slots old.kept old.deferring scratch stands i flows held engine is instrument serve (state_of today slots2 new.kept new.deferring)
+      (revised_told today slots slots2 old.kept old.deferring (state_of today slots2 new.kept new.deferring) i (terms_of.Flows flows engine) are
+      (told ∙ ap (λ (s : State). notified i (outdated i s)) (kept_state today slots2 old middle (record { kept = moves.kept; switch = moves.switch }))));
   joined = subst (IsJoined (market_of today slots2)) (sym same)
       (subst (λ (l : List Slot). IsJoined (market_of today l) middle.shape) (sym are)
       (joined_repriced today slots i flows held old joined is stands.kinds stands.whole.today engine middle (kind_within slots today i kind.Flows instrument) moves));

@@ -67,6 +67,7 @@ module _ (k m : ℕ) (weight : ℤ) (parts : List Part) (old : StoreView) (watch
   pub rewatched_less : (new : StoreView) → int_eq weight (pos 0) ≡ true → Leaves old new m k → IsRewatched k (with_member parts m weight) old new
   rewatched_less new none leaves = record {
     kept = leaves.kept;
+    switch = leaves.switch;
     roles = leaves.roles;
     own = λ x. subst (λ (l : List Part). Among x (observed_by new.shape k) ↔ Among x (members l)) (sym (ap (λ (b : Bool). if b then without_member parts m else if has_member parts m then reweighted parts m weight else parts ++ record { weight = weight; member = m } ∷ []) none)) (
       λ a. let p = (leaves.pairs x k).0 a in without_back parts m x ((watched x).0 p.0) (λ e. p.1 (e, refl)),
@@ -78,6 +79,7 @@ module _ (k m : ℕ) (weight : ℤ) (parts : List Part) (old : StoreView) (watch
   pub rewatched_same : int_eq weight (pos 0) ≡ false → has_member parts m ≡ true → IsRewatched k (with_member parts m weight) old old
   rewatched_same some there = record {
     kept = refl;
+    switch = refl;
     roles = refl;
     own = λ x. subst (λ (l : List Part). Among x (observed_by old.shape k) ↔ Among x (members l))
         (sym (ap (λ (b : Bool). if b then without_member parts m else if has_member parts m then reweighted parts m weight else parts ++ record { weight = weight; member = m } ∷ []) some
@@ -89,6 +91,7 @@ module _ (k m : ℕ) (weight : ℤ) (parts : List Part) (old : StoreView) (watch
   pub rewatched_more : (new : StoreView) → int_eq weight (pos 0) ≡ false → has_member parts m ≡ false → Joins old new m k → IsRewatched k (with_member parts m weight) old new
   rewatched_more new some none joins = record {
     kept = joins.kept;
+    switch = joins.switch;
     roles = joins.roles;
     own = λ x. subst (λ (l : List Part). Among x (observed_by new.shape k) ↔ Among x (members l))
         (sym (ap (λ (b : Bool). if b then without_member parts m else if has_member parts m then reweighted parts m weight else parts ++ record { weight = weight; member = m } ∷ []) some

@@ -1,6 +1,6 @@
 -- What stands after a fixing.
-use Rattle.std.proofs.Common.{◌≡◌, ◌<◌, ℕ, true, length, Option, Some, refl, sym, ◌∙◌, ap, subst}
-use Rattle.std.specs.Prelude.{ℤ, List, Result, Err, ◌==◌, ◌↔◌, slice_index_or, slice_set}
+use Rattle.std.proofs.Common.{◌≡◌, ◌<◌, ℕ, Bool, true, length, Option, Some, refl, sym, ◌∙◌, ap, subst}
+use Rattle.std.specs.Prelude.{ℤ, List, Result, Err, ◌↔◌, slice_index_or, slice_set}
 use Rattle.walks.specs.Walk.{Among}
 use Rattle.flow_terms.specs.declared.indexes.IndexTerms.{IndexTerms}
 use Rattle.flow_terms.specs.declared.fixings.FixFault.{FixFault}
@@ -17,10 +17,9 @@ use Rattle.desk_model.specs.Market.{Market, slot_at, terms_at, terms_in, kind_in
 use Rattle.desk_model.specs.Held.{changeable}
 use Rattle.desk_model.specs.Uses.{index_in, index_at, fixings_in}
 use Rattle.desk_model.specs.State.{State}
-use Rattle.desk_model.specs.Told.{tell}
 use Rattle.desk_model.specs.Links.{IsLinked}
 use Rattle.desk_model.specs.Laws.{Keeps}
-use Rattle.desk_model.specs.Effect.{revised, fixing_stored, fixing_added}
+use Rattle.desk_model.specs.Effect.{notified, revised, fixing_stored, fixing_added}
 use Rattle.desk_model.proofs.Commands.{fixing_keeps}
 use Rattle.desk_model.proofs.KindsKept.{fixing_kinded}
 use Rattle.observer_graph.specs.declared.node.Role.TheVariants.{Forwarder}
@@ -93,31 +92,32 @@ fixing_as : (s : State) (x : ℕ) (terms : IndexTerms) (fixings : Stored) (day r
 unfolding fixing_added
 fixing_as s x terms fixings day rate is = ap (λ (t : Option Terms). fixing_stored (changeable t) x day rate s) is
 
-module _ (today : ℤ) (slots : List Slot) (kept : List Kept) (scratch : ScratchView) (stands : Stands (state_of today slots kept) scratch) (x : ℕ) (terms : IndexTerms) (fixings : Stored) (day rate : ℤ)
+module _ (today : ℤ) (slots : List Slot) (kept : List Kept) (on : Bool) (scratch : ScratchView) (stands : Stands (state_of today slots kept on) scratch) (x : ℕ) (terms : IndexTerms) (fixings : Stored) (day rate : ℤ)
     (is : terms_in (slice_index_or slots x Free) ≡ Some (terms_of.Index terms fixings)) where
-  changed : fixing_added x day rate (state_of today slots kept) ≡ revised x (terms_of.Index terms (with_fixing fixings day rate)) (state_of today slots kept)
-  changed = fixing_as (state_of today slots kept) x terms fixings day rate is
+  changed : fixing_added x day rate (state_of today slots kept on) ≡ revised x (terms_of.Index terms (with_fixing fixings day rate)) (state_of today slots kept on)
+  changed = fixing_as (state_of today slots kept on) x terms fixings day rate is
 
-  keeps : Keeps (state_of today slots kept) (fixing_added x day rate (state_of today slots kept))
-  keeps = fixing_keeps (state_of today slots kept) stands.whole x day rate
+  keeps : Keeps (state_of today slots kept on) (fixing_added x day rate (state_of today slots kept on))
+  keeps = fixing_keeps (state_of today slots kept on) stands.whole x day rate
 
   pub fixing_links : IsLinked (market_of today (slice_set slots x (Live (terms_of.Index terms (with_fixing fixings day rate)))))
-  fixing_links = linked_before x (terms_of.Index terms (with_fixing fixings day rate)) today slots kept (subst (λ (t : State). IsLinked t.market) changed keeps.whole.links)
+  fixing_links = linked_before x (terms_of.Index terms (with_fixing fixings day rate)) today slots kept on (subst (λ (t : State). IsLinked t.market) changed keeps.whole.links)
 
-  pub fixing_changed : (new : State) → new ≡ revised x (terms_of.Index terms (with_fixing fixings day rate)) (state_of today slots kept)
-      → Changed (state_of today slots kept) new (fixing_added x day rate (state_of today slots kept)) scratch
+  pub fixing_changed : (new : State) → new ≡ revised x (terms_of.Index terms (with_fixing fixings day rate)) (state_of today slots kept on)
+      → Changed (state_of today slots kept on) new (fixing_added x day rate (state_of today slots kept on)) scratch
   fixing_changed new e =
-      commanded today slots kept scratch stands (fixing_added x day rate (state_of today slots kept)) new keeps
-      (fixing_stands today slots kept scratch stands x day rate keeps.whole (fixing_kinded (state_of today slots kept) stands.whole stands.kinds x day rate)) (e ∙ sym changed)
+      commanded today slots kept on scratch stands (fixing_added x day rate (state_of today slots kept on)) new keeps
+      (fixing_stands today slots kept on scratch stands x day rate keeps (fixing_kinded (state_of today slots kept on) stands.whole stands.kinds x day rate)) (e ∙ sym changed)
 
 -- what a fixing that is stored leaves of a desk
 pub fixing_left : (today : ℤ) (slots slots2 : List Slot) (old new : StoreView) (scratch : ScratchView) (x : ℕ) (terms : IndexTerms) (fixings : Stored) (day rate : ℤ)
-    → Stands (state_of today slots old.kept) scratch → IsJoined (market_of today slots) old.shape → x < length slots → terms_in (slice_index_or slots x Free) ≡ Some (terms_of.Index terms fixings)
-    → slots2 ≡ slice_set slots x (Live (terms_of.Index terms (with_fixing fixings day rate))) → state_of today slots2 new.kept ≡ tell (λ y. y == x) (outdated x (state_of today slots2 old.kept)) → new.shape ≡ old.shape
-    → After (state_of today slots old.kept) (state_of today slots2 new.kept) (fixing_added x day rate (state_of today slots old.kept)) scratch new.shape
+    → Stands (state_of today slots old.kept old.deferring) scratch → IsJoined (market_of today slots) old.shape → x < length slots → terms_in (slice_index_or slots x Free) ≡ Some (terms_of.Index terms fixings)
+    → slots2 ≡ slice_set slots x (Live (terms_of.Index terms (with_fixing fixings day rate)))
+    → state_of today slots2 new.kept new.deferring ≡ notified x (outdated x (state_of today slots2 old.kept old.deferring)) → new.shape ≡ old.shape
+    → After (state_of today slots old.kept old.deferring) (state_of today slots2 new.kept new.deferring) (fixing_added x day rate (state_of today slots old.kept old.deferring)) scratch new.shape
 fixing_left today slots slots2 old new scratch x terms fixings day rate stands joined within is are told same = record {
-  changed = fixing_changed today slots old.kept scratch stands x terms fixings day rate is (state_of today slots2 new.kept)
-      (revised_told today slots slots2 old.kept (state_of today slots2 new.kept) x (terms_of.Index terms (with_fixing fixings day rate)) are told);
+  changed = fixing_changed today slots old.kept old.deferring scratch stands x terms fixings day rate is (state_of today slots2 new.kept new.deferring)
+      (revised_told today slots slots2 old.kept old.deferring (state_of today slots2 new.kept new.deferring) x (terms_of.Index terms (with_fixing fixings day rate)) are told);
   joined = subst (IsJoined (market_of today slots2)) (sym same)
       (subst (λ (l : List Slot). IsJoined (market_of today l) old.shape) (sym are) (joined_fixing today slots old.shape x terms fixings (with_fixing fixings day rate) joined within is));
 }

@@ -3,7 +3,6 @@ use Rattle.std.proofs.Common.{◌≡◌, ◌≢◌, ◌⊎◌, inl, inr, ℕ, Bo
 use Rattle.std.specs.Prelude.{ℤ, pos, if◌then◌else◌}
 use Rattle.std.specs.Ordering.{int_eq}
 use Rattle.std.proofs.lemmas.Bool.{false≢true}
-use Rattle.desk_terms.specs.declared.terms.Terms.{Terms}
 use Rattle.desk_terms.specs.declared.terms.Terms.TheVariants as terms_of
 use Rattle.desk_terms.specs.declared.terms.Part.{Part}
 use Rattle.desk_terms.specs.declared.terms.HandleKind.TheVariants as handle
@@ -16,10 +15,9 @@ use Rattle.desk_model.specs.Market.{Market, kind_at, kind_in, terms_in, slot_at,
 use Rattle.desk_model.specs.Held.{Changeable, changeable, weight_of, with_member}
 use Rattle.desk_model.specs.Held.Changeable.{HasParts}
 use Rattle.desk_model.specs.State.{State}
-use Rattle.desk_model.specs.Told.{tell}
 use Rattle.desk_model.specs.Links.{IsLinked, IsKinded, serves_as, reaches}
 use Rattle.desk_model.specs.Laws.{Keeps, MayLink}
-use Rattle.desk_model.specs.Effect.{with_terms, notified, revised, weight_set, member_set}
+use Rattle.desk_model.specs.Effect.{with_terms, revised, weight_set, member_set}
 use Rattle.desk_model.specs.Sound.{IsSound, KeepsCurrent}
 use Rattle.desk_model.proofs.Carried.{sound_kept}
 use Rattle.desk_model.proofs.Commands.{member_keeps}
@@ -28,6 +26,7 @@ use Rattle.lazy_objects.specs.Slots.{market_of, state_of}
 use Rattle.lazy_objects.specs.Scratch.{ScratchView}
 use Rattle.lazy_objects.specs.Parts.{parts_in}
 use Rattle.lazy_objects.specs.Stands.{Stands}
+use Rattle.lazy_objects.proofs.Linked.{linked_before}
 use Rattle.lazy_objects.proofs.Revised.{Changed, revised_stands}
 
 -- where a composite stands, its parts do
@@ -70,34 +69,29 @@ module _ (s : State) (k member : ℕ) (weight : ℤ) (is : kind_at s.market k �
   weight_as b e = ap (λ (c : Changeable). weight_set c k member weight s) (by_slot (slot_at s.market k) is)
       ∙ ap (λ (c : Bool). if c then s else revised k (terms_of.Composite (with_member (parts_in (slot_at s.market k)) member weight)) s) e
 
--- a change tells nothing of the market but the terms
-linked_before : (k : ℕ) (terms : Terms) (today : ℤ) (slots : List Slot) (kept : List Kept) → IsLinked (revised k terms (state_of today slots kept)).market → IsLinked (with_terms k terms (state_of today slots kept)).market
-unfolding revised notified tell
-linked_before k terms today slots kept links = links
-
-module _ (today : ℤ) (slots : List Slot) (kept : List Kept) (scratch : ScratchView) (stands : Stands (state_of today slots kept) scratch) (k member : ℕ) (weight : ℤ)
+module _ (today : ℤ) (slots : List Slot) (kept : List Kept) (on : Bool) (scratch : ScratchView) (stands : Stands (state_of today slots kept on) scratch) (k member : ℕ) (weight : ℤ)
     (may : MayWeigh (market_of today slots) k member weight) (differs : int_eq (weight_of (parts_in (slot_at (market_of today slots) k)) member) weight ≡ false)
     (parts : List Part) (reweighed : parts ≡ with_member (parts_in (slot_at (market_of today slots) k)) member weight) where
   abbrev changed : State
-  changed = revised k (terms_of.Composite parts) (state_of today slots kept)
+  changed = revised k (terms_of.Composite parts) (state_of today slots kept on)
 
-  same : member_set k member weight (state_of today slots kept) ≡ changed
-  same = weight_as (state_of today slots kept) k member weight may.0 false differs ∙ ap (λ (p : List Part). revised k (terms_of.Composite p) (state_of today slots kept)) (sym reweighed)
+  same : member_set k member weight (state_of today slots kept on) ≡ changed
+  same = weight_as (state_of today slots kept on) k member weight may.0 false differs ∙ ap (λ (p : List Part). revised k (terms_of.Composite p) (state_of today slots kept on)) (sym reweighed)
 
-  keeps : Keeps (state_of today slots kept) changed
-  keeps = subst (Keeps (state_of today slots kept)) same (member_keeps (state_of today slots kept) stands.whole k member weight (may_link (market_of today slots) k member weight may.1 may.2))
+  keeps : Keeps (state_of today slots kept on) changed
+  keeps = subst (Keeps (state_of today slots kept on)) same (member_keeps (state_of today slots kept on) stands.whole k member weight (may_link (market_of today slots) k member weight may.1 may.2))
 
   kinded : IsKinded changed.market
-  kinded = subst (λ (t : State). IsKinded t.market) same (member_kinded (state_of today slots kept) stands.whole stands.kinds k member weight (λ some. may.1))
+  kinded = subst (λ (t : State). IsKinded t.market) same (member_kinded (state_of today slots kept on) stands.whole stands.kinds k member weight (λ some. may.1))
 
-  pub member_links : IsLinked (with_terms k (terms_of.Composite parts) (state_of today slots kept)).market
-  member_links = linked_before k (terms_of.Composite parts) today slots kept keeps.whole.links
+  pub member_links : IsLinked (with_terms k (terms_of.Composite parts) (state_of today slots kept on)).market
+  member_links = linked_before k (terms_of.Composite parts) today slots kept on keeps.whole.links
 
-  pub member_changed : (new : State) → new ≡ revised k (terms_of.Composite parts) (state_of today slots kept)
-      → Changed (state_of today slots kept) new (member_set k member weight (state_of today slots kept)) scratch
+  pub member_changed : (new : State) → new ≡ revised k (terms_of.Composite parts) (state_of today slots kept on)
+      → Changed (state_of today slots kept on) new (member_set k member weight (state_of today slots kept on)) scratch
   member_changed new e = record {
-    stands = subst (λ (t : State). Stands t scratch) (sym e) (revised_stands today slots kept scratch stands k (terms_of.Composite parts) may.0 tt keeps.whole kinded);
+    stands = subst (λ (t : State). Stands t scratch) (sym e) (revised_stands today slots kept on scratch stands k (terms_of.Composite parts) may.0 tt keeps kinded);
     state = e ∙ sym same;
-    keeps = subst (KeepsCurrent (state_of today slots kept)) (sym e) keeps.current;
-    sound = λ calc sound. subst (IsSound calc) (sym e) (sound_kept calc (state_of today slots kept) changed keeps.current sound);
+    keeps = subst (KeepsCurrent (state_of today slots kept on)) (sym e) keeps.current;
+    sound = λ calc sound. subst (IsSound calc) (sym e) (sound_kept calc (state_of today slots kept on) changed keeps.current sound);
   }

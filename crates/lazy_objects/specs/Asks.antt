@@ -1,9 +1,12 @@
 -- What one ask does.
-use Rattle.std.specs.Prelude.{◌≡◌, ◌≢◌, ◌⊎◌, ◌++◌, ◌+◌, ◌≤◌, ◌^◌, ℕ, Bool, true, false, List, [], ◌∷◌, length, Option, Some, None, Ok, Err, slice_index_or, slice_set, is_none}
+use Rattle.std.specs.Prelude.{◌≡◌, ◌≢◌, ◌⊎◌, ◌++◌, ◌+◌, ◌≤◌, ◌^◌, ℕ, Bool, true, List, [], ◌∷◌, length, Option, Some, None, Ok, Err, slice_index_or, slice_set, is_none, if◌then◌else◌}
 use Rattle.desk_terms.specs.declared.terms.Terms.{Terms}
 use Rattle.desk_terms.specs.declared.value.Value.{Value}
 use Rattle.desk_terms.specs.declared.value.Input as input
 use Rattle.desk_terms.specs.declared.cause.Cause.{Cause}
+use Rattle.desk_terms.specs.declared.cause.Cause.TheVariants.{Unpriced}
+use Rattle.desk_terms.specs.declared.asked.Mark.{Mark}
+use Rattle.desk_terms.specs.declared.asked.Mark.TheVariants.{Fresh, Held}
 use Rattle.desk_terms.specs.declared.asked.Asked.{Asked}
 use Rattle.desk_terms.specs.Reading.{Outcome, Reading, Calc, IsFitting}
 use Rattle.desk_terms.specs.Asked.{Shows}
@@ -11,7 +14,7 @@ use Rattle.desk_terms.specs.Bench.{counted, logged}
 use Rattle.desk_model.specs.declared.kept.Kept.{Kept}
 use Rattle.desk_model.specs.Market.{Market, terms_at}
 use Rattle.desk_model.specs.Uses.{reading_at}
-use Rattle.desk_model.specs.State.{State, kept_at, unpriced, is_frozen, is_source, shows, mark_of}
+use Rattle.desk_model.specs.State.{State, kept_at, unpriced, seen, shows, mark_of}
 use Rattle.desk_model.specs.Visit.{log_of, with_value, runs, stored, asked}
 use Rattle.desk_model.specs.Links.{IsWhole, IsKinded, AreRanged, is_lazy_at}
 use Rattle.desk_model.specs.Sound.{IsSound}
@@ -26,6 +29,24 @@ pub record Asks (calc : Calc) (o : ℕ) (old new : State) (answer : Asked) (coun
   pub count : count_new ≡ counted count_old (length (runs calc old o))
   pub log : log_new ≡ logged log_old (log_of (runs calc old o))
 
+-- A walk that computed what an ask of o computes, and that was answered with this mark.
+pub record Walks (calc : Calc) (o : ℕ) (old new : State) (given : Mark) (answer : Asked) (count_old count_new : ℕ) (log_old log_new : Option (List (ℕ × Bool))) : Type 0 where
+  pub state : new ≡ asked calc o old
+  pub shown : Shows answer.cause (kept_at new o).last (seen calc old o)
+  pub mark : answer.mark ≡ given
+  pub number : answer.runs ≡ length (runs calc old o)
+  pub count : count_new ≡ counted count_old (length (runs calc old o))
+  pub log : log_new ≡ logged log_old (log_of (runs calc old o))
+
+-- why an object that answers its last value has none to answer
+abbrev pub lacking : ℕ → Option Value → Option Cause
+lacking o (Some value) = None
+lacking o None = Some (Unpriced o)
+
+-- the mark of an object that is neither frozen nor late
+abbrev pub walk_mark : Bool → Mark
+walk_mark clear = if clear then Fresh else Held
+
 -- An ask for which memory ran out: a front of its calls was made, and what they computed stays. Where the bench itself ran
 -- out of memory, it counts one call more.
 pub record Stops (calc : Calc) (o : ℕ) (old new : State) (count_old count_new : ℕ) (log_old log_new : Option (List (ℕ × Bool))) : Type 0 where
@@ -36,15 +57,9 @@ pub record Stops (calc : Calc) (o : ℕ) (old new : State) (count_old count_new 
   pub count : (count_new ≡ counted count_old (length front)) ⊎ ((rest ≢ []) × (count_new ≡ counted count_old (length front + 1)))
   pub log : log_new ≡ logged log_old (log_of front)
 
--- no object is frozen, and none holds a notice back: no command does either yet
-pub record IsUnheld (s : State) : Type 0 where
-  pub frozen : (x : ℕ) → is_frozen s x ≡ false
-  pub sources : (x : ℕ) → is_source s x ≡ false
-
 -- an object that may be asked for, in a state that is whole and sound, of a bench whose prices fit
 pub record MayAsk (calc : Calc) (s : State) (o : ℕ) : Type 0 where
   pub whole : IsWhole s
-  pub unheld : IsUnheld s
   pub sound : IsSound calc s
   pub kinds : IsKinded s.market
   pub ranged : AreRanged s.market
@@ -55,7 +70,6 @@ pub record MayAsk (calc : Calc) (s : State) (o : ℕ) : Type 0 where
 -- what stands on each exit of an ask, also where memory ran out half way
 pub record Stays (calc : Calc) (new : State) : Type 0 where
   pub whole : IsWhole new
-  pub unheld : IsUnheld new
   pub sound : IsSound calc new
 
 -- one computation: the value is stored, or the cause is answered

@@ -1,5 +1,5 @@
 -- How far the members of composites were read.
-use Rattle.std.specs.Prelude.{◌≡◌, ◌≤◌, ℕ, true, List, [], ◌∷◌, length, take, Option, Some, None, Ok, slice_index_or}
+use Rattle.std.specs.Prelude.{◌≡◌, ◌≤◌, ℕ, true, List, [], ◌∷◌, length, take, Option, Some, None, Ok, slice_index_or, Bool, ◌||◌}
 use Rattle.desk_terms.specs.declared.terms.Terms.{Terms}
 use Rattle.desk_terms.specs.declared.terms.Terms.TheVariants.{Quote, Derived, Handle, Curve, Implied, Index, Engine, Stock, Composite, Flows}
 use Rattle.desk_terms.specs.declared.terms.Part.{Part}
@@ -8,11 +8,16 @@ use Rattle.desk_model.specs.declared.kept.Kept.{Kept}
 use Rattle.desk_model.specs.declared.slot.Slot.{Slot}
 use Rattle.desk_model.specs.declared.slot.Slot.TheVariants.{Free}
 use Rattle.desk_model.specs.Market.{terms_in}
-use Rattle.lazy_objects.specs.Slots.{is_now, answer_of}
+use Rattle.desk_model.specs.State.{unpriced}
+use Rattle.lazy_objects.specs.Slots.{answer_of}
 
--- x is current and has a value
+-- whether x answers its last value where another object needs it: it is current or frozen
+unfoldable pub is_at_hand : List Kept → ℕ → Bool
+is_at_hand kept x = (slice_index_or kept x unpriced).current || (slice_index_or kept x unpriced).frozen
+
+-- x is at hand and has a value
 abbrev pub IsSettled : List Kept → ℕ → Type 0
-IsSettled kept x = (value : Value) × (is_now kept x ≡ true) × (answer_of kept x ≡ Ok value)
+IsSettled kept x = (value : Value) × (is_at_hand kept x ≡ true) × (answer_of kept x ≡ Ok value)
 
 abbrev pub AreSettled : List Kept → List Part → Type 0
 AreSettled kept [] = Unit {0}

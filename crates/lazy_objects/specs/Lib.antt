@@ -1,8 +1,10 @@
 pub mod Asks
 pub mod Begun
+pub mod Late
 pub mod Objects
 pub mod Parts
 pub mod Reads
+pub mod Recalcs
 pub mod Scratch
 pub mod Shape
 pub mod Slots

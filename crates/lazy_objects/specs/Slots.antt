@@ -21,9 +21,9 @@ use Rattle.desk_model.specs.Effect.{with_kept}
 abbrev pub market_of : ℤ → List Slot → Market
 market_of today slots = record { today = today; objects = slots }
 
--- THE STATE of a desk: no command defers yet, and there are no watchers
-abbrev pub state_of : ℤ → List Slot → List Kept → State
-state_of today slots kept = record { market = market_of today slots; kept = kept; deferring = false; registrations = []; noticed = [] }
+-- THE STATE of a desk: there are no watchers
+abbrev pub state_of : ℤ → List Slot → List Kept → Bool → State
+state_of today slots kept deferring = record { market = market_of today slots; kept = kept; deferring = deferring; registrations = []; noticed = [] }
 
 -- the state in which an object is not current
 abbrev pub outdated : ℕ → State → State

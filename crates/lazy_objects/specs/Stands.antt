@@ -3,14 +3,15 @@ use Rattle.std.specs.Prelude.{◌≡◌, ◌≤◌, ◌^◌, ℕ, false, length}
 use Rattle.desk_model.specs.Market.{slot_at, is_watcher}
 use Rattle.desk_model.specs.State.{State}
 use Rattle.desk_model.specs.Links.{IsWhole, IsKinded, AreRanged}
+use Rattle.desk_model.specs.Sound.{HasNoSourceWhereOff}
 use Rattle.lazy_objects.specs.Scratch.{ScratchView, IsEmpty}
-use Rattle.lazy_objects.specs.Asks.{IsUnheld}
 
--- THE INVARIANT of a desk: its state is whole, nothing is held back, each object names others of the right kinds, its
--- terms are in range, there are no watchers, at most 65,536 numbers are given, and nothing is remembered between asks.
+-- THE INVARIANT of a desk: its state is whole, no notice is held back where deferral is off, each object names others of
+-- the right kinds, its terms are in range, there are no watchers, at most 65,536 numbers are given, and nothing is
+-- remembered between asks.
 pub record Stands (state : State) (scratch : ScratchView) : Type 0 where
   pub whole : IsWhole state
-  pub unheld : IsUnheld state
+  pub sources : HasNoSourceWhereOff state
   pub kinds : IsKinded state.market
   pub ranged : AreRanged state.market
   pub unwatched : (x : ℕ) → is_watcher (slot_at state.market x) ≡ false

@@ -1,17 +1,16 @@
-// A change of what an object's terms are, and of those whom it tells.
+// A change of what an object's terms are, and its notice.
 ghost use Rattle.std.specs.Prelude.{◌≡◌, ◌==◌, ◌<◌, ℕ, true, false, length, Some, slice_index_or};
 ghost use Rattle.std.specs.Option.{option_eq};
 ghost use Rattle.std.specs.Ordering.{int_eq};
 ghost use Rattle.desk_terms.specs.declared.terms.Terms.TheVariants.{Quote};
 ghost use Rattle.desk_model.specs.Market.{is_given};
 ghost use Rattle.desk_model.specs.Links.{IsLinked};
-ghost use Rattle.desk_model.specs.Effect.{with_terms, revised};
+ghost use Rattle.desk_model.specs.Effect.{with_terms, revised, notified};
 ghost use Rattle.desk_model.specs.declared.slot.Slot.TheVariants.{Live, Free, Today};
-ghost use Rattle.desk_model.specs.Told.{tell};
-ghost use Rattle.desk_model.specs.State.{unpriced};
 ghost use Rattle.lazy_objects.specs.Slots.{market_of, state_of, outdated, AreUnwatched};
 ghost use Rattle.lazy_objects.specs.Objects.{has_quote};
 ghost use Rattle.lazy_objects.specs.Shape.{IsJoined};
+ghost use Rattle.lazy_objects.specs.Store.{HasNoMarkWhereOff};
 
 use crate::edges::TODAY;
 use crate::objects::Objects;
@@ -20,18 +19,18 @@ use day_number::Day;
 use desk_names::ObjId;
 use desk_terms::Terms;
 
-/// An object that is no quote has other terms and is not current, and its observers are told. The graph is that of the new terms. It takes
-/// no memory, and costs what it tells.
+/// An object that is no quote has other terms and is not current. Its observers are told, or it holds its notice back.
+/// The graph is that of the new terms. It takes no memory, and costs what it tells.
 pub fn revise(today: Day, objects: &mut Objects, store: &mut Store, object: ObjId, terms: Terms)
     requires within { object < length objects.old }
     requires plain { has_quote (slice_index_or objects.old object Free) ≡ false }
     requires new { has_quote (Live terms) ≡ false }
     requires kept { length store.old.kept ≡ length objects.old }
-    requires joined { IsJoined (with_terms object terms (state_of today objects.old store.old.kept)).market store.old.shape }
-    requires unmarked { (x : ℕ) → (slice_index_or store.old.kept x unpriced).source ≡ false }
+    requires joined { IsJoined (with_terms object terms (state_of today objects.old store.old.kept store.old.deferring)).market store.old.shape }
+    requires sources { HasNoMarkWhereOff store.old }
     requires unwatched { AreUnwatched objects.old }
-    requires linked { IsLinked (with_terms object terms (state_of today objects.old store.old.kept)).market }
-    ensures state { state_of today objects.new store.new.kept ≡ revised object terms (state_of today objects.old store.old.kept) }
+    requires linked { IsLinked (with_terms object terms (state_of today objects.old store.old.kept store.old.deferring)).market }
+    ensures state { state_of today objects.new store.new.kept store.new.deferring ≡ revised object terms (state_of today objects.old store.old.kept store.old.deferring) }
     ensures shape { store.new.shape ≡ store.old.shape }
     ensures long { length objects.new ≡ length objects.old }
 {
@@ -39,36 +38,35 @@ pub fn revise(today: Day, objects: &mut Objects, store: &mut Store, object: ObjI
     tell_changed(today, objects, store, object);
 }
 
-/// An object whose terms have changed is not current, and its observers are told. The graph is that of the new terms. It
-/// takes no memory, and costs what it tells.
+/// An object whose terms have changed is not current. Its observers are told, or it holds its notice back. The graph is
+/// that of the new terms. It takes no memory, and costs what it tells.
 pub fn tell_changed(today: Day, objects: &Objects, store: &mut Store, object: ObjId)
     requires within { object < length objects.now }
     requires live { is_given (slice_index_or objects.now object Free) ≡ true }
     requires kept { length store.old.kept ≡ length objects.now }
     requires joined { IsJoined (market_of today objects.now) store.old.shape }
-    requires unmarked { (x : ℕ) → (slice_index_or store.old.kept x unpriced).source ≡ false }
+    requires sources { HasNoMarkWhereOff store.old }
     requires unwatched { AreUnwatched objects.now }
     requires linked { IsLinked (market_of today objects.now) }
-    ensures state { state_of today objects.now store.new.kept ≡ tell (λ y. y == object) (outdated object (state_of today objects.now store.old.kept)) }
+    ensures state { state_of today objects.now store.new.kept store.new.deferring ≡ notified object (outdated object (state_of today objects.now store.old.kept store.old.deferring)) }
     ensures shape { store.new.shape ≡ store.old.shape }
 {
     store.outdate(object);
-    store.mark(object);
-    store.tell();
+    store.changed(object);
 }
 
-/// Those who observe the evaluation date are told that it is this day. It takes no memory, and costs what it tells.
+/// Those who observe the evaluation date are told that it is this day, or it holds its notice back. It takes no memory,
+/// and costs what it tells.
 pub fn tell_today(day: Day, objects: &Objects, store: &mut Store)
     requires today { slice_index_or objects.now 0 Free ≡ Today }
     requires within { 0 < length objects.now }
     requires kept { length store.old.kept ≡ length objects.now }
     requires joined { IsJoined (market_of day objects.now) store.old.shape }
-    requires unmarked { (x : ℕ) → (slice_index_or store.old.kept x unpriced).source ≡ false }
+    requires sources { HasNoMarkWhereOff store.old }
     requires unwatched { AreUnwatched objects.now }
     requires linked { IsLinked (market_of day objects.now) }
-    ensures state { state_of day objects.now store.new.kept ≡ tell (λ y. y == 0) (state_of day objects.now store.old.kept) }
+    ensures state { state_of day objects.now store.new.kept store.new.deferring ≡ notified 0 (state_of day objects.now store.old.kept store.old.deferring) }
     ensures shape { store.new.shape ≡ store.old.shape }
 {
-    store.mark(TODAY);
-    store.tell();
+    store.changed(TODAY);
 }

@@ -4,10 +4,10 @@ ghost use Rattle.std.specs.Option.{option_copied};
 ghost use Rattle.desk_terms.specs.Reading.{Calc, AreInRange};
 ghost use Rattle.desk_model.specs.Market.{kind_at, terms_at, slot_at, is_given, least_user};
 ghost use Rattle.desk_model.specs.Uses.{index_at, fixings_in};
-ghost use Rattle.desk_model.specs.State.{kept_at};
+ghost use Rattle.desk_model.specs.State.{kept_at, least_source};
 ghost use Rattle.desk_model.specs.Sound.{IsSound, KeepsCurrent};
 ghost use Rattle.desk_model.specs.Links.{AreOfKind, Serve, is_lazy_at, reaches, serves_as};
-ghost use Rattle.desk_model.specs.Effect.{start, made, quote_set, relinked, engine_set, member_set, fixing_added, today_set, dropped};
+ghost use Rattle.desk_model.specs.Effect.{start, made, quote_set, relinked, engine_set, member_set, fixing_added, today_set, dropped, frozen_set, thawed, forward_set, deferred, resumed};
 ghost use Rattle.desk_terms.specs.declared.kind.Kind.TheVariants.{Quote, Index, Composite, Flows};
 ghost use Rattle.desk_terms.specs.declared.kind.Wanted.TheVariants.{Member, Engine};
 ghost use Rattle.desk_terms.specs.Terms.{optional_reference};
@@ -18,6 +18,7 @@ ghost use Rattle.desk_terms.specs.declared.terms.Terms.TheVariants.{Handle};
 ghost use Rattle.desk_model.specs.Laws.{MayLink};
 ghost use Rattle.lazy_objects.specs.Slots.{is_handle};
 ghost use Rattle.lazy_objects.specs.Asks.{Asks, Stops};
+ghost use Rattle.lazy_objects.specs.Recalcs.{RecalcEnds, RecalcStops};
 
 use crate::asking::ask;
 use crate::changes::{revise, tell_changed, tell_today};
@@ -25,6 +26,8 @@ use crate::edges::watched;
 use crate::engines::{engine_of, watch_instead};
 use crate::links::{link_of, unwatch_any, watch_any};
 use crate::objects::Objects;
+use crate::recalced::Recalced;
+use crate::recalculating::recalc;
 use crate::scratch::Scratch;
 use crate::store::Store;
 use crate::uses::index_of;
@@ -38,7 +41,7 @@ use std::alloc::{AllocError, Global};
 use std::marker::Model;
 
 /// The objects of a session by number, and what is stored of each. It takes memory from the allocator that it was made
-/// with.
+/// with. While deferral is on, a change tells nobody: what was changed holds its notice back until `resume`.
 #[derive(Drop)]
 pub struct Desk {
     alloc: Global,
@@ -56,9 +59,9 @@ impl Model for Desk {
 
     ghost Value = { State };
 
-    ghost view = { λ d. state_of d.today d.objects d.store.kept };
+    ghost view = { λ d. state_of d.today d.objects d.store.kept d.store.deferring };
 
-    ghost invariant = { λ d. Stands (state_of d.today d.objects d.store.kept) d.scratch × IsJoined (market_of d.today d.objects) d.store.shape };
+    ghost invariant = { λ d. Stands (state_of d.today d.objects d.store.kept d.store.deferring) d.scratch × IsJoined (market_of d.today d.objects) d.store.shape };
 }
 
 impl Desk {
@@ -103,7 +106,7 @@ impl Desk {
         Ok(object)
     }
 
-    /// Sets or unsets a quote. Where its value changes, all that is computed from it is no longer current.
+    /// Sets or unsets a quote. Where its value changes, its observers are told.
     pub fn set_quote(&mut self, quote: ObjId, value: Option<Rate>)
         requires { kind_at self.old.market quote ≡ Some Quote }
         ensures set { self.new ≡ quote_set quote value self.old }
@@ -239,6 +242,61 @@ impl Desk {
         self.store.forget(object);
     }
 
+    /// Freezes a lazy object: it answers its last value until it is thawed, and takes notices without passing them on
+    /// (QuantLib's `LazyObject::freeze`). Nobody is told. It takes no memory.
+    pub fn freeze(&mut self, object: ObjId)
+        requires lazy { is_lazy_at self.old.market object ≡ true }
+        ensures set { self.new ≡ frozen_set object self.old }
+        ensures keeps { KeepsCurrent self.old self.new }
+        ensures sound { (calc : Calc) → IsSound calc self.old → IsSound calc self.new }
+    {
+        self.store.freeze(object);
+    }
+
+    /// A lazy object is frozen no more, and its observers are told, or it holds its notice back (QuantLib's
+    /// `LazyObject::unfreeze`). Nothing where it is not frozen. It takes no memory, and costs what it tells.
+    pub fn thaw(&mut self, object: ObjId)
+        requires lazy { is_lazy_at self.old.market object ≡ true }
+        ensures set { self.new ≡ thawed object self.old }
+        ensures keeps { KeepsCurrent self.old self.new }
+        ensures sound { (calc : Calc) → IsSound calc self.old → IsSound calc self.new }
+    {
+        if self.store.thaw(object) {
+            self.store.changed(object);
+        }
+    }
+
+    /// A lazy object passes each notice on, also while it is not current, or does so no more (QuantLib's
+    /// `LazyObject::alwaysForwardNotifications`). Nobody is told. It takes no memory.
+    pub fn forward(&mut self, object: ObjId, on: bool)
+        requires lazy { is_lazy_at self.old.market object ≡ true }
+        ensures set { self.new ≡ forward_set object on self.old }
+        ensures keeps { KeepsCurrent self.old self.new }
+        ensures sound { (calc : Calc) → IsSound calc self.old → IsSound calc self.new }
+    {
+        self.store.forward(object, on);
+    }
+
+    /// From now on what changes holds its notice back and is a deferred source (QuantLib's
+    /// `ObservableSettings::disableUpdates`, deferred). It takes no memory.
+    pub fn defer(&mut self)
+        ensures set { self.new ≡ deferred self.old }
+        ensures keeps { KeepsCurrent self.old self.new }
+        ensures sound { (calc : Calc) → IsSound calc self.old → IsSound calc self.new }
+    {
+        self.store.defer();
+    }
+
+    /// Notices are held back no more: all deferred sources tell together (QuantLib's
+    /// `ObservableSettings::enableUpdates`). Nothing where deferral is off. It takes no memory, and costs what it tells.
+    pub fn resume(&mut self)
+        ensures set { self.new ≡ resumed self.old }
+        ensures keeps { KeepsCurrent self.old self.new }
+        ensures sound { (calc : Calc) → IsSound calc self.old → IsSound calc self.new }
+    {
+        self.store.resume();
+    }
+
     /// Asks a lazy object. It computes only what it uses and has no current value. Where memory is wanting, what was
     /// computed before stays.
     pub fn ask<B: Bench>(&mut self, object: ObjId, bench: &mut B) -> Result<Asked, AllocError>
@@ -252,6 +310,39 @@ impl Desk {
         ensures sound { IsSound (B.calc bench.old) self.new }
     {
         ask(
+            self.alloc,
+            self.today,
+            &self.objects,
+            &mut self.store,
+            &mut self.scratch,
+            object,
+            bench,
+        )
+    }
+
+    /// The least deferred source that makes an object late, if any does. It takes no memory.
+    pub fn late(&mut self, object: ObjId) -> Option<ObjId>
+        requires lazy { is_lazy_at self.old.market object ≡ true }
+        ensures answer { result ≡ least_source self.old object }
+        ensures same { self.new ≡ self.old }
+    {
+        self.store.late(object)
+    }
+
+    /// Recalculates a lazy object: it is priced over its inputs, whatever its flags say, and its observers are told, or it
+    /// holds its notice back. It is refused where a deferred source makes it late. Where memory is wanting, what was
+    /// computed of its inputs stays, and the object is as it was.
+    pub fn recalc<B: Bench>(&mut self, object: ObjId, bench: &mut B) -> Result<Recalced, AllocError>
+        requires lazy { is_lazy_at self.old.market object ≡ true }
+        requires sound { IsSound (B.calc bench.old) self.old }
+        ensures same { B.calc bench.new ≡ B.calc bench.old }
+        ensures ends { IfOk result (λ answer. RecalcEnds (B.calc bench.old) object self.old self.new answer
+            (B.count bench.old) (B.count bench.new) (B.log bench.old) (B.log bench.new)) }
+        ensures stops { OnErr result (RecalcStops (B.calc bench.old) object self.old self.new
+            (B.count bench.old) (B.count bench.new) (B.log bench.old) (B.log bench.new)) }
+        ensures sound { IsSound (B.calc bench.old) self.new }
+    {
+        recalc(
             self.alloc,
             self.today,
             &self.objects,

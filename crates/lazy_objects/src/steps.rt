@@ -6,8 +6,8 @@ ghost use Rattle.desk_model.specs.Fresh.{input_of};
 ghost use Rattle.desk_model.specs.Next.{next_of};
 ghost use Rattle.desk_model.specs.Links.{IsLinked, IsKinded, is_lazy_at};
 ghost use Rattle.lazy_objects.specs.Reads.{Remembers};
-ghost use Rattle.lazy_objects.specs.Begun.{AreSettled, Begun};
-ghost use Rattle.lazy_objects.specs.Slots.{market_of, is_now, answer_of, answered, answered_of};
+ghost use Rattle.lazy_objects.specs.Begun.{AreSettled, Begun, is_at_hand};
+ghost use Rattle.lazy_objects.specs.Slots.{market_of, answer_of, answered, answered_of};
 
 use crate::objects::Objects;
 use crate::reader::read;
@@ -31,11 +31,11 @@ fn as_input(alloc: Global, value: &Value) -> Result<Input, AllocError>
     }
 }
 
-// The answer of an object whose value is current; none where it is not.
+// The last value of an object that is at hand, or that it has none; none where it has to be computed first.
 fn answer(store: &Store, object: ObjId) -> Option<Result<&Value, Cause>>
-    ensures { answered result ≡ answered_of (is_now store.now.kept object) (answer_of store.now.kept object) }
+    ensures { answered result ≡ answered_of (is_at_hand store.now.kept object) (answer_of store.now.kept object) }
 {
-    if !store.is_current(object) {
+    if !store.is_at_hand(object) {
         return None;
     }
     match store.last(object) {
@@ -54,7 +54,7 @@ fn next_member(
 ) -> Result<Next, AllocError>
     requires low { begun.old ≤ length parts.now }
     requires settled { AreSettled store.now.kept (take begun.old parts.now) }
-    ensures next { IfOk result (λ next. next ≡ next_of (is_now store.now.kept) (answer_of store.now.kept) (member_entries parts.now)) }
+    ensures next { IfOk result (λ next. next ≡ next_of (is_at_hand store.now.kept) (answer_of store.now.kept) (member_entries parts.now)) }
     ensures low { begun.new ≤ length parts.now }
     ensures settled { AreSettled store.now.kept (take begun.new parts.now) }
 {
@@ -73,7 +73,7 @@ fn next_member(
 
 // What an ask does next at a composite of these parts.
 fn all_members(alloc: Global, store: &Store, parts: &[Part]) -> Result<Next, AllocError>
-    ensures { IfOk result (λ next. next ≡ next_of (is_now store.now.kept) (answer_of store.now.kept) (member_entries parts.now)) }
+    ensures { IfOk result (λ next. next ≡ next_of (is_at_hand store.now.kept) (answer_of store.now.kept) (member_entries parts.now)) }
 {
     let mut inputs = InputList::new(alloc);
     for at in 0..parts.len() {
@@ -91,7 +91,7 @@ fn all_members(alloc: Global, store: &Store, parts: &[Part]) -> Result<Next, All
 
 // What an ask does next where a price takes these entries.
 fn next_entries(alloc: Global, store: &Store, entries: &[Entry]) -> Result<Next, AllocError>
-    ensures { IfOk result (λ next. next ≡ next_of (is_now store.now.kept) (answer_of store.now.kept) entries.now) }
+    ensures { IfOk result (λ next. next ≡ next_of (is_at_hand store.now.kept) (answer_of store.now.kept) entries.now) }
 {
     let mut inputs = InputList::new(alloc);
     for at in 0..entries.len() {
@@ -126,7 +126,7 @@ pub fn next(
     requires begun { Begun objects.now store.now.kept scratch.old.positions }
     ensures remembers { Remembers (market_of today objects.now) scratch.new.entries }
     ensures begun { Begun objects.now store.now.kept scratch.new.positions }
-    ensures next { IfOk result (λ next. next ≡ next_of (is_now store.now.kept) (answer_of store.now.kept) (uses (market_of today objects.now) object)) }
+    ensures next { IfOk result (λ next. next ≡ next_of (is_at_hand store.now.kept) (answer_of store.now.kept) (uses (market_of today objects.now) object)) }
 {
     match objects.own_terms(object) {
         Terms::Stock { quote } => {

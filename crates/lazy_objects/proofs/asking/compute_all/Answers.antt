@@ -1,6 +1,7 @@
 use Rattle.std.proofs.Common.{ℕ, List, [], ◌∷◌, ◌++◌, length, take, ◌+◌, ◌-◌, refl, sym, ◌∙◌, ap, subst, arith}
 use Rattle.std.proofs.lemmas.List.{length-append}
 use Rattle.lazy_objects.specs.Asks.{Stays, Computes}
+use Rattle.desk_terms.specs.declared.asked.Asked.{Asked}
 use Rattle.desk_model.specs.declared.kept.Kept.{Kept}
 use Rattle.lazy_objects.specs.Slots.{market_of, state_of}
 use Rattle.lazy_objects.proofs.Loop.{Asking, left, left_refused, top_lazy, top_within, open_of, begins, pushes, stops, fits, faulted, valued, ends, stack_bound, few, lazy_terms}
@@ -9,17 +10,18 @@ use Rattle.lazy_objects.specs.Shape.{Shape, role_at}
 use Rattle.lazy_objects.proofs.Joined.{lazy_there}
 use Rattle.lazy_objects.proofs.Stacks.{measure_push, measure_value}
 use Rattle.lazy_objects.proofs.Fronted.{on_err, stopped, stopped_in_bench}
-use Rattle.lazy_objects.proofs.Fronts.{begun_valued}
+use Rattle.lazy_objects.proofs.Fronts.{begun_valued, begun_refused}
 use Rattle.lazy_objects.proofs.asking.compute_all.Goals as goal
 
 pub loop-top-init : goal.loop-top-init
 loop-top-init g c = (
   refl,
-  subst (λ (st : List ℕ). Asking (g.B.Bench.calc c.args.bench.now) (state_of c.args.today c.args.objects.now c.args.store.now.kept) c.args.object (g.B.Bench.count c.args.bench.now) (g.B.Bench.log c.args.bench.now) st c.args.store.now.kept 0 (g.B.Bench.count c.args.bench.now) (g.B.Bench.log c.args.bench.now))
+  subst (λ (st : List ℕ). Asking (g.B.Bench.calc c.args.bench.now) (state_of c.args.today c.args.objects.now c.args.store.now.kept c.args.store.now.deferring) c.args.object (g.B.Bench.count c.args.bench.now) (g.B.Bench.log c.args.bench.now) st c.args.store.now.kept 0 (g.B.Bench.count c.args.bench.now) (g.B.Bench.log c.args.bench.now))
       (sym (c.in_ok-push.ensures.items ∙ ap (λ (l : List ℕ). l ++ c.args.object ∷ []) c.new-stack.ensures.items))
-      (begins (g.B.Bench.calc c.args.bench.now) (state_of c.args.today c.args.objects.now c.args.store.now.kept) c.args.object (g.B.Bench.count c.args.bench.now) (g.B.Bench.log c.args.bench.now) c.requires.may c.requires.stale),
+      (begins (g.B.Bench.calc c.args.bench.now) (state_of c.args.today c.args.objects.now c.args.store.now.kept c.args.store.now.deferring) c.args.object (g.B.Bench.count c.args.bench.now) (g.B.Bench.log c.args.bench.now) c.requires.may c.requires.free c.requires.stale),
   c.requires.remembers,
   c.requires.begun,
+  refl,
   refl,
 )
 
@@ -29,20 +31,20 @@ returns-in_err-cause-clause-same g c = c.loop-top.invariant.0
 pub returns-in-Stops-clause-same : goal.returns-in-Stops-clause-same
 returns-in-Stops-clause-same g c = c.loop-top.invariant.0
 
-pub returns-in-Stops-clause-asks : goal.returns-in-Stops-clause-asks
-returns-in-Stops-clause-asks g c =
+pub returns-in-Stops-clause-walks : goal.returns-in-Stops-clause-walks
+returns-in-Stops-clause-walks g c =
     let calc = g.B.Bench.calc c.args.bench.now in
-    let s = state_of c.args.today c.args.objects.now c.args.store.now.kept in
+    let s = state_of c.args.today c.args.objects.now c.args.store.now.kept c.args.store.now.deferring in
     let count0 = g.B.Bench.count c.args.bench.now in
     let log0 = g.B.Bench.log c.args.bench.now in
     let stack = c.pop.new.self.items in
     let a = subst (λ (st : List ℕ). Asking calc s c.args.object count0 log0 st c.loop-top.store.kept c.loop-top.runs (g.B.Bench.count c.loop-top.bench) (g.B.Bench.log c.loop-top.bench)) c.in-Some.ensures.items c.loop-top.invariant.1 in
-    stops calc s c.args.object count0 log0 stack c.in-Some.top c.loop-top.store.kept c.loop-top.runs (g.B.Bench.count c.loop-top.bench) (g.B.Bench.log c.loop-top.bench) a c.in-Stops.cause c.answered.result (sym c.in_ok-cause.ensures.next ∙ c.in-Stops.is) c.answered.ensures
+    stops calc s c.args.object count0 log0 stack c.in-Some.top c.loop-top.store.kept c.loop-top.runs (g.B.Bench.count c.loop-top.bench) (g.B.Bench.log c.loop-top.bench) a c.in-Stops.cause c.args.mark c.answered.result (sym c.in_ok-cause.ensures.next ∙ c.in-Stops.is) c.answered.ensures
 
 pub loop-top-smaller-in-Continue-branch-5 : goal.loop-top-smaller-in-Continue-branch-5
 loop-top-smaller-in-Continue-branch-5 g c =
     let calc = g.B.Bench.calc c.args.bench.now in
-    let s = state_of c.args.today c.args.objects.now c.args.store.now.kept in
+    let s = state_of c.args.today c.args.objects.now c.args.store.now.kept c.args.store.now.deferring in
     let count0 = g.B.Bench.count c.args.bench.now in
     let log0 = g.B.Bench.log c.args.bench.now in
     let stack = c.pop.new.self.items in
@@ -55,7 +57,7 @@ loop-top-smaller-in-Continue-branch-5 g c =
 pub loop-top-preserved-in-Continue-branch-5 : goal.loop-top-preserved-in-Continue-branch-5
 loop-top-preserved-in-Continue-branch-5 g c =
     let calc = g.B.Bench.calc c.args.bench.now in
-    let s = state_of c.args.today c.args.objects.now c.args.store.now.kept in
+    let s = state_of c.args.today c.args.objects.now c.args.store.now.kept c.args.store.now.deferring in
     let count0 = g.B.Bench.count c.args.bench.now in
     let log0 = g.B.Bench.log c.args.bench.now in
     let stack = c.pop.new.self.items in
@@ -66,6 +68,7 @@ loop-top-preserved-in-Continue-branch-5 g c =
       c.in_ok-cause.ensures.remembers,
       c.in_ok-cause.ensures.begun,
       c.loop-top.invariant.4,
+      c.loop-top.invariant.5,
     )
 
 pub returns-in_err-push-in-First-2-clause-same : goal.returns-in_err-push-in-First-2-clause-same
@@ -74,7 +77,7 @@ returns-in_err-push-in-First-2-clause-same g c = c.loop-top.invariant.0
 pub compute-requires-clause-fits : goal.compute-requires-clause-fits
 compute-requires-clause-fits g c =
     let calc = g.B.Bench.calc c.args.bench.now in
-    let s = state_of c.args.today c.args.objects.now c.args.store.now.kept in
+    let s = state_of c.args.today c.args.objects.now c.args.store.now.kept c.args.store.now.deferring in
     let count0 = g.B.Bench.count c.args.bench.now in
     let log0 = g.B.Bench.log c.args.bench.now in
     let stack = c.pop.new.self.items in
@@ -87,21 +90,21 @@ returns-in_err-cause-in-Ready-clause-same g c = c.compute.ensures.same ∙ c.loo
 pub returns-then-is_some-clause-same : goal.returns-then-is_some-clause-same
 returns-then-is_some-clause-same g c = c.compute.ensures.same ∙ c.loop-top.invariant.0
 
-pub returns-then-is_some-clause-asks : goal.returns-then-is_some-clause-asks
-returns-then-is_some-clause-asks g c =
+pub returns-then-is_some-clause-walks : goal.returns-then-is_some-clause-walks
+returns-then-is_some-clause-walks g c =
     let calc = g.B.Bench.calc c.args.bench.now in
-    let s = state_of c.args.today c.args.objects.now c.args.store.now.kept in
+    let s = state_of c.args.today c.args.objects.now c.args.store.now.kept c.args.store.now.deferring in
     let count0 = g.B.Bench.count c.args.bench.now in
     let log0 = g.B.Bench.log c.args.bench.now in
     let stack = c.pop.new.self.items in
     let a = subst (λ (st : List ℕ). Asking calc s c.args.object count0 log0 st c.loop-top.store.kept c.loop-top.runs (g.B.Bench.count c.loop-top.bench) (g.B.Bench.log c.loop-top.bench)) c.in-Some.ensures.items c.loop-top.invariant.1 in
-    faulted calc s c.args.object count0 log0 stack c.in-Some.top c.loop-top.store.kept c.loop-top.runs (g.B.Bench.count c.loop-top.bench) (g.B.Bench.log c.loop-top.bench) a c.in-Ready.inputs c.compute.new.store.kept c.in_ok-cause-in-Ready.cause (c.loop-top.runs + 1) (g.B.Bench.count c.compute.new.bench) (g.B.Bench.log c.compute.new.bench) c.answered-then-is_some.result (sym c.in_ok-cause.ensures.next ∙ c.in-Ready.is)
+    faulted calc s c.args.object count0 log0 stack c.in-Some.top c.loop-top.store.kept c.loop-top.runs (g.B.Bench.count c.loop-top.bench) (g.B.Bench.log c.loop-top.bench) a c.in-Ready.inputs c.compute.new.store.kept c.in_ok-cause-in-Ready.cause (c.loop-top.runs + 1) (g.B.Bench.count c.compute.new.bench) (g.B.Bench.log c.compute.new.bench) c.args.mark c.answered-then-is_some.result (sym c.in_ok-cause.ensures.next ∙ c.in-Ready.is)
     (subst (λ k. Computes k (market_of c.args.today c.args.objects.now) c.in-Some.top c.in-Ready.inputs c.loop-top.store.kept c.compute.new.store.kept c.in_ok-cause-in-Ready.cause (g.B.Bench.count c.loop-top.bench) (g.B.Bench.count c.compute.new.bench) (g.B.Bench.log c.loop-top.bench) (g.B.Bench.log c.compute.new.bench)) c.loop-top.invariant.0 c.in_ok-cause-in-Ready.ensures.computes) (sym c.is_some.ensures ∙ c.if-is_some.true) refl c.answered-then-is_some.ensures
 
 pub loop-top-smaller : goal.loop-top-smaller
 loop-top-smaller g c =
     let calc = g.B.Bench.calc c.args.bench.now in
-    let s = state_of c.args.today c.args.objects.now c.args.store.now.kept in
+    let s = state_of c.args.today c.args.objects.now c.args.store.now.kept c.args.store.now.deferring in
     let count0 = g.B.Bench.count c.args.bench.now in
     let log0 = g.B.Bench.log c.args.bench.now in
     let stack = c.pop.new.self.items in
@@ -112,7 +115,7 @@ loop-top-smaller g c =
 pub loop-top-preserved : goal.loop-top-preserved
 loop-top-preserved g c =
     let calc = g.B.Bench.calc c.args.bench.now in
-    let s = state_of c.args.today c.args.objects.now c.args.store.now.kept in
+    let s = state_of c.args.today c.args.objects.now c.args.store.now.kept c.args.store.now.deferring in
     let count0 = g.B.Bench.count c.args.bench.now in
     let log0 = g.B.Bench.log c.args.bench.now in
     let stack = c.pop.new.self.items in
@@ -125,16 +128,17 @@ loop-top-preserved g c =
           (top_within calc s c.args.object count0 log0 stack c.in-Some.top c.loop-top.store.kept c.loop-top.runs (g.B.Bench.count c.loop-top.bench) (g.B.Bench.log c.loop-top.bench) a) (top_lazy calc s c.args.object count0 log0 stack c.in-Some.top c.loop-top.store.kept c.loop-top.runs (g.B.Bench.count c.loop-top.bench) (g.B.Bench.log c.loop-top.bench) a)
           (subst (λ k. Computes k (market_of c.args.today c.args.objects.now) c.in-Some.top c.in-Ready.inputs c.loop-top.store.kept c.compute.new.store.kept c.in_ok-cause-in-Ready.cause (g.B.Bench.count c.loop-top.bench) (g.B.Bench.count c.compute.new.bench) (g.B.Bench.log c.loop-top.bench) (g.B.Bench.log c.compute.new.bench)) c.loop-top.invariant.0 c.in_ok-cause-in-Ready.ensures.computes) (sym c.is_some.ensures ∙ c.if-is_some.false),
       c.compute.ensures.shape ∙ c.loop-top.invariant.4,
+      c.compute.ensures.switch ∙ c.loop-top.invariant.5,
     )
 
 pub returns-clause-same : goal.returns-clause-same
 returns-clause-same g c = c.loop-top.invariant.0
 
-pub returns-clause-asks : goal.returns-clause-asks
-returns-clause-asks g c =
+pub returns-clause-walks : goal.returns-clause-walks
+returns-clause-walks g c =
     let calc = g.B.Bench.calc c.args.bench.now in
-    let s = state_of c.args.today c.args.objects.now c.args.store.now.kept in
-    ends calc s c.args.object (g.B.Bench.count c.args.bench.now) (g.B.Bench.log c.args.bench.now) c.loop-top.store.kept c.loop-top.runs (g.B.Bench.count c.loop-top.bench) (g.B.Bench.log c.loop-top.bench) c.answered-2.result
+    let s = state_of c.args.today c.args.objects.now c.args.store.now.kept c.args.store.now.deferring in
+    ends calc s c.args.object (g.B.Bench.count c.args.bench.now) (g.B.Bench.log c.args.bench.now) c.loop-top.store.kept c.loop-top.runs (g.B.Bench.count c.loop-top.bench) (g.B.Bench.log c.loop-top.bench) c.args.mark c.answered-2.result
     (subst (λ (st : List ℕ). Asking calc s c.args.object (g.B.Bench.count c.args.bench.now) (g.B.Bench.log c.args.bench.now) st c.loop-top.store.kept c.loop-top.runs (g.B.Bench.count c.loop-top.bench) (g.B.Bench.log c.loop-top.bench))
     (c.in_default.ensures.items ∙ ap (λ (l : List ℕ). l ++ []) (c.in_default.ensures.rest ∙ ap (λ (n : ℕ). take (n - 1) c.loop-top.stack.items) c.in_default.ensures.cases.0)) c.loop-top.invariant.1)
     c.answered-2.ensures
@@ -143,42 +147,42 @@ pub next-requires-clause-linked : goal.next-requires-clause-linked
 next-requires-clause-linked g c = c.loop-top.invariant.1.may.whole.links
 
 pub returns-in_err-cause-clause-stays : goal.returns-in_err-cause-clause-stays
-returns-in_err-cause-clause-stays g c = left (g.B.Bench.calc c.args.bench.now) (state_of c.args.today c.args.objects.now c.args.store.now.kept) c.args.object (g.B.Bench.count c.args.bench.now) (g.B.Bench.log c.args.bench.now) c.loop-top.stack.items c.loop-top.store.kept c.loop-top.runs (g.B.Bench.count c.loop-top.bench) (g.B.Bench.log c.loop-top.bench) c.loop-top.invariant.1
+returns-in_err-cause-clause-stays g c = left (g.B.Bench.calc c.args.bench.now) (state_of c.args.today c.args.objects.now c.args.store.now.kept c.args.store.now.deferring) c.args.object (g.B.Bench.count c.args.bench.now) (g.B.Bench.log c.args.bench.now) c.loop-top.stack.items c.loop-top.store.kept c.loop-top.runs (g.B.Bench.count c.loop-top.bench) (g.B.Bench.log c.loop-top.bench) c.loop-top.invariant.1
 
 pub returns-in-Stops-clause-stays : goal.returns-in-Stops-clause-stays
-returns-in-Stops-clause-stays g c = left (g.B.Bench.calc c.args.bench.now) (state_of c.args.today c.args.objects.now c.args.store.now.kept) c.args.object (g.B.Bench.count c.args.bench.now) (g.B.Bench.log c.args.bench.now) c.loop-top.stack.items c.loop-top.store.kept c.loop-top.runs (g.B.Bench.count c.loop-top.bench) (g.B.Bench.log c.loop-top.bench) c.loop-top.invariant.1
+returns-in-Stops-clause-stays g c = left (g.B.Bench.calc c.args.bench.now) (state_of c.args.today c.args.objects.now c.args.store.now.kept c.args.store.now.deferring) c.args.object (g.B.Bench.count c.args.bench.now) (g.B.Bench.log c.args.bench.now) c.loop-top.stack.items c.loop-top.store.kept c.loop-top.runs (g.B.Bench.count c.loop-top.bench) (g.B.Bench.log c.loop-top.bench) c.loop-top.invariant.1
 
 pub returns-in_err-push-in-First-2-clause-stays : goal.returns-in_err-push-in-First-2-clause-stays
-returns-in_err-push-in-First-2-clause-stays g c = left (g.B.Bench.calc c.args.bench.now) (state_of c.args.today c.args.objects.now c.args.store.now.kept) c.args.object (g.B.Bench.count c.args.bench.now) (g.B.Bench.log c.args.bench.now) c.loop-top.stack.items c.loop-top.store.kept c.loop-top.runs (g.B.Bench.count c.loop-top.bench) (g.B.Bench.log c.loop-top.bench) c.loop-top.invariant.1
+returns-in_err-push-in-First-2-clause-stays g c = left (g.B.Bench.calc c.args.bench.now) (state_of c.args.today c.args.objects.now c.args.store.now.kept c.args.store.now.deferring) c.args.object (g.B.Bench.count c.args.bench.now) (g.B.Bench.log c.args.bench.now) c.loop-top.stack.items c.loop-top.store.kept c.loop-top.runs (g.B.Bench.count c.loop-top.bench) (g.B.Bench.log c.loop-top.bench) c.loop-top.invariant.1
 
 pub returns-clause-stays : goal.returns-clause-stays
-returns-clause-stays g c = left (g.B.Bench.calc c.args.bench.now) (state_of c.args.today c.args.objects.now c.args.store.now.kept) c.args.object (g.B.Bench.count c.args.bench.now) (g.B.Bench.log c.args.bench.now) c.loop-top.stack.items c.loop-top.store.kept c.loop-top.runs (g.B.Bench.count c.loop-top.bench) (g.B.Bench.log c.loop-top.bench) c.loop-top.invariant.1
+returns-clause-stays g c = left (g.B.Bench.calc c.args.bench.now) (state_of c.args.today c.args.objects.now c.args.store.now.kept c.args.store.now.deferring) c.args.object (g.B.Bench.count c.args.bench.now) (g.B.Bench.log c.args.bench.now) c.loop-top.stack.items c.loop-top.store.kept c.loop-top.runs (g.B.Bench.count c.loop-top.bench) (g.B.Bench.log c.loop-top.bench) c.loop-top.invariant.1
 
 pub returns-in_err-cause-in-Ready-clause-stays : goal.returns-in_err-cause-in-Ready-clause-stays
-returns-in_err-cause-in-Ready-clause-stays g c = subst (λ (k : List Kept). Stays (g.B.Bench.calc c.args.bench.now) (state_of c.args.today c.args.objects.now k)) (sym c.in_err-cause-in-Ready.ensures.err.0) (left (g.B.Bench.calc c.args.bench.now) (state_of c.args.today c.args.objects.now c.args.store.now.kept) c.args.object (g.B.Bench.count c.args.bench.now) (g.B.Bench.log c.args.bench.now) c.loop-top.stack.items c.loop-top.store.kept c.loop-top.runs (g.B.Bench.count c.loop-top.bench) (g.B.Bench.log c.loop-top.bench) c.loop-top.invariant.1)
+returns-in_err-cause-in-Ready-clause-stays g c = subst (λ (k : List Kept). Stays (g.B.Bench.calc c.args.bench.now) (state_of c.args.today c.args.objects.now k c.args.store.now.deferring)) (sym c.in_err-cause-in-Ready.ensures.err.0) (left (g.B.Bench.calc c.args.bench.now) (state_of c.args.today c.args.objects.now c.args.store.now.kept c.args.store.now.deferring) c.args.object (g.B.Bench.count c.args.bench.now) (g.B.Bench.log c.args.bench.now) c.loop-top.stack.items c.loop-top.store.kept c.loop-top.runs (g.B.Bench.count c.loop-top.bench) (g.B.Bench.log c.loop-top.bench) c.loop-top.invariant.1)
 
 pub returns-then-is_some-clause-stays : goal.returns-then-is_some-clause-stays
 returns-then-is_some-clause-stays g c =
     let calc = g.B.Bench.calc c.args.bench.now in
-    let s = state_of c.args.today c.args.objects.now c.args.store.now.kept in
+    let s = state_of c.args.today c.args.objects.now c.args.store.now.kept c.args.store.now.deferring in
     let count0 = g.B.Bench.count c.args.bench.now in
     let log0 = g.B.Bench.log c.args.bench.now in
     let stack = c.pop.new.self.items in
     let a = subst (λ (st : List ℕ). Asking calc s c.args.object count0 log0 st c.loop-top.store.kept c.loop-top.runs (g.B.Bench.count c.loop-top.bench) (g.B.Bench.log c.loop-top.bench)) c.in-Some.ensures.items c.loop-top.invariant.1 in
     left_refused calc s c.in-Some.top c.in-Ready.inputs c.loop-top.store.kept c.compute.new.store.kept c.in_ok-cause-in-Ready.cause (g.B.Bench.count c.loop-top.bench) (g.B.Bench.count c.compute.new.bench) (g.B.Bench.log c.loop-top.bench) (g.B.Bench.log c.compute.new.bench)
-    (left (g.B.Bench.calc c.args.bench.now) (state_of c.args.today c.args.objects.now c.args.store.now.kept) c.args.object (g.B.Bench.count c.args.bench.now) (g.B.Bench.log c.args.bench.now) c.loop-top.stack.items c.loop-top.store.kept c.loop-top.runs (g.B.Bench.count c.loop-top.bench) (g.B.Bench.log c.loop-top.bench) c.loop-top.invariant.1) (top_lazy calc s c.args.object count0 log0 stack c.in-Some.top c.loop-top.store.kept c.loop-top.runs (g.B.Bench.count c.loop-top.bench) (g.B.Bench.log c.loop-top.bench) a)
+    (left (g.B.Bench.calc c.args.bench.now) (state_of c.args.today c.args.objects.now c.args.store.now.kept c.args.store.now.deferring) c.args.object (g.B.Bench.count c.args.bench.now) (g.B.Bench.log c.args.bench.now) c.loop-top.stack.items c.loop-top.store.kept c.loop-top.runs (g.B.Bench.count c.loop-top.bench) (g.B.Bench.log c.loop-top.bench) c.loop-top.invariant.1) (top_lazy calc s c.args.object count0 log0 stack c.in-Some.top c.loop-top.store.kept c.loop-top.runs (g.B.Bench.count c.loop-top.bench) (g.B.Bench.log c.loop-top.bench) a)
     (subst (λ k. Computes k (market_of c.args.today c.args.objects.now) c.in-Some.top c.in-Ready.inputs c.loop-top.store.kept c.compute.new.store.kept c.in_ok-cause-in-Ready.cause (g.B.Bench.count c.loop-top.bench) (g.B.Bench.count c.compute.new.bench) (g.B.Bench.log c.loop-top.bench) (g.B.Bench.log c.compute.new.bench)) c.loop-top.invariant.0 c.in_ok-cause-in-Ready.ensures.computes) (sym c.is_some.ensures ∙ c.if-is_some.true)
 
 pub returns-in_err-cause-clause-stops : goal.returns-in_err-cause-clause-stops
-returns-in_err-cause-clause-stops g c = on_err _ (stopped (g.B.Bench.calc c.args.bench.now) (state_of c.args.today c.args.objects.now c.args.store.now.kept) c.args.object (g.B.Bench.count c.args.bench.now) (g.B.Bench.log c.args.bench.now) c.loop-top.stack.items c.loop-top.store.kept c.loop-top.runs (g.B.Bench.count c.loop-top.bench) (g.B.Bench.log c.loop-top.bench) c.loop-top.invariant.1)
+returns-in_err-cause-clause-stops g c = on_err _ (stopped (g.B.Bench.calc c.args.bench.now) (state_of c.args.today c.args.objects.now c.args.store.now.kept c.args.store.now.deferring) c.args.object (g.B.Bench.count c.args.bench.now) (g.B.Bench.log c.args.bench.now) c.loop-top.stack.items c.loop-top.store.kept c.loop-top.runs (g.B.Bench.count c.loop-top.bench) (g.B.Bench.log c.loop-top.bench) c.loop-top.invariant.1)
 
 pub returns-in_err-push-in-First-2-clause-stops : goal.returns-in_err-push-in-First-2-clause-stops
-returns-in_err-push-in-First-2-clause-stops g c = on_err _ (stopped (g.B.Bench.calc c.args.bench.now) (state_of c.args.today c.args.objects.now c.args.store.now.kept) c.args.object (g.B.Bench.count c.args.bench.now) (g.B.Bench.log c.args.bench.now) c.loop-top.stack.items c.loop-top.store.kept c.loop-top.runs (g.B.Bench.count c.loop-top.bench) (g.B.Bench.log c.loop-top.bench) c.loop-top.invariant.1)
+returns-in_err-push-in-First-2-clause-stops g c = on_err _ (stopped (g.B.Bench.calc c.args.bench.now) (state_of c.args.today c.args.objects.now c.args.store.now.kept c.args.store.now.deferring) c.args.object (g.B.Bench.count c.args.bench.now) (g.B.Bench.log c.args.bench.now) c.loop-top.stack.items c.loop-top.store.kept c.loop-top.runs (g.B.Bench.count c.loop-top.bench) (g.B.Bench.log c.loop-top.bench) c.loop-top.invariant.1)
 
 pub returns-in_err-cause-in-Ready-clause-stops : goal.returns-in_err-cause-in-Ready-clause-stops
 returns-in_err-cause-in-Ready-clause-stops g c =
     let calc = g.B.Bench.calc c.args.bench.now in
-    let s = state_of c.args.today c.args.objects.now c.args.store.now.kept in
+    let s = state_of c.args.today c.args.objects.now c.args.store.now.kept c.args.store.now.deferring in
     let count0 = g.B.Bench.count c.args.bench.now in
     let log0 = g.B.Bench.log c.args.bench.now in
     let stack = c.pop.new.self.items in
@@ -188,13 +192,13 @@ returns-in_err-cause-in-Ready-clause-stops g c =
     (sym c.in_ok-cause.ensures.next ∙ c.in-Ready.is) t.1 c.in_err-cause-in-Ready.ensures.err.0 c.in_err-cause-in-Ready.ensures.err.1 c.in_err-cause-in-Ready.ensures.err.2)
 
 pub returns-in_err-push-clause-stops : goal.returns-in_err-push-clause-stops
-returns-in_err-push-clause-stops g c = on_err _ (stopped (g.B.Bench.calc c.args.bench.now) (state_of c.args.today c.args.objects.now c.args.store.now.kept) c.args.object (g.B.Bench.count c.args.bench.now) (g.B.Bench.log c.args.bench.now) (c.args.object ∷ []) c.args.store.now.kept 0 (g.B.Bench.count c.args.bench.now) (g.B.Bench.log c.args.bench.now)
-    (begins (g.B.Bench.calc c.args.bench.now) (state_of c.args.today c.args.objects.now c.args.store.now.kept) c.args.object (g.B.Bench.count c.args.bench.now) (g.B.Bench.log c.args.bench.now) c.requires.may c.requires.stale))
+returns-in_err-push-clause-stops g c = on_err _ (stopped (g.B.Bench.calc c.args.bench.now) (state_of c.args.today c.args.objects.now c.args.store.now.kept c.args.store.now.deferring) c.args.object (g.B.Bench.count c.args.bench.now) (g.B.Bench.log c.args.bench.now) (c.args.object ∷ []) c.args.store.now.kept 0 (g.B.Bench.count c.args.bench.now) (g.B.Bench.log c.args.bench.now)
+    (begins (g.B.Bench.calc c.args.bench.now) (state_of c.args.today c.args.objects.now c.args.store.now.kept c.args.store.now.deferring) c.args.object (g.B.Bench.count c.args.bench.now) (g.B.Bench.log c.args.bench.now) c.requires.may c.requires.free c.requires.stale))
 
 pub compute-requires-clause-role : goal.compute-requires-clause-role
 compute-requires-clause-role g c =
     let calc = g.B.Bench.calc c.args.bench.now in
-    let s = state_of c.args.today c.args.objects.now c.args.store.now.kept in
+    let s = state_of c.args.today c.args.objects.now c.args.store.now.kept c.args.store.now.deferring in
     let count0 = g.B.Bench.count c.args.bench.now in
     let log0 = g.B.Bench.log c.args.bench.now in
     let stack = c.pop.new.self.items in
@@ -223,13 +227,58 @@ returns-clause-shape g c = c.loop-top.invariant.4
 pub overflow_add-runs : goal.overflow_add-runs
 overflow_add-runs g c =
     let calc = g.B.Bench.calc c.args.bench.now in
-    let s = state_of c.args.today c.args.objects.now c.args.store.now.kept in
+    let s = state_of c.args.today c.args.objects.now c.args.store.now.kept c.args.store.now.deferring in
     let count0 = g.B.Bench.count c.args.bench.now in
     let log0 = g.B.Bench.log c.args.bench.now in
     let stack = c.pop.new.self.items in
     let a = subst (λ (st : List ℕ). Asking calc s c.args.object count0 log0 st c.loop-top.store.kept c.loop-top.runs (g.B.Bench.count c.loop-top.bench) (g.B.Bench.log c.loop-top.bench)) c.in-Some.ensures.items c.loop-top.invariant.1 in
-    let f = few calc s c.args.object count0 log0 stack c.in-Some.top c.loop-top.store.kept c.loop-top.runs (g.B.Bench.count c.loop-top.bench) (g.B.Bench.log c.loop-top.bench) a in
+    let f = few calc s c.args.object count0 log0 (stack ++ c.in-Some.top ∷ []) c.loop-top.store.kept c.loop-top.runs (g.B.Bench.count c.loop-top.bench) (g.B.Bench.log c.loop-top.bench) a in
     omega (arith, f)
 
 pub next-requires-clause-kinds : goal.next-requires-clause-kinds
 next-requires-clause-kinds g c = c.loop-top.invariant.1.may.kinds
+
+pub returns-then-is_some-clause-begun : goal.returns-then-is_some-clause-begun
+returns-then-is_some-clause-begun g c =
+    let calc = g.B.Bench.calc c.args.bench.now in
+    let s = state_of c.args.today c.args.objects.now c.args.store.now.kept c.args.store.now.deferring in
+    let count0 = g.B.Bench.count c.args.bench.now in
+    let log0 = g.B.Bench.log c.args.bench.now in
+    let stack = c.pop.new.self.items in
+    let a = subst (λ (st : List ℕ). Asking calc s c.args.object count0 log0 st c.loop-top.store.kept c.loop-top.runs (g.B.Bench.count c.loop-top.bench) (g.B.Bench.log c.loop-top.bench)) c.in-Some.ensures.items c.loop-top.invariant.1 in
+    begun_refused calc c.args.today c.args.objects.now c.in-Some.top c.in-Ready.inputs c.loop-top.store.kept c.compute.new.store.kept c.next.new.scratch.positions c.in_ok-cause-in-Ready.cause (g.B.Bench.count c.loop-top.bench) (g.B.Bench.count c.compute.new.bench) (g.B.Bench.log c.loop-top.bench) (g.B.Bench.log c.compute.new.bench) c.in_ok-cause.ensures.begun
+    (top_lazy calc s c.args.object count0 log0 stack c.in-Some.top c.loop-top.store.kept c.loop-top.runs (g.B.Bench.count c.loop-top.bench) (g.B.Bench.log c.loop-top.bench) a)
+    (subst (λ k. Computes k (market_of c.args.today c.args.objects.now) c.in-Some.top c.in-Ready.inputs c.loop-top.store.kept c.compute.new.store.kept c.in_ok-cause-in-Ready.cause (g.B.Bench.count c.loop-top.bench) (g.B.Bench.count c.compute.new.bench) (g.B.Bench.log c.loop-top.bench) (g.B.Bench.log c.compute.new.bench)) c.loop-top.invariant.0 c.in_ok-cause-in-Ready.ensures.computes) (sym c.is_some.ensures ∙ c.if-is_some.true)
+
+pub returns-in-Stops-clause-few : goal.returns-in-Stops-clause-few
+returns-in-Stops-clause-few g c =
+    let f = few (g.B.Bench.calc c.args.bench.now) (state_of c.args.today c.args.objects.now c.args.store.now.kept c.args.store.now.deferring) c.args.object (g.B.Bench.count c.args.bench.now) (g.B.Bench.log c.args.bench.now) c.loop-top.stack.items c.loop-top.store.kept c.loop-top.runs (g.B.Bench.count c.loop-top.bench) (g.B.Bench.log c.loop-top.bench) c.loop-top.invariant.1 in
+    let said = ap (λ (a : Asked). a.runs) c.answered.ensures in omega (arith, f, said)
+
+pub returns-then-is_some-clause-few : goal.returns-then-is_some-clause-few
+returns-then-is_some-clause-few g c =
+    let f = few (g.B.Bench.calc c.args.bench.now) (state_of c.args.today c.args.objects.now c.args.store.now.kept c.args.store.now.deferring) c.args.object (g.B.Bench.count c.args.bench.now) (g.B.Bench.log c.args.bench.now) c.loop-top.stack.items c.loop-top.store.kept c.loop-top.runs (g.B.Bench.count c.loop-top.bench) (g.B.Bench.log c.loop-top.bench) c.loop-top.invariant.1 in
+    let said = ap (λ (a : Asked). a.runs) c.answered-then-is_some.ensures in omega (arith, f, said)
+
+pub returns-clause-few : goal.returns-clause-few
+returns-clause-few g c =
+    let f = few (g.B.Bench.calc c.args.bench.now) (state_of c.args.today c.args.objects.now c.args.store.now.kept c.args.store.now.deferring) c.args.object (g.B.Bench.count c.args.bench.now) (g.B.Bench.log c.args.bench.now) c.loop-top.stack.items c.loop-top.store.kept c.loop-top.runs (g.B.Bench.count c.loop-top.bench) (g.B.Bench.log c.loop-top.bench) c.loop-top.invariant.1 in
+    let said = ap (λ (a : Asked). a.runs) c.answered-2.ensures in omega (arith, f, said)
+
+pub returns-in_err-cause-clause-switch : goal.returns-in_err-cause-clause-switch
+returns-in_err-cause-clause-switch g c = c.loop-top.invariant.5
+
+pub returns-in-Stops-clause-switch : goal.returns-in-Stops-clause-switch
+returns-in-Stops-clause-switch g c = c.loop-top.invariant.5
+
+pub returns-in_err-push-in-First-2-clause-switch : goal.returns-in_err-push-in-First-2-clause-switch
+returns-in_err-push-in-First-2-clause-switch g c = c.loop-top.invariant.5
+
+pub returns-in_err-cause-in-Ready-clause-switch : goal.returns-in_err-cause-in-Ready-clause-switch
+returns-in_err-cause-in-Ready-clause-switch g c = c.compute.ensures.switch ∙ c.loop-top.invariant.5
+
+pub returns-then-is_some-clause-switch : goal.returns-then-is_some-clause-switch
+returns-then-is_some-clause-switch g c = c.compute.ensures.switch ∙ c.loop-top.invariant.5
+
+pub returns-clause-switch : goal.returns-clause-switch
+returns-clause-switch g c = c.loop-top.invariant.5

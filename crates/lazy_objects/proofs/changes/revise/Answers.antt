@@ -26,5 +26,5 @@ tell_changed-requires-clause-unwatched c =
 
 pub returns-clause-state : goal.returns-clause-state
 returns-clause-state c =
-    revised_told c.args.today c.args.objects.now c.replace.new.self c.args.store.now.kept (state_of c.args.today c.replace.new.self c.tell_changed.new.store.kept) c.args.object c.args.terms
+    revised_told c.args.today c.args.objects.now c.replace.new.self c.args.store.now.kept c.args.store.now.deferring (state_of c.args.today c.replace.new.self c.tell_changed.new.store.kept c.tell_changed.new.store.deferring) c.args.object c.args.terms
     c.replace.ensures c.tell_changed.ensures.state

@@ -1,20 +1,32 @@
-use Rattle.std.proofs.Common.{ℕ, ◌<◌, sym, ◌∙◌, ap, subst}
+use Rattle.std.proofs.Common.{false, ℕ, ◌<◌, length, refl, sym, ◌∙◌, ap, subst}
 use Rattle.std.specs.Prelude.{is_some}
-use Rattle.lazy_objects.specs.Slots.{market_of}
-use Rattle.lazy_objects.specs.Shape.{Shape, IsJoined, role_at}
+use Rattle.std.proofs.lemmas.List.{length-set}
+use Rattle.desk_model.specs.Effect.{notified}
+use Rattle.lazy_objects.specs.Slots.{market_of, state_of}
+use Rattle.lazy_objects.specs.Shape.{IsJoined, role_at}
+use Rattle.lazy_objects.specs.Store.{StoreView, HasNoMarkWhereOff, stored_at}
 use Rattle.lazy_objects.proofs.Joined.{there_given}
-use Rattle.lazy_objects.proofs.Telling.{outdated_state}
+use Rattle.lazy_objects.proofs.Telling.{notified_state, tells_shape, stored_marks}
 use Rattle.lazy_objects.proofs.changes.tell_changed.Goals as goal
 
 pub outdate-requires : goal.outdate-requires
 outdate-requires c = there_given (market_of c.args.today c.args.objects.now) c.args.store.now.shape c.requires.joined c.args.object c.requires.live
 
-pub mark-requires : goal.mark-requires
-mark-requires c = ap (λ (h : Shape). is_some (role_at h c.args.object)) c.outdate.ensures.shape
+pub changed-requires : goal.changed-requires
+changed-requires c = ap (λ (v : StoreView). is_some (role_at v.shape c.args.object)) c.outdate.ensures
     ∙ there_given (market_of c.args.today c.args.objects.now) c.args.store.now.shape c.requires.joined c.args.object c.requires.live
 
 pub returns-clause-state : goal.returns-clause-state
 returns-clause-state c =
-    outdated_state c.args.today c.args.objects.now c.args.store.now.kept c.outdate.new.self.kept c.mark.new.self.kept c.mark.new.self.shape c.tell.new.self c.args.object
-    c.outdate.ensures.kept c.mark.ensures.kept c.requires.linked (subst (IsJoined (market_of c.args.today c.args.objects.now)) (sym (c.mark.ensures.shape ∙ c.outdate.ensures.shape)) c.requires.joined)
-    (subst (λ (n : ℕ). c.args.object < n) (sym c.requires.kept) c.requires.within) c.requires.unmarked c.requires.unwatched c.tell.ensures
+    let e = c.outdate.ensures in
+    let shape = ap (λ (v : StoreView). v.shape) e in
+    let long = ap (λ (v : StoreView). length v.kept) e ∙ length-set c.args.store.now.kept c.args.object (record (stored_at c.args.store.now c.args.object) { current = false }) ∙ c.requires.kept in
+    notified_state c.args.today c.args.objects.now c.outdate.new.self c.changed.new.self c.args.object c.requires.linked (subst (IsJoined (market_of c.args.today c.args.objects.now)) (sym shape) c.requires.joined) c.requires.unwatched
+    (subst (λ (n : ℕ). c.args.object < n) (sym long) c.requires.within)
+    (subst HasNoMarkWhereOff (sym e) (stored_marks c.args.store.now c.args.object (record (stored_at c.args.store.now c.args.object) { current = false }) refl c.requires.sources))
+    (record { switch = c.changed.ensures.switch; held = c.changed.ensures.held; told = c.changed.ensures.told })
+    ∙ ap (λ (v : StoreView). notified c.args.object (state_of c.args.today c.args.objects.now v.kept v.deferring)) e
+
+pub returns-clause-shape : goal.returns-clause-shape
+returns-clause-shape c = tells_shape c.args.object c.outdate.new.self c.changed.new.self (record { switch = c.changed.ensures.switch; held = c.changed.ensures.held; told = c.changed.ensures.told })
+    ∙ ap (λ (v : StoreView). v.shape) c.outdate.ensures

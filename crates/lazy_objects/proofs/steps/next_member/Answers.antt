@@ -1,5 +1,6 @@
 use Rattle.std.proofs.Common.{arith, sym, ◌∙◌, ap, Some}
-use Rattle.lazy_objects.specs.Slots.{is_now, answer_of, answered}
+use Rattle.lazy_objects.specs.Begun.{is_at_hand}
+use Rattle.lazy_objects.specs.Slots.{answer_of, answered}
 use Rattle.lazy_objects.proofs.Members.{members_none, members_err}
 use Rattle.lazy_objects.proofs.Fronts.{settled_front, settled_more}
 use Rattle.lazy_objects.proofs.steps.next_member.Goals as goal
@@ -13,9 +14,9 @@ loop-begun-preserved c = (
 pub returns-in-Err-clause-next : goal.returns-in-Err-clause-next
 returns-in-Err-clause-next c =
     let front = settled_front c.args.store.now.kept c.args.parts.now c.loop-begun.begun c.loop-begun.invariant.1 in
-    members_err (is_now c.args.store.now.kept) (answer_of c.args.store.now.kept) front.0 c.args.parts.now c.loop-begun.begun c.index-parts-begun.result c.in-Err.cause front.1 c.index-parts-begun.is c.loop-begun-test.true (sym c.answer.ensures ∙ ap answered (c.in-Some.is ∙ ap Some c.in-Err.is))
+    members_err (is_at_hand c.args.store.now.kept) (answer_of c.args.store.now.kept) front.0 c.args.parts.now c.loop-begun.begun c.index-parts-begun.result c.in-Err.cause front.1 c.index-parts-begun.is c.loop-begun-test.true (sym c.answer.ensures ∙ ap answered (c.in-Some.is ∙ ap Some c.in-Err.is))
 
 pub returns-in-None-clause-next : goal.returns-in-None-clause-next
 returns-in-None-clause-next c =
     let front = settled_front c.args.store.now.kept c.args.parts.now c.loop-begun.begun c.loop-begun.invariant.1 in
-    members_none (is_now c.args.store.now.kept) (answer_of c.args.store.now.kept) front.0 c.args.parts.now c.loop-begun.begun c.index-parts-begun.result front.1 c.index-parts-begun.is c.loop-begun-test.true (sym c.answer.ensures ∙ ap answered c.in-None.is)
+    members_none (is_at_hand c.args.store.now.kept) (answer_of c.args.store.now.kept) front.0 c.args.parts.now c.loop-begun.begun c.index-parts-begun.result front.1 c.index-parts-begun.is c.loop-begun-test.true (sym c.answer.ensures ∙ ap answered c.in-None.is)

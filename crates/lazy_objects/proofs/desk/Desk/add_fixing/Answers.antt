@@ -15,8 +15,7 @@ use Rattle.desk_model.specs.Sound.{IsSound, KeepsCurrent}
 use Rattle.desk_model.specs.Effect.{fixing_added}
 use Rattle.lazy_objects.specs.Slots.{market_of, state_of, AreUnwatched}
 use Rattle.lazy_objects.specs.Shape.{IsJoined}
-use Rattle.lazy_objects.proofs.Joined.{unmarked}
-use Rattle.lazy_objects.proofs.Telling.{given_set, unwatched_set}
+use Rattle.lazy_objects.proofs.Telling.{given_set, unwatched_set, no_marks}
 use Rattle.lazy_objects.proofs.Revised.{kind_within}
 use Rattle.lazy_objects.proofs.Ends.{keeps_same}
 use Rattle.lazy_objects.proofs.Stored.{index_there, fixings_are, refused_as, joined_fixing, fixing_links, fixing_left}
@@ -35,9 +34,9 @@ returns-in_err-store_fixing-clause-exists c kept =
 pub returns-in_err-store_fixing-clause-keeps : goal.returns-in_err-store_fixing-clause-keeps
 returns-in_err-store_fixing-clause-keeps c =
     let same = c.in_err-store_fixing.ensures.same in
-    subst (λ (t : State). KeepsCurrent t (state_of c.self.inside.today c.store_fixing.new.self c.self.inside.store.kept)) c.self.view_is
-    (subst (λ (l : List Slot). KeepsCurrent (state_of c.self.inside.today c.self.inside.objects c.self.inside.store.kept) (state_of c.self.inside.today l c.self.inside.store.kept)) (sym same)
-    (keeps_same (state_of c.self.inside.today c.self.inside.objects c.self.inside.store.kept) c.self.inside.scratch c.self.invariant.0))
+    subst (λ (t : State). KeepsCurrent t (state_of c.self.inside.today c.store_fixing.new.self c.self.inside.store.kept c.self.inside.store.deferring)) c.self.view_is
+    (subst (λ (l : List Slot). KeepsCurrent (state_of c.self.inside.today c.self.inside.objects c.self.inside.store.kept c.self.inside.store.deferring) (state_of c.self.inside.today l c.self.inside.store.kept c.self.inside.store.deferring)) (sym same)
+    (keeps_same (state_of c.self.inside.today c.self.inside.objects c.self.inside.store.kept c.self.inside.store.deferring) c.self.inside.scratch c.self.invariant.0))
 
 pub tell_changed-requires-clause-within : goal.tell_changed-requires-clause-within
 tell_changed-requires-clause-within c =
@@ -70,9 +69,8 @@ tell_changed-requires-clause-joined c =
     subst (λ (l : List Slot). IsJoined (market_of c.self.inside.today l) c.self.inside.store.shape) (sym are)
     (joined_fixing c.self.inside.today c.self.inside.objects c.self.inside.store.shape c.args.index f.0 f.1 (with_fixing f.1 c.args.day c.args.rate) c.self.invariant.1 (kind_within c.self.inside.objects c.self.inside.today c.args.index kind.Index is) f.2)
 
-pub tell_changed-requires-clause-unmarked : goal.tell_changed-requires-clause-unmarked
-tell_changed-requires-clause-unmarked c =
-    unmarked (state_of c.self.inside.today c.self.inside.objects c.self.inside.store.kept) c.self.invariant.0.unheld
+pub tell_changed-requires-clause-sources : goal.tell_changed-requires-clause-sources
+tell_changed-requires-clause-sources c = no_marks c.self.inside.today c.self.inside.objects c.self.inside.store c.self.invariant.0.sources
 
 pub tell_changed-requires-clause-unwatched : goal.tell_changed-requires-clause-unwatched
 tell_changed-requires-clause-unwatched c =
@@ -87,7 +85,7 @@ tell_changed-requires-clause-linked c =
     let f = index_there (market_of c.self.inside.today c.self.inside.objects) c.args.index is in
     let are = c.in_ok-store_fixing.ensures.added f.0 f.1 f.2 in
     subst (λ (l : List Slot). IsLinked (market_of c.self.inside.today l)) (sym are)
-    (fixing_links c.self.inside.today c.self.inside.objects c.self.inside.store.kept c.self.inside.scratch c.self.invariant.0 c.args.index f.0 f.1 c.args.day c.args.rate f.2)
+    (fixing_links c.self.inside.today c.self.inside.objects c.self.inside.store.kept c.self.inside.store.deferring c.self.inside.scratch c.self.invariant.0 c.args.index f.0 f.1 c.args.day c.args.rate f.2)
 
 pub invariant_of-self-2 : goal.invariant_of-self-2
 invariant_of-self-2 c =
@@ -126,7 +124,7 @@ returns-clause-keeps c =
     let d = fixing_left c.self.inside.today c.self.inside.objects c.store_fixing.new.self c.self.inside.store c.tell_changed.new.store c.self.inside.scratch c.args.index f.0 f.1 c.args.day c.args.rate
     c.self.invariant.0 c.self.invariant.1 (kind_within c.self.inside.objects c.self.inside.today c.args.index kind.Index is) f.2 are
     c.tell_changed.ensures.state c.tell_changed.ensures.shape in
-    subst (λ (t : State). KeepsCurrent t (state_of c.self.inside.today c.store_fixing.new.self c.tell_changed.new.store.kept)) c.self.view_is d.changed.keeps
+    subst (λ (t : State). KeepsCurrent t (state_of c.self.inside.today c.store_fixing.new.self c.tell_changed.new.store.kept c.tell_changed.new.store.deferring)) c.self.view_is d.changed.keeps
 
 pub returns-clause-sound : goal.returns-clause-sound
 returns-clause-sound c calc sound =

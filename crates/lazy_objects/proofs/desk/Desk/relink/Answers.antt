@@ -1,10 +1,9 @@
-use Rattle.std.proofs.Common.{◌≡◌, ℕ, true, List, Option, None, Some, refl, sym, ◌∙◌, ap, subst}
+use Rattle.std.proofs.Common.{◌≡◌, ℕ, true, List, Option, None, Some, sym, ◌∙◌, ap, subst}
 use Rattle.std.specs.Prelude.{slice_index_or, is_some}
 use Rattle.desk_terms.specs.declared.terms.Terms.TheVariants.{Handle}
 use Rattle.desk_terms.specs.declared.terms.HandleKind.{HandleKind}
-use Rattle.desk_model.specs.declared.kept.Kept.{Kept}
 use Rattle.desk_model.specs.Market.{Market, terms_at}
-use Rattle.desk_model.specs.State.{State, unpriced}
+use Rattle.desk_model.specs.State.{State}
 use Rattle.desk_model.specs.Links.{AreOfKind}
 use Rattle.desk_model.specs.Laws.{MayLink}
 use Rattle.desk_model.specs.Sound.{IsSound, KeepsCurrent}
@@ -12,7 +11,8 @@ use Rattle.desk_model.specs.Effect.{revised, relinked}
 use Rattle.observer_graph.specs.declared.node.Role.{Role}
 use Rattle.lazy_objects.specs.Slots.{market_of, state_of}
 use Rattle.lazy_objects.specs.Shape.{Shape, IsJoined}
-use Rattle.lazy_objects.proofs.Joined.{unmarked, revised_market}
+use Rattle.lazy_objects.proofs.Telling.{kept_state, kept_marks, no_marks}
+use Rattle.lazy_objects.proofs.Joined.{revised_market}
 use Rattle.lazy_objects.proofs.Linked.{handle_there, target_there, held_there, target_new, joined_linked, linked_kept, joins_roles, link_as, link_links, link_changed}
 use Rattle.lazy_objects.proofs.desk.Desk.relink.Goals as goal
 
@@ -20,7 +20,7 @@ pub returns-then-eq-clause-set : goal.returns-then-eq-clause-set
 returns-then-eq-clause-set c =
     let is = c.link_of-link.ensures in
     subst (λ (s : State). s ≡ relinked c.args.handle c.args.target s) c.self.view_is
-    (sym (link_as (state_of c.self.inside.today c.self.inside.objects c.self.inside.store.kept) c.args.handle c.link_of-link.result.kind c.link_of-link.result.target c.args.target true is (sym c.eq.ensures ∙ c.if-eq.true)))
+    (sym (link_as (state_of c.self.inside.today c.self.inside.objects c.self.inside.store.kept c.self.inside.store.deferring) c.args.handle c.link_of-link.result.kind c.link_of-link.result.target c.args.target true is (sym c.eq.ensures ∙ c.if-eq.true)))
 
 pub watch_any-requires-clause-subject : goal.watch_any-requires-clause-subject
 watch_any-requires-clause-subject c =
@@ -55,16 +55,16 @@ revise-requires-clause-joined c =
     let differs = sym c.eq.ensures ∙ c.if-eq.false in
     (joined_linked c.self.inside.today c.self.inside.objects c.args.handle c.link_of-link.result.kind c.link_of-link.result.target c.args.target c.self.inside.store c.self.invariant.1 is c.watch_any.new.store c.unwatch_any.new.store differs c.in_ok-watch_any.ensures.joins c.unwatch_any.ensures)
 
-pub revise-requires-clause-unmarked : goal.revise-requires-clause-unmarked
-revise-requires-clause-unmarked c = λ x. ap (λ (l : List Kept). (slice_index_or l x unpriced).source) (linked_kept c.link_of-link.result.target c.args.target c.args.handle c.self.inside.store c.watch_any.new.store c.unwatch_any.new.store c.in_ok-watch_any.ensures.joins c.unwatch_any.ensures).0
-    ∙ unmarked (state_of c.self.inside.today c.self.inside.objects c.self.inside.store.kept) c.self.invariant.0.unheld x
+pub revise-requires-clause-sources : goal.revise-requires-clause-sources
+revise-requires-clause-sources c = kept_marks c.self.inside.store c.unwatch_any.new.store (linked_kept c.link_of-link.result.target c.args.target c.args.handle c.self.inside.store c.watch_any.new.store c.unwatch_any.new.store c.in_ok-watch_any.ensures.joins c.unwatch_any.ensures)
+    (no_marks c.self.inside.today c.self.inside.objects c.self.inside.store c.self.invariant.0.sources)
 
 pub revise-requires-clause-linked : goal.revise-requires-clause-linked
 revise-requires-clause-linked c =
     let is = c.link_of-link.ensures in
     let may = subst (λ (t : State). MayLink t.market c.args.handle c.args.target) (sym c.self.view_is) c.requires.open in
     let differs = sym c.eq.ensures ∙ c.if-eq.false in
-    (link_links c.self.inside.today c.self.inside.objects c.self.inside.store.kept c.self.inside.scratch c.self.invariant.0 c.args.handle c.link_of-link.result.kind c.link_of-link.result.target c.args.target is may differs)
+    (link_links c.self.inside.today c.self.inside.objects c.self.inside.store.kept c.self.inside.store.deferring c.self.inside.scratch c.self.invariant.0 c.args.handle c.link_of-link.result.kind c.link_of-link.result.target c.args.target is may differs)
 
 pub invariant_of-self-2 : goal.invariant_of-self-2
 invariant_of-self-2 c =
@@ -73,9 +73,9 @@ invariant_of-self-2 c =
     let differs = sym c.eq.ensures ∙ c.if-eq.false in
     let kinds = subst (λ (t : State). (k : HandleKind) (u : Option ℕ) → terms_at t.market c.args.handle ≡ Some (Handle k u) → AreOfKind t.market (Some (Handle k c.args.target))) (sym c.self.view_is) c.requires.kinds in
     let e = c.revise.ensures.state
-    ∙ ap (λ (k : List Kept). revised c.args.handle (Handle c.link_of-link.result.kind c.args.target) (state_of c.self.inside.today c.self.inside.objects k)) (linked_kept c.link_of-link.result.target c.args.target c.args.handle c.self.inside.store c.watch_any.new.store c.unwatch_any.new.store c.in_ok-watch_any.ensures.joins c.unwatch_any.ensures).0 in
-    let d = link_changed c.self.inside.today c.self.inside.objects c.self.inside.store.kept c.self.inside.scratch c.self.invariant.0 c.args.handle c.link_of-link.result.kind c.link_of-link.result.target c.args.target is may differs kinds (state_of c.self.inside.today c.revise.new.objects c.revise.new.store.kept) e in
-    let market = ap (λ (t : State). t.market) e ∙ revised_market c.args.handle (Handle c.link_of-link.result.kind c.args.target) (state_of c.self.inside.today c.self.inside.objects c.self.inside.store.kept) refl in (
+    ∙ ap (revised c.args.handle (Handle c.link_of-link.result.kind c.args.target)) (kept_state c.self.inside.today c.self.inside.objects c.self.inside.store c.unwatch_any.new.store (linked_kept c.link_of-link.result.target c.args.target c.args.handle c.self.inside.store c.watch_any.new.store c.unwatch_any.new.store c.in_ok-watch_any.ensures.joins c.unwatch_any.ensures)) in
+    let d = link_changed c.self.inside.today c.self.inside.objects c.self.inside.store.kept c.self.inside.store.deferring c.self.inside.scratch c.self.invariant.0 c.args.handle c.link_of-link.result.kind c.link_of-link.result.target c.args.target is may differs kinds (state_of c.self.inside.today c.revise.new.objects c.revise.new.store.kept c.revise.new.store.deferring) e in
+    let market = ap (λ (t : State). t.market) e ∙ revised_market c.args.handle (Handle c.link_of-link.result.kind c.args.target) (state_of c.self.inside.today c.self.inside.objects c.self.inside.store.kept c.self.inside.store.deferring) in (
       d.stands,
       subst (λ (h : Shape). IsJoined (market_of c.self.inside.today c.revise.new.objects) h) (sym c.revise.ensures.shape)
           (subst (λ (m : Market). IsJoined m c.unwatch_any.new.store.shape) (sym market)
@@ -89,8 +89,8 @@ returns-clause-set c =
     let differs = sym c.eq.ensures ∙ c.if-eq.false in
     let kinds = subst (λ (t : State). (k : HandleKind) (u : Option ℕ) → terms_at t.market c.args.handle ≡ Some (Handle k u) → AreOfKind t.market (Some (Handle k c.args.target))) (sym c.self.view_is) c.requires.kinds in
     let e = c.revise.ensures.state
-    ∙ ap (λ (k : List Kept). revised c.args.handle (Handle c.link_of-link.result.kind c.args.target) (state_of c.self.inside.today c.self.inside.objects k)) (linked_kept c.link_of-link.result.target c.args.target c.args.handle c.self.inside.store c.watch_any.new.store c.unwatch_any.new.store c.in_ok-watch_any.ensures.joins c.unwatch_any.ensures).0 in
-    let d = link_changed c.self.inside.today c.self.inside.objects c.self.inside.store.kept c.self.inside.scratch c.self.invariant.0 c.args.handle c.link_of-link.result.kind c.link_of-link.result.target c.args.target is may differs kinds (state_of c.self.inside.today c.revise.new.objects c.revise.new.store.kept) e in
+    ∙ ap (revised c.args.handle (Handle c.link_of-link.result.kind c.args.target)) (kept_state c.self.inside.today c.self.inside.objects c.self.inside.store c.unwatch_any.new.store (linked_kept c.link_of-link.result.target c.args.target c.args.handle c.self.inside.store c.watch_any.new.store c.unwatch_any.new.store c.in_ok-watch_any.ensures.joins c.unwatch_any.ensures)) in
+    let d = link_changed c.self.inside.today c.self.inside.objects c.self.inside.store.kept c.self.inside.store.deferring c.self.inside.scratch c.self.invariant.0 c.args.handle c.link_of-link.result.kind c.link_of-link.result.target c.args.target is may differs kinds (state_of c.self.inside.today c.revise.new.objects c.revise.new.store.kept c.revise.new.store.deferring) e in
     d.state ∙ ap (relinked c.args.handle c.args.target) c.self.view_is
 
 pub returns-clause-keeps : goal.returns-clause-keeps
@@ -100,9 +100,9 @@ returns-clause-keeps c =
     let differs = sym c.eq.ensures ∙ c.if-eq.false in
     let kinds = subst (λ (t : State). (k : HandleKind) (u : Option ℕ) → terms_at t.market c.args.handle ≡ Some (Handle k u) → AreOfKind t.market (Some (Handle k c.args.target))) (sym c.self.view_is) c.requires.kinds in
     let e = c.revise.ensures.state
-    ∙ ap (λ (k : List Kept). revised c.args.handle (Handle c.link_of-link.result.kind c.args.target) (state_of c.self.inside.today c.self.inside.objects k)) (linked_kept c.link_of-link.result.target c.args.target c.args.handle c.self.inside.store c.watch_any.new.store c.unwatch_any.new.store c.in_ok-watch_any.ensures.joins c.unwatch_any.ensures).0 in
-    let d = link_changed c.self.inside.today c.self.inside.objects c.self.inside.store.kept c.self.inside.scratch c.self.invariant.0 c.args.handle c.link_of-link.result.kind c.link_of-link.result.target c.args.target is may differs kinds (state_of c.self.inside.today c.revise.new.objects c.revise.new.store.kept) e in
-    subst (λ (t : State). KeepsCurrent t (state_of c.self.inside.today c.revise.new.objects c.revise.new.store.kept)) c.self.view_is d.keeps
+    ∙ ap (revised c.args.handle (Handle c.link_of-link.result.kind c.args.target)) (kept_state c.self.inside.today c.self.inside.objects c.self.inside.store c.unwatch_any.new.store (linked_kept c.link_of-link.result.target c.args.target c.args.handle c.self.inside.store c.watch_any.new.store c.unwatch_any.new.store c.in_ok-watch_any.ensures.joins c.unwatch_any.ensures)) in
+    let d = link_changed c.self.inside.today c.self.inside.objects c.self.inside.store.kept c.self.inside.store.deferring c.self.inside.scratch c.self.invariant.0 c.args.handle c.link_of-link.result.kind c.link_of-link.result.target c.args.target is may differs kinds (state_of c.self.inside.today c.revise.new.objects c.revise.new.store.kept c.revise.new.store.deferring) e in
+    subst (λ (t : State). KeepsCurrent t (state_of c.self.inside.today c.revise.new.objects c.revise.new.store.kept c.revise.new.store.deferring)) c.self.view_is d.keeps
 
 pub returns-clause-sound : goal.returns-clause-sound
 returns-clause-sound c calc sound =
@@ -111,6 +111,6 @@ returns-clause-sound c calc sound =
     let differs = sym c.eq.ensures ∙ c.if-eq.false in
     let kinds = subst (λ (t : State). (k : HandleKind) (u : Option ℕ) → terms_at t.market c.args.handle ≡ Some (Handle k u) → AreOfKind t.market (Some (Handle k c.args.target))) (sym c.self.view_is) c.requires.kinds in
     let e = c.revise.ensures.state
-    ∙ ap (λ (k : List Kept). revised c.args.handle (Handle c.link_of-link.result.kind c.args.target) (state_of c.self.inside.today c.self.inside.objects k)) (linked_kept c.link_of-link.result.target c.args.target c.args.handle c.self.inside.store c.watch_any.new.store c.unwatch_any.new.store c.in_ok-watch_any.ensures.joins c.unwatch_any.ensures).0 in
-    let d = link_changed c.self.inside.today c.self.inside.objects c.self.inside.store.kept c.self.inside.scratch c.self.invariant.0 c.args.handle c.link_of-link.result.kind c.link_of-link.result.target c.args.target is may differs kinds (state_of c.self.inside.today c.revise.new.objects c.revise.new.store.kept) e in
+    ∙ ap (revised c.args.handle (Handle c.link_of-link.result.kind c.args.target)) (kept_state c.self.inside.today c.self.inside.objects c.self.inside.store c.unwatch_any.new.store (linked_kept c.link_of-link.result.target c.args.target c.args.handle c.self.inside.store c.watch_any.new.store c.unwatch_any.new.store c.in_ok-watch_any.ensures.joins c.unwatch_any.ensures)) in
+    let d = link_changed c.self.inside.today c.self.inside.objects c.self.inside.store.kept c.self.inside.store.deferring c.self.inside.scratch c.self.invariant.0 c.args.handle c.link_of-link.result.kind c.link_of-link.result.target c.args.target is may differs kinds (state_of c.self.inside.today c.revise.new.objects c.revise.new.store.kept c.revise.new.store.deferring) e in
     d.sound calc (subst (IsSound calc) (sym c.self.view_is) sound)

@@ -1,5 +1,4 @@
 use Rattle.std.proofs.Common.{arith, ◌≡◌, List, length, Some, sym, ◌∙◌, ap, subst}
-use Rattle.std.specs.Prelude.{slice_index_or}
 use Rattle.std.proofs.lemmas.List.{length-set}
 use Rattle.desk_terms.specs.declared.terms.Terms.TheVariants.{Flows}
 use Rattle.desk_terms.specs.declared.kind.Kind.TheVariants as kind
@@ -9,14 +8,13 @@ use Rattle.desk_model.specs.declared.kept.Kept.{Kept}
 use Rattle.desk_model.specs.declared.slot.Slot.{Slot}
 use Rattle.desk_model.specs.declared.slot.Slot.TheVariants.{Live}
 use Rattle.desk_model.specs.Market.{kind_at}
-use Rattle.desk_model.specs.State.{State, unpriced}
+use Rattle.desk_model.specs.State.{State}
 use Rattle.desk_model.specs.Links.{IsLinked, Serve}
 use Rattle.desk_model.specs.Sound.{IsSound, KeepsCurrent}
 use Rattle.desk_model.specs.Effect.{engine_set}
 use Rattle.lazy_objects.specs.Slots.{market_of, state_of, AreUnwatched}
 use Rattle.lazy_objects.specs.Shape.{IsJoined}
-use Rattle.lazy_objects.proofs.Joined.{unmarked}
-use Rattle.lazy_objects.proofs.Telling.{given_set, unwatched_set}
+use Rattle.lazy_objects.proofs.Telling.{given_set, unwatched_set, kept_marks, no_marks}
 use Rattle.lazy_objects.proofs.Revised.{kind_within}
 use Rattle.lazy_objects.proofs.Repriced.{priced_there, engine_watched, engine_new, joined_repriced, engine_links, engine_left}
 use Rattle.lazy_objects.proofs.desk.Desk.set_engine.Goals as goal
@@ -49,9 +47,9 @@ tell_changed-requires-clause-joined c =
     subst (λ (l : List Slot). IsJoined (market_of c.self.inside.today l) c.watch_instead.new.store.shape) (sym are)
     (joined_repriced c.self.inside.today c.self.inside.objects c.args.instrument f.0 c.engine_of-held.result c.self.inside.store c.self.invariant.1 f.1 c.self.invariant.0.kinds c.self.invariant.0.whole.today c.args.engine c.watch_instead.new.store (kind_within c.self.inside.objects c.self.inside.today c.args.instrument kind.Flows instrument) c.in_ok-watch_instead.ensures.moves)
 
-pub tell_changed-requires-clause-unmarked : goal.tell_changed-requires-clause-unmarked
-tell_changed-requires-clause-unmarked c x =
-    ap (λ (l : List Kept). (slice_index_or l x unpriced).source) c.in_ok-watch_instead.ensures.moves.kept ∙ unmarked (state_of c.self.inside.today c.self.inside.objects c.self.inside.store.kept) c.self.invariant.0.unheld x
+pub tell_changed-requires-clause-sources : goal.tell_changed-requires-clause-sources
+tell_changed-requires-clause-sources c = kept_marks c.self.inside.store c.watch_instead.new.store (record { kept = c.in_ok-watch_instead.ensures.moves.kept; switch = c.in_ok-watch_instead.ensures.moves.switch })
+    (no_marks c.self.inside.today c.self.inside.objects c.self.inside.store c.self.invariant.0.sources)
 
 pub tell_changed-requires-clause-unwatched : goal.tell_changed-requires-clause-unwatched
 tell_changed-requires-clause-unwatched c =
@@ -84,7 +82,7 @@ tell_changed-requires-clause-linked c =
     let f = priced_there (market_of c.self.inside.today c.self.inside.objects) c.args.instrument instrument c.engine_of-held.result c.engine_of-held.ensures in
     let are = c.set_engine.ensures f.0 c.engine_of-held.result f.1 in
     subst (λ (l : List Slot). IsLinked (market_of c.self.inside.today l)) (sym are)
-    (engine_links c.self.inside.today c.self.inside.objects c.self.inside.store.kept c.self.inside.scratch c.self.invariant.0 c.args.instrument f.0 c.engine_of-held.result c.args.engine f.1 instrument serve)
+    (engine_links c.self.inside.today c.self.inside.objects c.self.inside.store.kept c.self.inside.store.deferring c.self.inside.scratch c.self.invariant.0 c.args.instrument f.0 c.engine_of-held.result c.args.engine f.1 instrument serve)
 
 pub invariant_of-self-2 : goal.invariant_of-self-2
 invariant_of-self-2 c =
@@ -117,7 +115,7 @@ returns-clause-keeps c =
     let d = engine_left c.self.inside.today c.self.inside.objects c.set_engine.new.self c.self.inside.store c.watch_instead.new.store c.tell_changed.new.store c.self.inside.scratch c.args.instrument f.0 c.engine_of-held.result c.args.engine
     c.self.invariant.0 c.self.invariant.1 f.1 instrument serve are c.in_ok-watch_instead.ensures.moves
     c.tell_changed.ensures.state c.tell_changed.ensures.shape in
-    subst (λ (t : State). KeepsCurrent t (state_of c.self.inside.today c.set_engine.new.self c.tell_changed.new.store.kept)) c.self.view_is d.changed.keeps
+    subst (λ (t : State). KeepsCurrent t (state_of c.self.inside.today c.set_engine.new.self c.tell_changed.new.store.kept c.tell_changed.new.store.deferring)) c.self.view_is d.changed.keeps
 
 pub returns-clause-sound : goal.returns-clause-sound
 returns-clause-sound c calc sound =

@@ -1,22 +1,22 @@
-use Rattle.std.proofs.Common.{◌≡◌, List, sym, refl, ◌∙◌, ap, subst, true, w64}
-use Rattle.std.specs.Prelude.{◌↔◌, slice_index_or}
+use Rattle.std.proofs.Common.{◌≡◌, List, sym, ◌∙◌, ap, subst, true, w64}
+use Rattle.std.specs.Prelude.{◌↔◌}
 use Rattle.walks.specs.Walk.{Among}
 use Rattle.desk_terms.specs.declared.kind.Kind.TheVariants.{Composite}
 use Rattle.desk_terms.specs.Terms.{part_references}
-use Rattle.desk_model.specs.declared.kept.Kept.{Kept}
 use Rattle.desk_model.specs.Market.{Market, named}
 use Rattle.std.specs.Ordering.{int_eq}
 use Rattle.std.proofs.lemmas.Int.{to_z-of_z}
 use Rattle.desk_terms.specs.declared.terms.Terms.TheVariants as terms_of
 use Rattle.desk_terms.specs.declared.terms.Part.{Part}
-use Rattle.desk_model.specs.State.{State, unpriced}
+use Rattle.desk_model.specs.State.{State}
 use Rattle.desk_model.specs.Held.{weight_of, with_member}
 use Rattle.desk_model.specs.Sound.{IsSound, KeepsCurrent}
 use Rattle.desk_model.specs.Effect.{revised, member_set}
 use Rattle.lazy_objects.specs.Slots.{market_of, state_of}
 use Rattle.lazy_objects.specs.Shape.{Shape, IsJoined, observed_by}
 use Rattle.lazy_objects.specs.Store.{IsRewatched}
-use Rattle.lazy_objects.proofs.Joined.{joined_composite, composite_watches, unmarked, revised_market}
+use Rattle.lazy_objects.proofs.Joined.{joined_composite, composite_watches, revised_market}
+use Rattle.lazy_objects.proofs.Telling.{kept_state, kept_marks, no_marks}
 use Rattle.lazy_objects.proofs.Revised.{kind_within}
 use Rattle.lazy_objects.proofs.Weighed.{MayWeigh, weight_as, member_links, member_changed}
 use Rattle.lazy_objects.proofs.desk.Desk.set_member.Goals as goal
@@ -28,7 +28,7 @@ returns-then-has_weight-clause-set c =
     let parts = c.parts_of-parts.ensures in
     let held = ap (λ (p : List Part). int_eq (weight_of p c.args.member) c.args.weight) (sym parts) ∙ ap (int_eq (weight_of c.parts_of-parts.result.now c.args.member)) (sym bits) ∙ sym c.has_weight.ensures ∙ c.if-has_weight.true in
     subst (λ (s : State). s ≡ member_set c.args.composite c.args.member c.args.weight s) c.self.view_is
-    (sym (weight_as (state_of c.self.inside.today c.self.inside.objects c.self.inside.store.kept) c.args.composite c.args.member c.args.weight is.0 true held))
+    (sym (weight_as (state_of c.self.inside.today c.self.inside.objects c.self.inside.store.kept c.self.inside.store.deferring) c.args.composite c.args.member c.args.weight is.0 true held))
 
 pub revise-requires-clause-linked : goal.revise-requires-clause-linked
 revise-requires-clause-linked c =
@@ -37,7 +37,7 @@ revise-requires-clause-linked c =
     let parts = c.parts_of-parts.ensures in
     let differs = ap (λ (p : List Part). int_eq (weight_of p c.args.member) c.args.weight) (sym parts) ∙ ap (int_eq (weight_of c.parts_of-parts.result.now c.args.member)) (sym bits) ∙ sym c.has_weight.ensures ∙ c.if-has_weight.false in
     let reweighed = c.in_ok-changed.ensures ∙ ap (with_member c.parts_of-parts.result.now c.args.member) bits ∙ ap (λ (p : List Part). with_member p c.args.member c.args.weight) parts in
-    (member_links c.self.inside.today c.self.inside.objects c.self.inside.store.kept c.self.inside.scratch c.self.invariant.0 c.args.composite c.args.member c.args.weight is differs c.in_ok-changed.changed reweighed)
+    (member_links c.self.inside.today c.self.inside.objects c.self.inside.store.kept c.self.inside.store.deferring c.self.inside.scratch c.self.invariant.0 c.args.composite c.args.member c.args.weight is differs c.in_ok-changed.changed reweighed)
 
 pub rewatch-requires-clause-watched : goal.rewatch-requires-clause-watched
 rewatch-requires-clause-watched c = λ x.
@@ -52,9 +52,9 @@ revise-requires-clause-joined c =
     let rewatched = subst (λ (p : List Part). IsRewatched c.args.composite p c.self.inside.store c.rewatch.new.store) (sym c.in_ok-changed.ensures) c.in_ok-rewatch.ensures.rewatched in
     (joined_composite c.self.inside.today c.self.inside.objects c.self.inside.store c.rewatch.new.store c.args.composite c.in_ok-changed.changed c.self.invariant.1 (kind_within c.self.inside.objects c.self.inside.today c.args.composite Composite is.0) is.0 rewatched)
 
-pub revise-requires-clause-unmarked : goal.revise-requires-clause-unmarked
-revise-requires-clause-unmarked c = λ x. ap (λ (l : List Kept). (slice_index_or l x unpriced).source) c.in_ok-rewatch.ensures.rewatched.kept
-    ∙ unmarked (state_of c.self.inside.today c.self.inside.objects c.self.inside.store.kept) c.self.invariant.0.unheld x
+pub revise-requires-clause-sources : goal.revise-requires-clause-sources
+revise-requires-clause-sources c = kept_marks c.self.inside.store c.rewatch.new.store (record { kept = c.in_ok-rewatch.ensures.rewatched.kept; switch = c.in_ok-rewatch.ensures.rewatched.switch })
+    (no_marks c.self.inside.today c.self.inside.objects c.self.inside.store c.self.invariant.0.sources)
 
 pub invariant_of-self-2 : goal.invariant_of-self-2
 invariant_of-self-2 c =
@@ -64,10 +64,10 @@ invariant_of-self-2 c =
     let differs = ap (λ (p : List Part). int_eq (weight_of p c.args.member) c.args.weight) (sym parts) ∙ ap (int_eq (weight_of c.parts_of-parts.result.now c.args.member)) (sym bits) ∙ sym c.has_weight.ensures ∙ c.if-has_weight.false in
     let reweighed = c.in_ok-changed.ensures ∙ ap (with_member c.parts_of-parts.result.now c.args.member) bits ∙ ap (λ (p : List Part). with_member p c.args.member c.args.weight) parts in
     let e = c.revise.ensures.state
-    ∙ ap (λ (k : List Kept). revised c.args.composite (terms_of.Composite c.in_ok-changed.changed) (state_of c.self.inside.today c.self.inside.objects k)) c.in_ok-rewatch.ensures.rewatched.kept in
-    let d = member_changed c.self.inside.today c.self.inside.objects c.self.inside.store.kept c.self.inside.scratch c.self.invariant.0 c.args.composite c.args.member c.args.weight is differs c.in_ok-changed.changed reweighed
-    (state_of c.self.inside.today c.revise.new.objects c.revise.new.store.kept) e in
-    let market = ap (λ (t : State). t.market) e ∙ revised_market c.args.composite (terms_of.Composite c.in_ok-changed.changed) (state_of c.self.inside.today c.self.inside.objects c.self.inside.store.kept) refl in
+    ∙ ap (revised c.args.composite (terms_of.Composite c.in_ok-changed.changed)) (kept_state c.self.inside.today c.self.inside.objects c.self.inside.store c.rewatch.new.store (record { kept = c.in_ok-rewatch.ensures.rewatched.kept; switch = c.in_ok-rewatch.ensures.rewatched.switch })) in
+    let d = member_changed c.self.inside.today c.self.inside.objects c.self.inside.store.kept c.self.inside.store.deferring c.self.inside.scratch c.self.invariant.0 c.args.composite c.args.member c.args.weight is differs c.in_ok-changed.changed reweighed
+    (state_of c.self.inside.today c.revise.new.objects c.revise.new.store.kept c.revise.new.store.deferring) e in
+    let market = ap (λ (t : State). t.market) e ∙ revised_market c.args.composite (terms_of.Composite c.in_ok-changed.changed) (state_of c.self.inside.today c.self.inside.objects c.self.inside.store.kept c.self.inside.store.deferring) in
     let rewatched = subst (λ (p : List Part). IsRewatched c.args.composite p c.self.inside.store c.rewatch.new.store) (sym c.in_ok-changed.ensures) c.in_ok-rewatch.ensures.rewatched in (
       d.stands,
       subst (λ (h : Shape). IsJoined (market_of c.self.inside.today c.revise.new.objects) h) (sym c.revise.ensures.shape)
@@ -83,9 +83,9 @@ returns-clause-set c =
     let differs = ap (λ (p : List Part). int_eq (weight_of p c.args.member) c.args.weight) (sym parts) ∙ ap (int_eq (weight_of c.parts_of-parts.result.now c.args.member)) (sym bits) ∙ sym c.has_weight.ensures ∙ c.if-has_weight.false in
     let reweighed = c.in_ok-changed.ensures ∙ ap (with_member c.parts_of-parts.result.now c.args.member) bits ∙ ap (λ (p : List Part). with_member p c.args.member c.args.weight) parts in
     let e = c.revise.ensures.state
-    ∙ ap (λ (k : List Kept). revised c.args.composite (terms_of.Composite c.in_ok-changed.changed) (state_of c.self.inside.today c.self.inside.objects k)) c.in_ok-rewatch.ensures.rewatched.kept in
-    let d = member_changed c.self.inside.today c.self.inside.objects c.self.inside.store.kept c.self.inside.scratch c.self.invariant.0 c.args.composite c.args.member c.args.weight is differs c.in_ok-changed.changed reweighed
-    (state_of c.self.inside.today c.revise.new.objects c.revise.new.store.kept) e in
+    ∙ ap (revised c.args.composite (terms_of.Composite c.in_ok-changed.changed)) (kept_state c.self.inside.today c.self.inside.objects c.self.inside.store c.rewatch.new.store (record { kept = c.in_ok-rewatch.ensures.rewatched.kept; switch = c.in_ok-rewatch.ensures.rewatched.switch })) in
+    let d = member_changed c.self.inside.today c.self.inside.objects c.self.inside.store.kept c.self.inside.store.deferring c.self.inside.scratch c.self.invariant.0 c.args.composite c.args.member c.args.weight is differs c.in_ok-changed.changed reweighed
+    (state_of c.self.inside.today c.revise.new.objects c.revise.new.store.kept c.revise.new.store.deferring) e in
     d.state ∙ ap (member_set c.args.composite c.args.member c.args.weight) c.self.view_is
 
 pub returns-clause-keeps : goal.returns-clause-keeps
@@ -96,10 +96,10 @@ returns-clause-keeps c =
     let differs = ap (λ (p : List Part). int_eq (weight_of p c.args.member) c.args.weight) (sym parts) ∙ ap (int_eq (weight_of c.parts_of-parts.result.now c.args.member)) (sym bits) ∙ sym c.has_weight.ensures ∙ c.if-has_weight.false in
     let reweighed = c.in_ok-changed.ensures ∙ ap (with_member c.parts_of-parts.result.now c.args.member) bits ∙ ap (λ (p : List Part). with_member p c.args.member c.args.weight) parts in
     let e = c.revise.ensures.state
-    ∙ ap (λ (k : List Kept). revised c.args.composite (terms_of.Composite c.in_ok-changed.changed) (state_of c.self.inside.today c.self.inside.objects k)) c.in_ok-rewatch.ensures.rewatched.kept in
-    let d = member_changed c.self.inside.today c.self.inside.objects c.self.inside.store.kept c.self.inside.scratch c.self.invariant.0 c.args.composite c.args.member c.args.weight is differs c.in_ok-changed.changed reweighed
-    (state_of c.self.inside.today c.revise.new.objects c.revise.new.store.kept) e in
-    subst (λ (t : State). KeepsCurrent t (state_of c.self.inside.today c.revise.new.objects c.revise.new.store.kept)) c.self.view_is d.keeps
+    ∙ ap (revised c.args.composite (terms_of.Composite c.in_ok-changed.changed)) (kept_state c.self.inside.today c.self.inside.objects c.self.inside.store c.rewatch.new.store (record { kept = c.in_ok-rewatch.ensures.rewatched.kept; switch = c.in_ok-rewatch.ensures.rewatched.switch })) in
+    let d = member_changed c.self.inside.today c.self.inside.objects c.self.inside.store.kept c.self.inside.store.deferring c.self.inside.scratch c.self.invariant.0 c.args.composite c.args.member c.args.weight is differs c.in_ok-changed.changed reweighed
+    (state_of c.self.inside.today c.revise.new.objects c.revise.new.store.kept c.revise.new.store.deferring) e in
+    subst (λ (t : State). KeepsCurrent t (state_of c.self.inside.today c.revise.new.objects c.revise.new.store.kept c.revise.new.store.deferring)) c.self.view_is d.keeps
 
 pub returns-clause-sound : goal.returns-clause-sound
 returns-clause-sound c calc sound =
@@ -109,7 +109,7 @@ returns-clause-sound c calc sound =
     let differs = ap (λ (p : List Part). int_eq (weight_of p c.args.member) c.args.weight) (sym parts) ∙ ap (int_eq (weight_of c.parts_of-parts.result.now c.args.member)) (sym bits) ∙ sym c.has_weight.ensures ∙ c.if-has_weight.false in
     let reweighed = c.in_ok-changed.ensures ∙ ap (with_member c.parts_of-parts.result.now c.args.member) bits ∙ ap (λ (p : List Part). with_member p c.args.member c.args.weight) parts in
     let e = c.revise.ensures.state
-    ∙ ap (λ (k : List Kept). revised c.args.composite (terms_of.Composite c.in_ok-changed.changed) (state_of c.self.inside.today c.self.inside.objects k)) c.in_ok-rewatch.ensures.rewatched.kept in
-    let d = member_changed c.self.inside.today c.self.inside.objects c.self.inside.store.kept c.self.inside.scratch c.self.invariant.0 c.args.composite c.args.member c.args.weight is differs c.in_ok-changed.changed reweighed
-    (state_of c.self.inside.today c.revise.new.objects c.revise.new.store.kept) e in
+    ∙ ap (revised c.args.composite (terms_of.Composite c.in_ok-changed.changed)) (kept_state c.self.inside.today c.self.inside.objects c.self.inside.store c.rewatch.new.store (record { kept = c.in_ok-rewatch.ensures.rewatched.kept; switch = c.in_ok-rewatch.ensures.rewatched.switch })) in
+    let d = member_changed c.self.inside.today c.self.inside.objects c.self.inside.store.kept c.self.inside.store.deferring c.self.inside.scratch c.self.invariant.0 c.args.composite c.args.member c.args.weight is differs c.in_ok-changed.changed reweighed
+    (state_of c.self.inside.today c.revise.new.objects c.revise.new.store.kept c.revise.new.store.deferring) e in
     d.sound calc (subst (IsSound calc) (sym c.self.view_is) sound)

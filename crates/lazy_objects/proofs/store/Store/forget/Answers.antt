@@ -1,13 +1,14 @@
-use Rattle.std.proofs.Common.{◌≡◌, true, sym, subst, arith}
+use Rattle.std.proofs.Common.{◌≡◌, true, sym, subst}
 use Rattle.std.specs.Prelude.{is_some}
-use Rattle.observer_graph.proofs.Wholes.{live_within}
 use Rattle.lazy_objects.specs.Shape.{role_at}
 use Rattle.lazy_objects.specs.Store.{StoreView}
-use Rattle.lazy_objects.proofs.Kept.{live_node, taken_kept}
+use Rattle.observer_graph.specs.GraphView.{GraphView}
+use Rattle.observer_graph.specs.Change.{TakesNode}
+use Rattle.lazy_objects.proofs.Kept.{place_within, taken_kept}
 use Rattle.lazy_objects.proofs.store.Store.forget.Goals as goal
 
 pub returns : goal.returns
 returns c =
-    let low = live_within c.self.inside.graph.nodes c.args.object (live_node c.self.inside.graph c.args.object (subst (λ (v : StoreView). is_some (role_at v.shape c.args.object) ≡ true) (sym c.self.view_is) c.requires)) in
+    let is = subst (λ (v : StoreView). is_some (role_at v.shape c.args.object) ≡ true) (sym c.self.view_is) c.requires in
     rw (← c.self.view_is, c.place.ensures)
-    (taken_kept c.self.inside.graph c.self.inside.lasts.items (record { nodes = c.self.invariant.0; sources = c.self.invariant.1 }) c.args.object (let n = c.self.invariant.0 in omega (arith, low, n)) c.remove.new.self c.remove.ensures)
+    (taken_kept c.self.inside.deferral.graph c.self.inside.lasts.items (record { nodes = c.self.invariant.0; sources = c.self.invariant.1 }) c.args.object (place_within c.self.inside.deferral.graph c.self.inside.lasts.items (record { nodes = c.self.invariant.0; sources = c.self.invariant.1 }) c.args.object is) c.remove.new.self c.self.inside.deferral.on (subst (λ (g : GraphView). TakesNode g c.remove.new.self c.args.object) c.graph.ensures.value c.remove.ensures))

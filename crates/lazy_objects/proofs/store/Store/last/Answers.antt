@@ -8,5 +8,5 @@ use Rattle.lazy_objects.proofs.store.Store.last.Goals as goal
 
 pub returns : goal.returns
 returns c = c.last_in.ensures ∙ ap (λ (l : List (Option Value)). slice_index_or l c.args.object None) c.deref.ensures.value
-    ∙ sym (ap (λ (k : Kept). k.last) (kept_at_node c.self.inside.graph c.self.inside.lasts.items (record { nodes = c.self.invariant.0; sources = c.self.invariant.1 }) c.args.object))
+    ∙ sym (ap (λ (k : Kept). k.last) (kept_at_node c.self.inside.deferral.graph c.self.inside.lasts.items (record { nodes = c.self.invariant.0; sources = c.self.invariant.1 }) c.args.object))
     ∙ ap (λ (v : StoreView). (stored_at v c.args.object).last) c.self.view_is

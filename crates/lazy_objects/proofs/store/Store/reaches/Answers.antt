@@ -1,4 +1,8 @@
+use Rattle.std.proofs.Common.{subst}
+use Rattle.std.specs.Prelude.{◌↔◌, IsTrue}
+use Rattle.observer_graph.specs.GraphView.{GraphView}
+use Rattle.observer_graph.specs.Notice.{Reaches}
 use Rattle.lazy_objects.proofs.store.Store.reaches.Goals as goal
 
 pub returns-clause-answer : goal.returns-clause-answer
-returns-clause-answer c = rw (← c.self.view_is) c.reaches.ensures.answer
+returns-clause-answer c = rw (← c.self.view_is) (subst (λ (g : GraphView). IsTrue c.reaches.result ↔ Reaches g c.args.from c.args.to) c.graph.ensures.value c.reaches.ensures.answer)

@@ -1,0 +1,66 @@
+-- What the graph of a store tells of lateness is what its view says.
+use Rattle.std.proofs.Common.{◌≡◌, inl, inr, ℕ, Bool, true, false, List, Option, None, Some, refl, sym, ◌∙◌, ap}
+use Rattle.std.specs.Prelude.{◌↔◌, ◌==◌, ◌||◌, not, is_some}
+use Rattle.walks.proofs.Ranks.{below_wider}
+use Rattle.desk_terms.specs.declared.value.Value.{Value}
+use Rattle.desk_model.specs.declared.kept.Kept.{Kept}
+use Rattle.std.proofs.lemmas.Bool.{false≢true}
+use Rattle.observer_graph.specs.declared.node.Node.{Node}
+use Rattle.observer_graph.specs.GraphView.{GraphView, node_at, is_source, subjects_of}
+use Rattle.observer_graph.specs.Notice.{IsLeast}
+use Rattle.observer_graph.specs.Late as graphs
+use Rattle.lazy_objects.specs.Shape.{kept_of, shape_of}
+use Rattle.lazy_objects.specs.Store.{StoreView, stored_at}
+use Rattle.lazy_objects.specs.Late.{IsLateOf, holds_back, IsClear}
+use Rattle.lazy_objects.proofs.Kept.{Fits, kept_at_node}
+
+least_same : (P Q : ℕ → Type 0) → ((x : ℕ) → P x ↔ Q x) → (least : Option ℕ) → IsLeast P least → IsLeast Q least
+least_same P Q same None none = λ x q. none x ((same x).1 q)
+least_same P Q same (Some y) is = ((same y).0 is.0, λ x q. is.1 x ((same x).1 q))
+
+module _ (graph : GraphView) (lasts : List (Option Value)) (on : Bool) (fits : Fits graph lasts) where
+  abbrev view : StoreView
+  view = record { kept = kept_of graph lasts; shape = shape_of graph; deferring = on }
+
+  pub frozen_node : (y : ℕ) → (stored_at view y).frozen ≡ graphs.is_frozen graph y
+  frozen_node y = ap (λ (k : Kept). k.frozen) (kept_at_node graph lasts fits y)
+
+  pub frozen_gone : (y : ℕ) → is_some (node_at graph y) ≡ false → (stored_at view y).frozen ≡ false
+  frozen_gone y gone = frozen_node y ∙ by_node (node_at graph y) gone
+    where
+      by_node : (node : Option Node) → is_some node ≡ false → graphs.frozen_of node ≡ false
+      by_node None e = refl
+      by_node (Some node) e = absurd (false≢true (sym e))
+
+  source_node : (y : ℕ) → (stored_at view y).source ≡ is_source graph y
+  source_node y = ap (λ (k : Kept). k.source) (kept_at_node graph lasts fits y)
+
+  held_node : (y : ℕ) → holds_back view y ≡ graphs.is_held_back graph y
+  held_node y = ap (λ (k : Kept). k.frozen || k.source) (kept_at_node graph lasts fits y)
+
+  late_node : (o x : ℕ) → graphs.IsLateOf graph o x ↔ IsLateOf view o x
+  late_node o x = (
+    λ late. (
+      source_node x ∙ late.0,
+      elim late.1 [
+        | inl here ↦ inl here
+        | inr below ↦ inr (below_wider (subjects_of graph) (λ y. y == x) (λ y. y == x) (λ y. not (graphs.is_frozen graph y)) (λ y. not (stored_at view y).frozen) (λ y e. e) (λ y e. ap not (frozen_node y) ∙ e) o below)
+      ],
+    ),
+    λ late. (
+      sym (source_node x) ∙ late.0,
+      elim late.1 [
+        | inl here ↦ inl here
+        | inr below ↦ inr (below_wider (subjects_of graph) (λ y. y == x) (λ y. y == x) (λ y. not (stored_at view y).frozen) (λ y. not (graphs.is_frozen graph y)) (λ y e. e) (λ y e. sym (ap not (frozen_node y)) ∙ e) o below)
+      ],
+    ),
+  )
+
+  pub least_late : (o : ℕ) (least : Option ℕ) → IsLeast (graphs.IsLateOf graph o) least → IsLeast (IsLateOf view o) least
+  least_late o least is = least_same (graphs.IsLateOf graph o) (IsLateOf view o) (late_node o) least is
+
+  pub clear_node : (o : ℕ) (b : Bool) → (b ≡ true) ↔ graphs.IsClear graph o → (b ≡ true) ↔ IsClear view o
+  clear_node o b is = (
+    λ e x reached. held_node x ∙ is.0 e x reached,
+    λ clear. is.1 (λ x reached. sym (held_node x) ∙ clear x reached),
+  )

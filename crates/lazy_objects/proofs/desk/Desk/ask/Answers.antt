@@ -1,0 +1,36 @@
+use Rattle.std.proofs.Common.{Bool, sym, subst}
+use Rattle.std.specs.Prelude.{IfOk, OnErr}
+use Rattle.desk_terms.specs.declared.asked.Asked.{Asked}
+use Rattle.desk_model.specs.State.{State}
+use Rattle.desk_model.specs.Sound.{IsSound}
+use Rattle.lazy_objects.specs.Asks.{Asks, Stops}
+use Rattle.lazy_objects.specs.Shape.{Shape, IsJoined}
+use Rattle.lazy_objects.specs.Slots.{market_of, state_of}
+use Rattle.lazy_objects.specs.Stands.{Stands}
+use Rattle.lazy_objects.proofs.Ends.{stands_then}
+use Rattle.lazy_objects.proofs.desk.Desk.ask.Goals as goal
+
+pub invariant_of-self : goal.invariant_of-self
+invariant_of-self g c =
+    let s = state_of c.self.inside.today c.self.inside.objects c.self.inside.store.kept c.self.inside.store.deferring in (
+      subst (λ (on : Bool). Stands (state_of c.self.inside.today c.self.inside.objects c.ask.new.store.kept on) c.ask.new.scratch) (sym c.ask.ensures.switch)
+          (stands_then (g.B.Bench.calc c.args.bench.now) s c.ask.new.store.kept c.self.inside.scratch c.ask.new.scratch c.self.invariant.0 c.ask.ensures.stays c.ask.ensures.empty),
+      subst (λ (h : Shape). IsJoined (market_of c.self.inside.today c.self.inside.objects) h) (sym c.ask.ensures.shape) c.self.invariant.1,
+    )
+
+pub returns-clause-asks : goal.returns-clause-asks
+returns-clause-asks g c =
+    subst (λ (on : Bool). IfOk c.ask.result (λ (answer : Asked). Asks (g.B.Bench.calc c.args.bench.now) c.args.object c.args.self.now (state_of c.self.inside.today c.self.inside.objects c.ask.new.store.kept on) answer
+    (g.B.Bench.count c.args.bench.now) (g.B.Bench.count c.ask.new.bench) (g.B.Bench.log c.args.bench.now) (g.B.Bench.log c.ask.new.bench))) (sym c.ask.ensures.switch)
+    (subst (λ (t : State). IfOk c.ask.result (λ (answer : Asked). Asks (g.B.Bench.calc c.args.bench.now) c.args.object t (state_of c.self.inside.today c.self.inside.objects c.ask.new.store.kept c.self.inside.store.deferring) answer
+    (g.B.Bench.count c.args.bench.now) (g.B.Bench.count c.ask.new.bench) (g.B.Bench.log c.args.bench.now) (g.B.Bench.log c.ask.new.bench))) c.self.view_is c.ask.ensures.asks)
+
+pub returns-clause-stops : goal.returns-clause-stops
+returns-clause-stops g c =
+    subst (λ (on : Bool). OnErr c.ask.result (Stops (g.B.Bench.calc c.args.bench.now) c.args.object c.args.self.now (state_of c.self.inside.today c.self.inside.objects c.ask.new.store.kept on)
+    (g.B.Bench.count c.args.bench.now) (g.B.Bench.count c.ask.new.bench) (g.B.Bench.log c.args.bench.now) (g.B.Bench.log c.ask.new.bench))) (sym c.ask.ensures.switch)
+    (subst (λ (t : State). OnErr c.ask.result (Stops (g.B.Bench.calc c.args.bench.now) c.args.object t (state_of c.self.inside.today c.self.inside.objects c.ask.new.store.kept c.self.inside.store.deferring)
+    (g.B.Bench.count c.args.bench.now) (g.B.Bench.count c.ask.new.bench) (g.B.Bench.log c.args.bench.now) (g.B.Bench.log c.ask.new.bench))) c.self.view_is c.ask.ensures.stops)
+
+pub returns-clause-sound : goal.returns-clause-sound
+returns-clause-sound g c = subst (λ (on : Bool). IsSound (g.B.Bench.calc c.args.bench.now) (state_of c.self.inside.today c.self.inside.objects c.ask.new.store.kept on)) (sym c.ask.ensures.switch) c.ask.ensures.stays.sound

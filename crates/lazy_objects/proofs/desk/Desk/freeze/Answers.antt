@@ -1,0 +1,38 @@
+use Rattle.std.proofs.Common.{◌≡◌, true, sym, ◌∙◌, ap, subst}
+use Rattle.desk_model.specs.State.{State}
+use Rattle.desk_model.specs.Links.{is_lazy_at}
+use Rattle.desk_model.specs.Sound.{IsSound, KeepsCurrent}
+use Rattle.desk_model.specs.Effect.{frozen_set}
+use Rattle.lazy_objects.specs.Slots.{market_of, state_of}
+use Rattle.lazy_objects.proofs.Joined.{lazy_there}
+use Rattle.lazy_objects.proofs.Flagged.{frozen_left}
+use Rattle.lazy_objects.proofs.desk.Desk.freeze.Goals as goal
+
+pub freeze-requires : goal.freeze-requires
+freeze-requires c =
+    let lazy = subst (λ (t : State). is_lazy_at t.market c.args.object ≡ true) (sym c.self.view_is) c.requires.lazy in
+    lazy_there (market_of c.self.inside.today c.self.inside.objects) c.self.inside.store.shape c.self.invariant.1 c.args.object lazy
+
+pub invariant_of-self : goal.invariant_of-self
+invariant_of-self c =
+    let lazy = subst (λ (t : State). is_lazy_at t.market c.args.object ≡ true) (sym c.self.view_is) c.requires.lazy in
+    let d = frozen_left c.self.inside.today c.self.inside.objects c.self.inside.store c.freeze.new.self c.self.inside.scratch c.self.invariant.0 c.self.invariant.1 c.args.object lazy c.freeze.ensures in
+    (d.changed.stands, d.joined)
+
+pub returns-clause-set : goal.returns-clause-set
+returns-clause-set c =
+    let lazy = subst (λ (t : State). is_lazy_at t.market c.args.object ≡ true) (sym c.self.view_is) c.requires.lazy in
+    let d = frozen_left c.self.inside.today c.self.inside.objects c.self.inside.store c.freeze.new.self c.self.inside.scratch c.self.invariant.0 c.self.invariant.1 c.args.object lazy c.freeze.ensures in
+    d.changed.state ∙ ap (frozen_set c.args.object) c.self.view_is
+
+pub returns-clause-keeps : goal.returns-clause-keeps
+returns-clause-keeps c =
+    let lazy = subst (λ (t : State). is_lazy_at t.market c.args.object ≡ true) (sym c.self.view_is) c.requires.lazy in
+    let d = frozen_left c.self.inside.today c.self.inside.objects c.self.inside.store c.freeze.new.self c.self.inside.scratch c.self.invariant.0 c.self.invariant.1 c.args.object lazy c.freeze.ensures in
+    subst (λ (t : State). KeepsCurrent t (state_of c.self.inside.today c.self.inside.objects c.freeze.new.self.kept c.freeze.new.self.deferring)) c.self.view_is d.changed.keeps
+
+pub returns-clause-sound : goal.returns-clause-sound
+returns-clause-sound c calc sound =
+    let lazy = subst (λ (t : State). is_lazy_at t.market c.args.object ≡ true) (sym c.self.view_is) c.requires.lazy in
+    let d = frozen_left c.self.inside.today c.self.inside.objects c.self.inside.store c.freeze.new.self c.self.inside.scratch c.self.invariant.0 c.self.invariant.1 c.args.object lazy c.freeze.ensures in
+    d.changed.sound calc (subst (IsSound calc) (sym c.self.view_is) sound)

@@ -12,13 +12,15 @@ use Rattle.desk_terms.specs.Reading.{Outcome, Calc}
 use Rattle.desk_model.specs.declared.slot.Slot.{Slot}
 use Rattle.desk_model.specs.declared.slot.Slot.TheVariants.{Free, Today, Watcher, Live}
 use Rattle.desk_model.specs.Market.{Market, slot_at, is_given, kind_in, kind_at, terms_at, live_count}
-use Rattle.desk_model.specs.State.{State}
+use Rattle.desk_model.specs.State.{State, is_frozen, is_source}
 use Rattle.desk_model.specs.Sound.{IsSound, KeepsCurrent}
 use Rattle.desk_model.specs.Told.{tell}
 use Rattle.desk_model.specs.Visit.{runs, stored, asked}
+use Rattle.desk_model.specs.Recalc.{inputs_walk, recalced_bare, recalced}
+use Rattle.desk_model.proofs.Stores.{told_market}
 use Rattle.desk_model.specs.Held.{Changeable, changeable}
 use Rattle.desk_model.specs.Held.Changeable.{HasValue, HasTarget, HasFixings, HasParts, HasEngine, HasNone}
-use Rattle.desk_model.specs.Effect.{notified_as, notified, with_terms, revised, revised_unless, value_set, quote_set, target_set, relinked, priced_by_engine, engine_set, weight_set, member_set, fixing_stored, fixing_added, with_today, today_set, dropped}
+use Rattle.desk_model.specs.Effect.{notified_as, notified, with_terms, revised, revised_unless, value_set, quote_set, target_set, relinked, priced_by_engine, engine_set, weight_set, member_set, fixing_stored, fixing_added, with_today, today_set, dropped, frozen_set, unfrozen, thawed, forward_set, deferred, resumed}
 use Rattle.session_model.specs.declared.place.Place.TheVariants.{Droppable}
 use Rattle.session_model.specs.Place.{takes_found}
 use Rattle.session_model.specs.Standing.{Standing, is_full}
@@ -202,6 +204,33 @@ today_alike s t day is = to s t (today_set day s) is (by (int_eq s.market.today 
       today = λ is. ap (λ (m : Market). slot_at m 0) (notified_market 0 (with_today day s)) ∙ is;
     }
 
+-- flags, and notices that are held back
+pub frozen_alike : (s t : State) (o : ℕ) → t ≡ frozen_set o s → AreAlike s.market t.market
+unfolding frozen_set
+frozen_alike s t o is = to s t (frozen_set o s) is (alike_same s.market s.market refl)
+
+-- a change that is made or not
+alike_either : (s u : State) (b : Bool) → u.market ≡ s.market → AreAlike s.market (if b then u else s).market
+alike_either s u true same = alike_same s.market u.market same
+alike_either s u false same = alike_same s.market s.market refl
+
+pub thawed_alike : (s t : State) (o : ℕ) → t ≡ thawed o s → AreAlike s.market t.market
+unfolding thawed
+thawed_alike s t o is =
+    to s t (thawed o s) is (alike_either s _ (is_frozen s o) (notified_market o (unfrozen o s)))
+
+pub forward_alike : (s t : State) (o : ℕ) (is_on : Bool) → t ≡ forward_set o is_on s → AreAlike s.market t.market
+unfolding forward_set
+forward_alike s t o is_on is = to s t (forward_set o is_on s) is (alike_same s.market s.market refl)
+
+pub deferred_alike : (s t : State) → t ≡ deferred s → AreAlike s.market t.market
+unfolding deferred
+deferred_alike s t is = to s t (deferred s) is (alike_same s.market s.market refl)
+
+pub resumed_alike : (s t : State) → t ≡ resumed s → AreAlike s.market t.market
+unfolding resumed
+resumed_alike s t is = to s t (resumed s) is (alike_either s _ s.deferring (told_market (is_source s) s))
+
 pub stored_alike : (s t : State) (calls : List (ℕ × Outcome)) → t ≡ stored s calls → AreAlike s.market t.market
 unfolding stored
 stored_alike s t calls is = to s t (stored s calls) is (alike_same s.market s.market refl)
@@ -281,6 +310,11 @@ names_removed p of_name live name at o state h may same is =
 pub asked_alike : (calc : Calc) (s t : State) (o : ℕ) → t ≡ asked calc o s → AreAlike s.market t.market
 unfolding asked
 asked_alike calc s t o is = stored_alike s t (runs calc s o) is
+
+pub recalced_alike : (calc : Calc) (s t : State) (o : ℕ) → t ≡ recalced calc o s → AreAlike s.market t.market
+unfolding recalced stored
+recalced_alike calc s t o is = to s t (recalced calc o s) is
+    (alike_same s.market _ (notified_market o (recalced_bare calc o s (stored s (inputs_walk calc s o).calls))))
 
 -- what stays as it was keeps all that is current
 pub keeps_same : (s t : State) → t ≡ s → KeepsCurrent s t

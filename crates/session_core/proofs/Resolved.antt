@@ -12,10 +12,11 @@ use Rattle.desk_terms.specs.declared.kind.Wanted.TheVariants as wanted
 use Rattle.desk_model.specs.declared.slot.Slot.{Slot}
 use Rattle.desk_model.specs.declared.slot.Slot.TheVariants.{Free, Today, Watcher, Live}
 use Rattle.desk_model.specs.Market.{slot_at, kind_in, kind_at, terms_in, role_of, is_lazy, least_user}
+use Rattle.desk_model.specs.State.{least_source}
 use Rattle.desk_terms.specs.Kind.{role}
 use Rattle.desk_terms.specs.Terms.{kind_of}
 use Rattle.flow_terms.specs.Fixings.{IsRate}
-use Rattle.desk_model.specs.Links.{AreOfKind, serves_as}
+use Rattle.desk_model.specs.Links.{AreOfKind, serves_as, is_lazy_at}
 use Rattle.desk_terms.specs.Reading.{AreInRange}
 use Rattle.session_commands.specs.declared.command.Command.{Command}
 use Rattle.session_commands.specs.declared.command.Command.TheVariants as command
@@ -30,7 +31,7 @@ use Rattle.session_model.specs.declared.place.Place.{Place}
 use Rattle.session_model.specs.declared.place.Place.TheVariants as place
 use Rattle.session_model.specs.Place.{takes_found}
 use Rattle.session_model.specs.Standing.{Standing, object_named, is_full, IsKnown}
-use Rattle.session_model.specs.Resolve.{found, find, with_found, unless, unless_used, unless_kept, unless_taken, closes, joins, rate_at, target_of, handle_kind, engaged, made, quote_input, member, curve, index, engine, resolve}
+use Rattle.session_model.specs.Resolve.{found, find, with_found, unless, unless_used, unless_kept, unless_late, unless_taken, closes, joins, rate_at, target_of, handle_kind, engaged, made, quote_input, member, curve, index, engine, resolve}
 use Rattle.session_core.specs.Allowed.{IsAllowed}
 
 -- what is found is of a kind that the place takes
@@ -158,6 +159,10 @@ taken_lazy Today e = absurd (false≢true e)
 taken_lazy (Watcher action) e = absurd (false≢true e)
 taken_lazy (Live terms) e = e
 
+-- what is found in a place of priced objects is lazy
+pub found_lazy : (p : Standing) (name o : ℕ) → find place.Priced p name ≡ Ok o → is_lazy_at p.state.market o ≡ true
+found_lazy p name o e = taken_lazy (slot_at p.state.market o) (find_taken place.Priced p name o e)
+
 -- every act that these lead to is allowed
 module _ (p : Standing) where
   empty_inputs : (is_curve : Bool) → AreOfKind p.state.market (Some (terms.Handle (handle_kind is_curve) None))
@@ -239,6 +244,15 @@ module _ (p : Standing) where
       by None e = all e
       by (Some user) e = tt
 
+  unlate : (name x : ℕ) → (least_source p.state x ≡ None → IsAllowed p (act.Recalc name x))
+      → AllAllowed (unless_late (least_source p.state x) (act.Recalc name x))
+  unfolding unless_late
+  unlate name x all = by (least_source p.state x) refl
+    where
+      by : (r : Option ℕ) → least_source p.state x ≡ r → AllAllowed (unless_late r (act.Recalc name x))
+      by None e = all e
+      by (Some source) e = tt
+
   -- an object of these terms may be made under this name
   may_make : (name : ℕ) (t : Terms) → name < length p.names → AreInRange t
       → AreOfKind p.state.market (Some t) → object_named p name ≡ None → AllAllowed (made p name t)
@@ -286,10 +300,14 @@ module _ (p : Standing) where
         rate = rate_within rate known.third;
         free = free;
       }))
-  allowed (command.Freeze o) known = tt
-  allowed (command.Thaw o) known = tt
-  allowed (command.Recalc o) known = tt
-  allowed (command.Forward o is_on) known = tt
+  allowed (command.Freeze o) known = finds place.Priced o _ (λ x is. taken_lazy (slot_at p.state.market x) is)
+  allowed (command.Thaw o) known = finds place.Priced o _ (λ x is. taken_lazy (slot_at p.state.market x) is)
+  allowed (command.Recalc o) known = finds place.Priced o _ (λ x is. unlate o x (λ early. record {
+    lazy = taken_lazy (slot_at p.state.market x) is;
+    early = early;
+  }))
+  allowed (command.Forward o is_on) known =
+      finds place.Priced o _ (λ x is. taken_lazy (slot_at p.state.market x) is)
   allowed command.Defer known = tt
   allowed command.Resume known = tt
   allowed (command.Watch w action) known = tt

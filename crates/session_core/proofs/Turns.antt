@@ -1,7 +1,7 @@
 -- What each act does to a session, as the definition says.
 use Rattle.std.proofs.Common.{◌≡◌, ◌≢◌, inl, inr, ℕ, suc, ◌+◌, ◌≤◌, Bool, ℤ, List, [], ◌∷◌, ◌++◌, length, Option, Some, None, Result, Ok, Err, refl, sym, ◌∙◌, ap, subst, arith}
-use Rattle.std.specs.Prelude.{take, OnOk, OnErr}
-use Rattle.std.proofs.lemmas.List.{append-nil, length-append}
+use Rattle.std.specs.Prelude.{codes, decimal, take, OnOk, OnErr}
+use Rattle.std.proofs.lemmas.List.{append-nil, take_all}
 use Rattle.desk_terms.specs.declared.terms.Terms.{Terms}
 use Rattle.desk_terms.specs.declared.asked.Asked.{Asked}
 use Rattle.desk_terms.specs.declared.cause.Cause.{Cause}
@@ -9,20 +9,21 @@ use Rattle.desk_terms.specs.declared.asked.Mark.{Mark}
 use Rattle.desk_terms.specs.Reading.{Outcome, Calc}
 use Rattle.desk_terms.specs.Bench.{counted, logged}
 use Rattle.desk_model.specs.declared.kept.Kept.{Kept}
-use Rattle.desk_model.specs.State.{State, each_kept, shows, mark_of}
-use Rattle.desk_model.specs.Visit.{runs, log_of, stored, asked, value_among, with_value}
+use Rattle.desk_model.specs.State.{State, each_kept}
+use Rattle.desk_model.specs.Visit.{log_of, stored, value_among, with_value}
 use Rattle.desk_model.specs.Effect as effect
-use Rattle.lazy_objects.specs.Asks as asks
 use Rattle.session_commands.specs.declared.command.Command.{Command}
 use Rattle.session_commands.specs.declared.refusal.Refusal.{Refusal}
 use Rattle.session_commands.specs.Parts.{command_word}
-use Rattle.price_report.specs.Line.{asked_line, df_line, refusal_line}
+use Rattle.price_report.specs.Namer.{name_text}
+use Rattle.price_report.specs.Line.{answer_text, asked_line, found_text, df_line, refusal_line}
 use Rattle.session_model.specs.declared.act.Act.{Act}
 use Rattle.session_model.specs.declared.act.Act.TheVariants as act
 use Rattle.session_model.specs.Standing.{Standing}
 use Rattle.session_model.specs.Resolve.{resolve}
-use Rattle.session_model.specs.Turn.{Turn, step, discount_in, effect_of, done_as, turn}
-use Rattle.session_core.specs.Steps.{with_object, with_state, Does, Ends, Carries, BreaksOff, Steps, Stops, outcomes_of}
+use Rattle.session_model.specs.Turn.{Turn, step, effect_of, done_as, turn}
+use Rattle.session_core.specs.Pricing.{Pricing, Prices, StopsShort}
+use Rattle.session_core.specs.Steps.{with_object, with_state, Does, Ends, Carries, BreaksOff, Steps, Stops, survivors_of}
 
 abbrev Log : Type 0
 Log = Option (List (ℕ × Bool))
@@ -40,17 +41,9 @@ stored_nothing : (s : State) → s ≡ stored s []
 unfolding stored
 stored_nothing s = ap (λ (kept : List Kept). record s { kept = kept }) (sym (each_same 0 s.kept))
 
-log_length : (calls : List (ℕ × Outcome)) → length (log_of calls) ≡ length calls
+pub log_length : (calls : List (ℕ × Outcome)) → length (log_of calls) ≡ length calls
 log_length [] = refl
 log_length (call ∷ calls) = ap suc (log_length calls)
-
-log_front : (front rest : List (ℕ × Outcome)) → take (length front) (log_of (front ++ rest)) ≡ log_of front
-log_front [] rest = refl
-log_front (call ∷ front) rest = ap (λ (log : List (ℕ × Bool)). log_of (call ∷ []) ++ log) (log_front front rest)
-
-take_front : (front rest : List (ℕ × Outcome)) → take (length front) (front ++ rest) ≡ front
-take_front [] rest = refl
-take_front (call ∷ front) rest = ap (λ (calls : List (ℕ × Outcome)). call ∷ calls) (take_front front rest)
 
 module _ (lines_old lines_new : List ℕ) (count : ℕ) (log : Log) where
   -- a turn that computes nothing
@@ -64,10 +57,10 @@ module _ (lines_old lines_new : List ℕ) (count : ℕ) (log : Log) where
   }
 
 -- a turn in which nothing was begun
-pub ends_at_once : (t : Turn) (outcomes : List (ℕ × Outcome)) (old new : Standing) (lines_old lines_new : List ℕ)
+pub ends_at_once : (t : Turn) (survivors : List (ℕ × Outcome)) (old new : Standing) (lines_old lines_new : List ℕ)
     (count : ℕ) (log : Log) → new ≡ old → lines_new ≡ lines_old
-    → Ends t outcomes old new lines_old lines_new count count log log
-ends_at_once t outcomes old new lines_old lines_new count log same none = record {
+    → Ends t survivors old new lines_old lines_new count count log log
+ends_at_once t survivors old new lines_old lines_new count log same none = record {
   begun = 0;
   ended = 0;
   shown = 0;
@@ -76,146 +69,117 @@ ends_at_once t outcomes old new lines_old lines_new count log same none = record
   count = refl;
   log = logged_nothing log;
   written = none ∙ sym (append-nil lines_old);
-  state = ap (λ (p : Standing). p.state) same ∙ stored_nothing old.state;
+  state = inl (ap (λ (p : Standing). p.state) same ∙ stored_nothing old.state);
   others = same ∙ ap (λ (p : Standing). record old { state = p.state; stopped = p.stopped }) (sym same);
 }
 
-some_length : {A : Type 0} (xs : List A) → xs ≢ [] → 1 ≤ length xs
-some_length [] e = absurd (e refl)
-some_length (x ∷ xs) e = omega arith
+-- An object is priced by a turn, with its line.
+module _ (w : Pricing) (o : ℕ) (t : Turn) (old new : Standing) (lines_old lines_new : List ℕ) (count_old count_new : ℕ)
+    (log_old log_new : Log) (calls : t.calls ≡ log_of w.calls) where
+  calls_length : length t.calls ≡ length w.calls
+  calls_length = ap (λ (log : List (ℕ × Bool)). length log) calls ∙ log_length w.calls
 
--- A turn that asks: its computations are those of an ask of o.
-module _ (calc : Calc) (o : ℕ) (t : Turn) (old new : Standing) (lines_old lines_new : List ℕ) (count_old count_new : ℕ)
-    (log_old log_new : Log) (calls : t.calls ≡ log_of (runs calc old.state o)) where
   -- its line is written
-  asks_carry : (answer : Asked) → asks.Asks calc o old.state new.state answer count_old count_new log_old log_new
-      → new ≡ record old { state = new.state } → t.next ≡ record old { state = asked calc o old.state }
-      → lines_new ≡ lines_old ++ t.lines → Does t new lines_old lines_new count_old count_new log_old log_new
-  asks_carry answer a same next written = record {
-    next = same ∙ ap (λ (s : State). record old { state = s }) a.state ∙ sym next;
-    written = written;
-    count = a.count ∙ ap (counted count_old)
-        (sym (ap (λ (log : List (ℕ × Bool)). length log) calls ∙ log_length (runs calc old.state o)));
+  pub priced_does : (line : List (List ℕ) → List ℕ → Mark → ℕ → List ℕ) (answer : Asked)
+      → Prices w o old new answer count_old count_new log_old log_new → t.next ≡ record old { state = w.next }
+      → t.lines ≡ line old.names old.of_object w.mark (length w.calls)
+      → lines_new ≡ lines_old ++ line new.names new.of_object answer.mark answer.runs
+      → Does t new lines_old lines_new count_old count_new log_old log_new
+  priced_does line answer a next lines written = record {
+    next = a.next ∙ sym next;
+    written = written
+        ∙ ap (λ (p : Standing). lines_old ++ line p.names p.of_object answer.mark answer.runs) a.next
+        ∙ ap (λ (m : Mark). lines_old ++ line old.names old.of_object m answer.runs) a.mark
+        ∙ ap (λ (n : ℕ). lines_old ++ line old.names old.of_object w.mark n) a.number
+        ∙ ap (λ (l : List ℕ). lines_old ++ l) (sym lines);
+    count = a.count ∙ ap (counted count_old) (sym calls_length);
     log = a.log ∙ ap (logged log_old) (sym calls);
   }
 
-  -- a front of the computations was made, and its line is not written
-  asks_front : (front rest : List (ℕ × Outcome)) (begun : ℕ) → runs calc old.state o ≡ front ++ rest
-      → begun ≤ length (front ++ rest) → (length front ≤ begun) × (begun ≤ length front + 1)
-      → new.state ≡ stored old.state front → new ≡ record old { state = new.state; stopped = new.stopped }
-      → lines_new ≡ lines_old → count_new ≡ counted count_old begun → log_new ≡ logged log_old (log_of front)
-      → Ends t (runs calc old.state o) old new lines_old lines_new count_old count_new log_old log_new
-  asks_front front rest begun whole most last state others none count log = record {
-    begun = begun;
-    ended = length front;
+  others_as : (s : State) → new ≡ record old { state = s }
+      → new ≡ record old { state = new.state; stopped = new.stopped }
+  others_as s next =
+      next ∙ ap (λ (p : Standing). record old { state = p.state; stopped = p.stopped }) (sym next)
+
+  -- memory ran out before its line
+  pub priced_stops : StopsShort w old new count_old count_new log_old log_new → lines_new ≡ lines_old
+      → Ends t w.survivors old new lines_old lines_new count_old count_new log_old log_new
+  priced_stops s none = record {
+    begun = s.begun;
+    ended = s.ended;
     shown = 0;
-    most = subst (λ (n : ℕ). begun ≤ n)
-        (sym (ap (λ (log : List (ℕ × Bool)). length log) calls ∙ log_length (runs calc old.state o)
-        ∙ ap (λ (runs : List (ℕ × Outcome)). length runs) whole)) most;
-    last = last;
-    count = count;
-    log = log ∙ ap (logged log_old)
-        (sym (ap (λ (log : List (ℕ × Bool)). take (length front) log) calls
-        ∙ ap (λ (runs : List (ℕ × Outcome)). take (length front) (log_of runs)) whole ∙ log_front front rest));
+    most = subst (λ (n : ℕ). s.begun ≤ n) (sym calls_length) s.most;
+    last = s.last;
+    count = s.count;
+    log = s.log ∙ ap (λ (log : List (ℕ × Bool)). logged log_old (take s.ended log)) (sym calls);
     written = none ∙ sym (append-nil lines_old);
-    state = state ∙ ap (stored old.state)
-        (sym (ap (λ (runs : List (ℕ × Outcome)). take (length front) runs) whole ∙ take_front front rest));
-    others = others;
+    state = inl (ap (λ (p : Standing). p.state) s.next);
+    others = others_as (stored old.state (take s.ended w.survivors)) s.next;
   }
 
-  -- memory ran out in it
-  asks_break : asks.Stops calc o old.state new.state count_old count_new log_old log_new
-      → new ≡ record old { state = new.state; stopped = new.stopped } → lines_new ≡ lines_old
-      → Ends t (runs calc old.state o) old new lines_old lines_new count_old count_new log_old log_new
-  asks_break s others none = elim s.count [
-    | inl count ↦ asks_front s.front s.rest (length s.front) s.whole (omega (arith, length-append s.front s.rest))
-        (omega arith, omega arith) s.state others none count s.log
-    | inr more ↦
-        let some : 1 ≤ length s.rest = some_length s.rest more.0 in
-        asks_front s.front s.rest (length s.front + 1) s.whole
-        (omega (arith, some, length-append s.front s.rest)) (omega arith, omega arith) s.state others none more.1 s.log
-  ]
+  -- its line found no memory
+  pub priced_unwritten : (answer : Asked) → Prices w o old new answer count_old count_new log_old log_new
+      → t.next ≡ record old { state = w.next } → t.lines ≢ [] → lines_new ≡ lines_old
+      → Ends t w.survivors old new lines_old lines_new count_old count_new log_old log_new
+  priced_unwritten answer a next line none = record {
+    begun = length t.calls;
+    ended = length t.calls;
+    shown = 0;
+    most = omega arith;
+    last = (omega arith, omega arith);
+    count = a.count ∙ ap (counted count_old) (sym calls_length);
+    log = a.log ∙ ap (logged log_old) (sym calls ∙ sym (take_all (length t.calls) t.calls (omega arith)));
+    written = none ∙ sym (append-nil lines_old);
+    state = inr (record {
+      line = line;
+      unshown = refl;
+      all = refl;
+      done = ap (λ (p : Standing). p.state) (a.next ∙ sym next);
+    });
+    others = others_as w.next a.next;
+  }
 
-  -- it is done, but its line found no memory
-  asks_unwritten : (answer : Asked) → asks.Asks calc o old.state new.state answer count_old count_new log_old log_new
-      → new ≡ record old { state = new.state; stopped = new.stopped } → lines_new ≡ lines_old
-      → Ends t (runs calc old.state o) old new lines_old lines_new count_old count_new log_old log_new
-  unfolding asked
-  asks_unwritten answer a others none =
-      asks_front (runs calc old.state o) [] (length (runs calc old.state o)) (sym (append-nil (runs calc old.state o)))
-      (omega (arith, length-append (runs calc old.state o) [])) (omega arith, omega arith) a.state others none a.count
-      a.log
+-- where memory ran out in a turn without a line, what ended is stored
+pub left_silent : (t : Turn) (survivors : List (ℕ × Outcome)) (old new : Standing) (lines_old lines_new : List ℕ)
+    (count_old count_new : ℕ) (log_old log_new : Log) → t.lines ≡ []
+    → (e : Ends t survivors old new lines_old lines_new count_old count_new log_old log_new)
+    → new.state ≡ stored old.state (take e.ended survivors)
+left_silent t survivors old new lines_old lines_new count_old count_new log_old log_new silent e = elim e.state [
+  | inl left ↦ left
+  | inr lacks ↦ absurd (lacks.line silent)
+]
 
--- an ask
-module _ (calc : Calc) (name o : ℕ) (old new : Standing) (lines_old lines_new : List ℕ) (count_old count_new : ℕ)
-    (log_old log_new : Log) where
-  pub ask_carries : (answer : Asked)
-      → asks.Asks calc o old.state new.state answer count_old count_new log_old log_new
-      → new ≡ record old { state = new.state } → lines_new ≡ lines_old
-      ++ asked_line old.names old.of_object name (shows calc old.state o) answer.mark answer.runs
-      → Carries calc (act.Ask name o) old new lines_old lines_new count_old count_new log_old log_new
-  unfolding effect_of step
-  ask_carries answer a same written =
-      asks_carry calc o (effect_of calc old (act.Ask name o)) old new lines_old lines_new count_old count_new log_old
-      log_new refl answer a same refl
-      (written
-      ∙ ap (λ (m : Mark). lines_old ++ asked_line old.names old.of_object name (shows calc old.state o) m answer.runs)
-      a.mark
-      ∙ ap (λ (n : ℕ). lines_old ++ asked_line old.names old.of_object name (shows calc old.state o)
-      (mark_of old.state o) n) a.number)
+-- and in one that stores the values of all its computations and changes nothing else
+pub left_stored : (t : Turn) (survivors : List (ℕ × Outcome)) (old new : Standing) (lines_old lines_new : List ℕ)
+    (count_old count_new : ℕ) (log_old log_new : Log) → t.calls ≡ log_of survivors → t.next.state ≡ stored old.state survivors
+    → (e : Ends t survivors old new lines_old lines_new count_old count_new log_old log_new)
+    → new.state ≡ stored old.state (take e.ended survivors)
+left_stored t survivors old new lines_old lines_new count_old count_new log_old log_new calls next e = elim e.state [
+  | inl left ↦ left
+  | inr lacks ↦
+      let all : e.ended ≡ length survivors =
+      lacks.all ∙ ap (λ (log : List (ℕ × Bool)). length log) calls ∙ log_length survivors in
+      lacks.done ∙ next ∙ ap (stored old.state) (sym (take_all e.ended survivors (omega (arith, all))))
+]
 
-  pub ask_breaks : asks.Stops calc o old.state new.state count_old count_new log_old log_new
-      → new ≡ record old { state = new.state; stopped = new.stopped } → lines_new ≡ lines_old
-      → BreaksOff calc (act.Ask name o) old new lines_old lines_new count_old count_new log_old log_new
-  unfolding effect_of
-  ask_breaks s others none =
-      asks_break calc o (effect_of calc old (act.Ask name o)) old new lines_old lines_new count_old count_new log_old
-      log_new refl s others none
+-- a line is not empty
+some_so : (xs ys : List ℕ) → ys ≢ [] → xs ++ ys ≢ []
+some_so [] ys some = some
+some_so (x ∷ xs) ys some = λ same. cc
 
-  pub ask_unwritten : (answer : Asked)
-      → asks.Asks calc o old.state new.state answer count_old count_new log_old log_new
-      → new ≡ record old { state = new.state; stopped = new.stopped } → lines_new ≡ lines_old
-      → BreaksOff calc (act.Ask name o) old new lines_old lines_new count_old count_new log_old log_new
-  unfolding effect_of
-  ask_unwritten answer a others none =
-      asks_unwritten calc o (effect_of calc old (act.Ask name o)) old new lines_old lines_new count_old count_new
-      log_old log_new refl answer a others none
+pub asked_line_some : (names : List (List ℕ)) (of_object : List ℕ) (name : ℕ) (outcome : Outcome) (mark : Mark) (n : ℕ)
+    → asked_line names of_object name outcome mark n ≢ []
+unfolding asked_line
+asked_line_some names of_object name outcome mark n =
+    some_so (name_text names name ++ codes " " ++ answer_text names of_object outcome mark ++ codes " " ++ decimal n)
+    (codes "\n") (λ same. cc)
 
--- an ask for a discount factor
-module _ (calc : Calc) (name o : ℕ) (day : ℤ) (old new : Standing) (lines_old lines_new : List ℕ)
-    (count_old count_new : ℕ) (log_old log_new : Log) where
-  pub df_carries : (answer : Asked) (found : Result ℤ Cause)
-      → asks.Asks calc o old.state new.state answer count_old count_new log_old log_new
-      → new ≡ record old { state = new.state } → found ≡ discount_in o day (shows calc old.state o)
-      → lines_new ≡ lines_old ++ df_line old.names old.of_object name day found answer.mark answer.runs
-      → Carries calc (act.Df name o day) old new lines_old lines_new count_old count_new log_old log_new
-  unfolding effect_of step
-  df_carries answer found a same is written =
-      asks_carry calc o (effect_of calc old (act.Df name o day)) old new lines_old lines_new count_old count_new
-      log_old log_new refl answer a same refl
-      (written
-      ∙ ap (λ (f : Result ℤ Cause). lines_old ++ df_line old.names old.of_object name day f answer.mark answer.runs) is
-      ∙ ap (λ (m : Mark). lines_old ++ df_line old.names old.of_object name day
-      (discount_in o day (shows calc old.state o)) m answer.runs) a.mark
-      ∙ ap (λ (n : ℕ). lines_old ++ df_line old.names old.of_object name day
-      (discount_in o day (shows calc old.state o)) (mark_of old.state o) n) a.number)
-
-  pub df_breaks : asks.Stops calc o old.state new.state count_old count_new log_old log_new
-      → new ≡ record old { state = new.state; stopped = new.stopped } → lines_new ≡ lines_old
-      → BreaksOff calc (act.Df name o day) old new lines_old lines_new count_old count_new log_old log_new
-  unfolding effect_of
-  df_breaks s others none =
-      asks_break calc o (effect_of calc old (act.Df name o day)) old new lines_old lines_new count_old count_new
-      log_old log_new refl s others none
-
-  pub df_unwritten : (answer : Asked)
-      → asks.Asks calc o old.state new.state answer count_old count_new log_old log_new
-      → new ≡ record old { state = new.state; stopped = new.stopped } → lines_new ≡ lines_old
-      → BreaksOff calc (act.Df name o day) old new lines_old lines_new count_old count_new log_old log_new
-  unfolding effect_of
-  df_unwritten answer a others none =
-      asks_unwritten calc o (effect_of calc old (act.Df name o day)) old new lines_old lines_new count_old count_new
-      log_old log_new refl answer a others none
+pub df_line_some : (names : List (List ℕ)) (of_object : List ℕ) (name : ℕ) (day : ℤ) (found : Result ℤ Cause)
+    (mark : Mark) (n : ℕ) → df_line names of_object name day found mark n ≢ []
+unfolding df_line
+df_line_some names of_object name day found mark n =
+    some_so (name_text names name ++ codes " " ++ found_text names of_object day found mark ++ codes " " ++ decimal n)
+    (codes "\n") (λ same. cc)
 
 -- an act that writes and computes nothing
 pub quiet_carries : (calc : Calc) (a : Act) (old new : Standing) (lines : List ℕ) (count : ℕ) (log : Log)
@@ -272,6 +236,36 @@ unfolding effect_of step
 fixing_carries calc x day rate old new lines count log is =
     quiet_carries calc (act.Fixing x day rate) old new lines count log refl refl is
 
+pub freeze_carries : (calc : Calc) (o : ℕ) (old new : Standing) (lines : List ℕ) (count : ℕ) (log : Log)
+    → new ≡ with_state (effect.frozen_set o old.state) old
+    → Carries calc (act.Freeze o) old new lines lines count count log log
+unfolding effect_of step
+freeze_carries calc o old new lines count log is =
+    quiet_carries calc (act.Freeze o) old new lines count log refl refl is
+
+pub thaw_carries : (calc : Calc) (o : ℕ) (old new : Standing) (lines : List ℕ) (count : ℕ) (log : Log)
+    → new ≡ with_state (effect.thawed o old.state) old
+    → Carries calc (act.Thaw o) old new lines lines count count log log
+unfolding effect_of step
+thaw_carries calc o old new lines count log is = quiet_carries calc (act.Thaw o) old new lines count log refl refl is
+
+pub forward_carries : (calc : Calc) (o : ℕ) (is_on : Bool) (old new : Standing) (lines : List ℕ) (count : ℕ) (log : Log)
+    → new ≡ with_state (effect.forward_set o is_on old.state) old
+    → Carries calc (act.Forward o is_on) old new lines lines count count log log
+unfolding effect_of step
+forward_carries calc o is_on old new lines count log is =
+    quiet_carries calc (act.Forward o is_on) old new lines count log refl refl is
+
+pub defer_carries : (calc : Calc) (old new : Standing) (lines : List ℕ) (count : ℕ) (log : Log)
+    → new ≡ with_state (effect.deferred old.state) old → Carries calc act.Defer old new lines lines count count log log
+unfolding effect_of step
+defer_carries calc old new lines count log is = quiet_carries calc act.Defer old new lines count log refl refl is
+
+pub resume_carries : (calc : Calc) (old new : Standing) (lines : List ℕ) (count : ℕ) (log : Log)
+    → new ≡ with_state (effect.resumed old.state) old → Carries calc act.Resume old new lines lines count count log log
+unfolding effect_of step
+resume_carries calc old new lines count log is = quiet_carries calc act.Resume old new lines count log refl refl is
+
 pub drop_carries : (calc : Calc) (o : ℕ) (old new : Standing) (lines : List ℕ) (count : ℕ) (log : Log)
     → new ≡ with_state (effect.dropped o old.state) old
     → Carries calc (act.Drop o) old new lines lines count count log log
@@ -310,7 +304,7 @@ pub stops_of : {E : Type 0} (calc : Calc) (c : Command) (a : Act) (p q new : Sta
 unfolding turn
 stops_of calc c a p q new lines_old lines_new count_old count_new log_old log_new r same is breaks =
     subst (λ (x : Result Act Refusal). OnErr r
-    (Ends (done_as calc q c x) (outcomes_of calc q.state x) q new lines_old lines_new count_old count_new log_old
+    (Ends (done_as calc q c x) (survivors_of calc q.state x) q new lines_old lines_new count_old count_new log_old
     log_new)) is
     (subst (λ (s : Standing). OnErr r
     (BreaksOff calc a s new lines_old lines_new count_old count_new log_old log_new)) same breaks)

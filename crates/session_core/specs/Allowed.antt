@@ -8,6 +8,7 @@ use Rattle.desk_terms.specs.Terms.{optional_reference}
 use Rattle.flow_terms.specs.Fixings.{IsRate}
 use Rattle.desk_model.specs.Market.{Market, kind_at, least_user}
 use Rattle.desk_model.specs.Links.{AreOfKind, Serve, serves_as, is_lazy_at}
+use Rattle.desk_model.specs.State.{least_source}
 use Rattle.session_model.specs.declared.act.Act.{Act}
 use Rattle.session_model.specs.declared.act.Act.TheVariants as act
 use Rattle.session_model.specs.declared.place.Place.TheVariants as place
@@ -51,6 +52,11 @@ pub record MayFix (p : Standing) (x : ℕ) (day r : ℤ) : Type 0 where
   pub rate : IsRate r
   pub free : rate_at p.state.market x day ≡ None
 
+-- a lazy object that no deferred source makes late
+pub record MayRecalc (p : Standing) (object : ℕ) : Type 0 where
+  pub lazy : is_lazy_at p.state.market object ≡ true
+  pub early : least_source p.state object ≡ None
+
 -- it is no `today`, and no object has it among its edges
 pub record MayDrop (p : Standing) (object : ℕ) : Type 0 where
   pub taken : takes_found place.Droppable (kind_at p.state.market object) ≡ true
@@ -64,6 +70,12 @@ IsAllowed p (act.Link handle target) = MayRelink p handle target
 IsAllowed p (act.Engine instrument engine) = MayEngage p instrument engine
 IsAllowed p (act.Today day) = Unit {0}
 IsAllowed p (act.Fixing index day rate) = MayFix p index day rate
+IsAllowed p (act.Freeze object) = is_lazy_at p.state.market object ≡ true
+IsAllowed p (act.Thaw object) = is_lazy_at p.state.market object ≡ true
+IsAllowed p (act.Recalc name object) = MayRecalc p object
+IsAllowed p (act.Forward object is_on) = is_lazy_at p.state.market object ≡ true
+IsAllowed p act.Defer = Unit {0}
+IsAllowed p act.Resume = Unit {0}
 IsAllowed p (act.Drop object) = MayDrop p object
 IsAllowed p (act.Ask name object) = is_lazy_at p.state.market object ≡ true
 IsAllowed p (act.Df name object day) = is_lazy_at p.state.market object ≡ true

@@ -1,3 +1,5 @@
 pub mod Allowed
 pub mod HasNames
+pub mod Laws
+pub mod Pricing
 pub mod Steps

@@ -1,10 +1,11 @@
 -- What one command does, whether it ends or memory runs out in it.
-use Rattle.std.specs.Prelude.{◌≡◌, ◌++◌, ◌+◌, ◌≤◌, ℕ, Bool, List, [], ◌∷◌, length, take, Option, Result, Ok, Err, IsOk}
+use Rattle.std.specs.Prelude.{◌≡◌, ◌≢◌, ◌⊎◌, ◌++◌, ◌+◌, ◌≤◌, ℕ, Bool, List, [], ◌∷◌, length, take, Option, Result, Ok, Err, IsOk}
 use Rattle.desk_terms.specs.declared.terms.Terms.{Terms}
 use Rattle.desk_terms.specs.Reading.{Outcome, Calc}
 use Rattle.desk_terms.specs.Bench.{counted, logged}
 use Rattle.desk_model.specs.State.{State}
 use Rattle.desk_model.specs.Visit.{runs, stored}
+use Rattle.desk_model.specs.Recalc.{inputs_walk}
 use Rattle.desk_model.specs.Effect as effect
 use Rattle.session_commands.specs.declared.command.Command.{Command}
 use Rattle.session_commands.specs.declared.refusal.Refusal.{Refusal}
@@ -36,9 +37,17 @@ pub record Does (t : Turn) (new : Standing) (lines_old lines_new : List ℕ) (co
   pub count : count_new ≡ counted count_old (length t.calls)
   pub log : log_new ≡ logged log_old t.calls
 
--- Memory ran out in a turn: a front of its computations was begun, and all of these ended but the last one at most; the
--- stored values are those that they left, a front of its lines was appended, and all else is as it was.
-pub record Ends (t : Turn) (outcomes : List (ℕ × Outcome)) (old new : Standing) (lines_old lines_new : List ℕ)
+-- The turn was done but for its line, of which no byte found memory: the state is the next one.
+pub record LacksLine (t : Turn) (ended shown : ℕ) (state : State) : Type 0 where
+  pub line : t.lines ≢ []
+  pub unshown : shown ≡ 0
+  pub all : ended ≡ length t.calls
+  pub done : state ≡ t.next.state
+
+-- Memory ran out in a turn: a front of its computations was begun, and all of these ended but the last one at most; a
+-- front of its lines was appended. The stored values are those that the ended ones left, of those that may stay, or its
+-- line alone is lacking; and all else is as it was.
+pub record Ends (t : Turn) (survivors : List (ℕ × Outcome)) (old new : Standing) (lines_old lines_new : List ℕ)
     (count_old count_new : ℕ) (log_old log_new : Option (List (ℕ × Bool))) : Type 0 where
   pub begun : ℕ
   pub ended : ℕ
@@ -48,25 +57,32 @@ pub record Ends (t : Turn) (outcomes : List (ℕ × Outcome)) (old new : Standin
   pub count : count_new ≡ counted count_old begun
   pub log : log_new ≡ logged log_old (take ended t.calls)
   pub written : lines_new ≡ lines_old ++ take shown t.lines
-  pub state : new.state ≡ stored old.state (take ended outcomes)
+  pub state : (new.state ≡ stored old.state (take ended survivors)) ⊎ LacksLine t ended shown new.state
   pub others : new ≡ record old { state = new.state; stopped = new.stopped }
 
--- the computations of an act, each with its outcome
-abbrev pub act_outcomes : Calc → State → Act → List (ℕ × Outcome)
-act_outcomes calc s (act.Make name terms) = []
-act_outcomes calc s (act.Set quote value) = []
-act_outcomes calc s (act.Member composite member weight) = []
-act_outcomes calc s (act.Link handle target) = []
-act_outcomes calc s (act.Engine instrument engine) = []
-act_outcomes calc s (act.Today day) = []
-act_outcomes calc s (act.Fixing index day rate) = []
-act_outcomes calc s (act.Drop object) = []
-act_outcomes calc s (act.Ask name object) = runs calc s object
-act_outcomes calc s (act.Df name object day) = runs calc s object
+-- The computations of an act, each with its outcome, of which the values stay where memory runs out in it. Of a
+-- recalculation these are the inputs': its own value is stored with its notice, or not at all.
+abbrev pub act_survivors : Calc → State → Act → List (ℕ × Outcome)
+act_survivors calc s (act.Make name terms) = []
+act_survivors calc s (act.Set quote value) = []
+act_survivors calc s (act.Member composite member weight) = []
+act_survivors calc s (act.Link handle target) = []
+act_survivors calc s (act.Engine instrument engine) = []
+act_survivors calc s (act.Today day) = []
+act_survivors calc s (act.Fixing index day rate) = []
+act_survivors calc s (act.Freeze object) = []
+act_survivors calc s (act.Thaw object) = []
+act_survivors calc s (act.Recalc name object) = (inputs_walk calc s object).calls
+act_survivors calc s (act.Forward object is_on) = []
+act_survivors calc s act.Defer = []
+act_survivors calc s act.Resume = []
+act_survivors calc s (act.Drop object) = []
+act_survivors calc s (act.Ask name object) = runs calc s object
+act_survivors calc s (act.Df name object day) = runs calc s object
 
-abbrev pub outcomes_of : Calc → State → Result Act Refusal → List (ℕ × Outcome)
-outcomes_of calc s (Err refusal) = []
-outcomes_of calc s (Ok a) = act_outcomes calc s a
+abbrev pub survivors_of : Calc → State → Result Act Refusal → List (ℕ × Outcome)
+survivors_of calc s (Err refusal) = []
+survivors_of calc s (Ok a) = act_survivors calc s a
 
 -- an act does what the definition says
 abbrev pub Carries : Calc → Act → Standing → Standing → List ℕ → List ℕ → ℕ → ℕ → Option (List (ℕ × Bool))
@@ -77,7 +93,7 @@ Carries calc a old new lines_old lines_new count_old count_new log_old log_new =
 abbrev pub BreaksOff : Calc → Act → Standing → Standing → List ℕ → List ℕ → ℕ → ℕ → Option (List (ℕ × Bool))
     → Option (List (ℕ × Bool)) → Type 0
 BreaksOff calc a old new lines_old lines_new count_old count_new log_old log_new =
-    Ends (effect_of calc old a) (act_outcomes calc old.state a) old new lines_old lines_new count_old count_new
+    Ends (effect_of calc old a) (act_survivors calc old.state a) old new lines_old lines_new count_old count_new
     log_old log_new
 
 -- A COMMAND DOES ITS TURN
@@ -90,7 +106,7 @@ Steps calc c old new lines_old lines_new count_old count_new log_old log_new =
 abbrev pub Stops : Calc → Command → Standing → Standing → List ℕ → List ℕ → ℕ → ℕ → Option (List (ℕ × Bool))
     → Option (List (ℕ × Bool)) → Type 0
 Stops calc c old new lines_old lines_new count_old count_new log_old log_new =
-    Ends (turn calc old c) (outcomes_of calc old.state (resolve old c)) old new lines_old lines_new count_old
+    Ends (turn calc old c) (survivors_of calc old.state (resolve old c)) old new lines_old lines_new count_old
     count_new log_old log_new
 
 -- An object is made where the definition makes it, and refused where it refuses; memory is wanted only where it is not

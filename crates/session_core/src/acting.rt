@@ -16,9 +16,10 @@ use session_model::Act;
 use std::alloc::AllocError;
 
 impl Session {
-    /// Does one command, and appends its line where it writes one: the answer of an ask, or why the command is refused.
-    /// A refused command changes nothing, and a command that writes nothing appends nothing. After want of memory the
-    /// session is stopped; what an ask computed before stays.
+    /// Does one command, and appends its line where it writes one: the answer of an ask or of a recalculation, or why the
+    /// command is refused. A refused command changes nothing, and a command that writes nothing appends nothing. After
+    /// want of memory the session is stopped; what was computed before stays, and where the line alone found no memory,
+    /// the command is done.
     pub fn step<B: Bench>(
         &mut self,
         command: &Command,
@@ -118,22 +119,19 @@ impl Session {
                 Ok(_) => Ok(()),
                 Err(fault) => Err(fault),
             },
-            Act::Set(quote, value) => {
-                self.set(quote, value);
-                Ok(())
-            }
+            Act::Set(quote, value) => Ok(self.set(quote, value)),
             Act::Member(composite, member, weight) => self.weigh(composite, member, weight),
             Act::Link(handle, target) => self.link(handle, target),
             Act::Engine(instrument, engine) => self.engage(instrument, engine),
-            Act::Today(day) => {
-                self.move_today(day);
-                Ok(())
-            }
+            Act::Today(day) => Ok(self.move_today(day)),
             Act::Fixing(index, day, rate) => self.fix(index, day, rate),
-            Act::Drop(object) => {
-                self.remove(object);
-                Ok(())
-            }
+            Act::Freeze(object) => Ok(self.freeze(object)),
+            Act::Thaw(object) => Ok(self.thaw(object)),
+            Act::Recalc(name, object) => self.recalc(name, object, bench, lines),
+            Act::Forward(object, is_on) => Ok(self.forward(object, is_on)),
+            Act::Defer => Ok(self.defer()),
+            Act::Resume => Ok(self.resume()),
+            Act::Drop(object) => Ok(self.remove(object)),
             Act::Ask(name, object) => self.ask(name, object, bench, lines),
             Act::Df(name, object, day) => self.discount(name, object, day, bench, lines),
         }

@@ -1,12 +1,15 @@
 //! A session with names: which object a name stands for, what a command resolves to, and what it does, writes and
 //! computes. Each command is one turn of the definition.
-//! Offers `Session` and `MakeFault`.
+//! Offers `Session` and `MakeFault`. A function without a body is a law: its contract is what is proved.
 #![tactic(auto)]
 
 mod acting;
 mod fault;
+mod laws;
+mod pricing;
 mod resolving;
 mod session;
 
 pub use fault::MakeFault;
+pub use laws::asks_leave_stored;
 pub use session::Session;

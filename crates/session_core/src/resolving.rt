@@ -8,8 +8,9 @@ ghost use Rattle.session_model.specs.declared.place.Place.TheVariants as place;
 ghost use Rattle.session_model.specs.declared.act.Act.TheVariants as act;
 ghost use Rattle.session_model.specs.Place.{takes_found};
 ghost use Rattle.session_model.specs.Standing.{object_named, is_full};
-ghost use Rattle.session_model.specs.Resolve.{find, with_found, made, unless, unless_used, unless_kept, unless_taken, closes, joins, rate_at, target_of, handle_kind, engaged, derived, quote_input, curve, resolve};
+ghost use Rattle.session_model.specs.Resolve.{find, with_found, made, unless, unless_used, unless_kept, unless_late, unless_taken, closes, joins, rate_at, target_of, handle_kind, engaged, derived, quote_input, curve, resolve};
 ghost use Rattle.desk_model.specs.Market.{least_user};
+ghost use Rattle.desk_model.specs.State.{least_source};
 ghost use Rattle.session_commands.specs.declared.refusal.Refusal.TheVariants.{Cycle};
 
 use crate::Session;
@@ -42,18 +43,18 @@ impl Session {
             Command::Engine(instrument, engine) => self.engaged(*instrument, *engine),
             Command::Today(day) => Ok(Act::Today(*day)),
             Command::Fixing(index, day, rate) => self.fixed(*index, *day, *rate),
+            Command::Freeze(object) => self.frozen(*object),
+            Command::Thaw(object) => self.thawed(*object),
+            Command::Recalc(object) => self.recalced(*object),
+            Command::Forward(object, is_on) => self.forwarded(*object, *is_on),
+            Command::Defer => Ok(Act::Defer),
+            Command::Resume => Ok(Act::Resume),
             Command::Drop(object) => self.dropped(*object),
             Command::Ask(object) => self.asked(*object),
             Command::Df(curve, day) => self.discounted(*curve, *day),
-            Command::Freeze(..)
-            | Command::Thaw(..)
-            | Command::Recalc(..)
-            | Command::Forward(..)
-            | Command::Defer
-            | Command::Resume
-            | Command::Watch(..)
-            | Command::Register(..)
-            | Command::Unregister(..) => Err(Refusal::Unbuilt),
+            Command::Watch(..) | Command::Register(..) | Command::Unregister(..) => {
+                Err(Refusal::Unbuilt)
+            }
         }
     }
 
@@ -261,6 +262,43 @@ impl Session {
     {
         let quote = self.find(Place::Quote, quote)?;
         Ok(Act::Set(quote, value))
+    }
+
+    #[tactic(auto, unfolding(session_model::specs::Resolve::with_found))]
+    fn frozen(&self, name: NameId) -> Result<Act, Refusal>
+        ensures { result ≡ with_found (find place.Priced self.now name) (λ x. Ok (act.Freeze x)) }
+    {
+        let object = self.find(Place::Priced, name)?;
+        Ok(Act::Freeze(object))
+    }
+
+    #[tactic(auto, unfolding(session_model::specs::Resolve::with_found))]
+    fn thawed(&self, name: NameId) -> Result<Act, Refusal>
+        ensures { result ≡ with_found (find place.Priced self.now name) (λ x. Ok (act.Thaw x)) }
+    {
+        let object = self.find(Place::Priced, name)?;
+        Ok(Act::Thaw(object))
+    }
+
+    #[tactic(auto, unfolding(session_model::specs::Resolve::with_found, session_model::specs::Resolve::unless_late))]
+    fn recalced(&mut self, name: NameId) -> Result<Act, Refusal>
+        ensures act { result ≡ with_found (find place.Priced self.old name) (λ x.
+            unless_late (least_source self.old.state x) (act.Recalc name x)) }
+        ensures same { self.new ≡ self.old }
+    {
+        let object = self.find(Place::Priced, name)?;
+        match self.late(object) {
+            Some(source) => Err(Refusal::Deferred(source)),
+            None => Ok(Act::Recalc(name, object)),
+        }
+    }
+
+    #[tactic(auto, unfolding(session_model::specs::Resolve::with_found))]
+    fn forwarded(&self, name: NameId, is_on: bool) -> Result<Act, Refusal>
+        ensures { result ≡ with_found (find place.Priced self.now name) (λ x. Ok (act.Forward x is_on)) }
+    {
+        let object = self.find(Place::Priced, name)?;
+        Ok(Act::Forward(object, is_on))
     }
 
     #[tactic(auto, unfolding(session_model::specs::Resolve::with_found, session_model::specs::Resolve::unless_used))]

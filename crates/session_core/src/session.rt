@@ -9,23 +9,24 @@ ghost use Rattle.desk_model.specs.Links.{AreOfKind, serves_as, is_lazy_at};
 ghost use Rattle.desk_model.specs.Sound.{IsSound, KeepsCurrent};
 ghost use Rattle.desk_terms.specs.Asked.{Shows};
 ghost use Rattle.desk_terms.specs.Reading.{Outcome};
-ghost use Rattle.desk_model.specs.Effect.{quote_set, relinked, engine_set, member_set, today_set, fixing_added, dropped};
+ghost use Rattle.desk_model.specs.State.{kept_at, least_source};
+ghost use Rattle.desk_model.specs.Effect.{quote_set, relinked, engine_set, member_set, today_set, fixing_added, frozen_set, thawed, forward_set, deferred, resumed, dropped};
 ghost use Rattle.session_commands.specs.Parts.{command_word};
-ghost use Rattle.price_report.specs.Line.{refusal_line};
-ghost use Rattle.session_model.specs.declared.act.Act.TheVariants as act;
+ghost use Rattle.price_report.specs.Line.{asked_line, df_line, refusal_line};
 ghost use Rattle.session_model.specs.Standing.{start_of, object_named, is_full};
 ghost use Rattle.session_model.specs.declared.place.Place.TheVariants as place;
 ghost use Rattle.session_model.specs.Place.{takes_found};
 ghost use Rattle.session_model.specs.Resolve.{closes, joins, rate_at};
 ghost use Rattle.session_model.specs.Turn.{discount_in};
-ghost use Rattle.session_core.specs.Allowed.{MayRelink, MayEngage, MayFix};
-ghost use Rattle.session_core.specs.Steps.{with_object, with_state, Carries, BreaksOff};
+ghost use Rattle.session_core.specs.Allowed.{MayRelink, MayEngage, MayFix, MayRecalc};
+ghost use Rattle.session_core.specs.Pricing.{asking, recalculating, Prices, StopsShort};
+ghost use Rattle.session_core.specs.Steps.{with_object, with_state};
 
 use day_number::Day;
 use desk_names::{NameId, NameList, Names, ObjId};
 use desk_terms::{Asked, Bench, Cause, FixFault, Kind, Terms, Value, discount_of};
 use fixed_amount::{Discount, Rate};
-use lazy_objects::Desk;
+use lazy_objects::{Desk, Recalced};
 use price_report::{Namer, asked_line, df_line, refusal_line};
 use session_commands::{Actions, Command, Refusal};
 use session_model::{MOST_LIVE, MOST_NUMBERS};
@@ -282,26 +283,115 @@ impl Session {
         self.desk.remove(object);
     }
 
-    // Asks a lazy object, and writes its line.
-    pub(crate) fn ask<B: Bench>(
+    // The least deferred source that makes a lazy object late, if any does.
+    pub(crate) fn late(&mut self, object: ObjId) -> Option<ObjId>
+        requires lazy { is_lazy_at self.old.state.market object ≡ true }
+        ensures late { result ≡ least_source self.old.state object }
+        ensures same { self.new ≡ self.old }
+    {
+        self.desk.late(object)
+    }
+
+    // Freezes a lazy object.
+    pub(crate) fn freeze(&mut self, object: ObjId)
+        requires lazy { is_lazy_at self.old.state.market object ≡ true }
+        ensures set { self.new ≡ with_state (frozen_set object self.old.state) self.old }
+        ensures sound { (calc : Calc) → IsSound calc self.old.state → IsSound calc self.new.state }
+    {
+        self.desk.freeze(object);
+    }
+
+    // Freezes a lazy object no more.
+    pub(crate) fn thaw(&mut self, object: ObjId)
+        requires lazy { is_lazy_at self.old.state.market object ≡ true }
+        ensures set { self.new ≡ with_state (thawed object self.old.state) self.old }
+        ensures sound { (calc : Calc) → IsSound calc self.old.state → IsSound calc self.new.state }
+    {
+        self.desk.thaw(object);
+    }
+
+    // Lets a lazy object pass each notice on, or not.
+    pub(crate) fn forward(&mut self, object: ObjId, is_on: bool)
+        requires lazy { is_lazy_at self.old.state.market object ≡ true }
+        ensures set { self.new ≡ with_state (forward_set object is_on self.old.state) self.old }
+        ensures sound { (calc : Calc) → IsSound calc self.old.state → IsSound calc self.new.state }
+    {
+        self.desk.forward(object, is_on);
+    }
+
+    // Holds notices back.
+    pub(crate) fn defer(&mut self)
+        ensures set { self.new ≡ with_state (deferred self.old.state) self.old }
+        ensures sound { (calc : Calc) → IsSound calc self.old.state → IsSound calc self.new.state }
+    {
+        self.desk.defer();
+    }
+
+    // Gives the notices that are held back.
+    pub(crate) fn resume(&mut self)
+        ensures set { self.new ≡ with_state (resumed self.old.state) self.old }
+        ensures sound { (calc : Calc) → IsSound calc self.old.state → IsSound calc self.new.state }
+    {
+        self.desk.resume();
+    }
+
+    // Asks a lazy object.
+    pub(crate) fn price<B: Bench>(
         &mut self,
-        name: NameId,
         object: ObjId,
         bench: &mut B,
-        lines: &mut Vec<u8>,
-    ) -> Result<(), AllocError>
+    ) -> Result<Asked, AllocError>
         requires lazy { is_lazy_at self.old.state.market object ≡ true }
         requires sound { IsSound (B.calc bench.old) self.old.state }
         ensures same { B.calc bench.new ≡ B.calc bench.old }
-        ensures steps { OnOk result (Carries (B.calc bench.old) (act.Ask name object) self.old self.new
-            lines.old.items lines.new.items (B.count bench.old) (B.count bench.new)
+        ensures prices { IfOk result (λ answer. Prices (asking (B.calc bench.old) object self.old.state)
+            object self.old self.new answer (B.count bench.old) (B.count bench.new)
             (B.log bench.old) (B.log bench.new)) }
-        ensures stops { OnErr result (BreaksOff (B.calc bench.old) (act.Ask name object) self.old self.new
-            lines.old.items lines.new.items (B.count bench.old) (B.count bench.new)
+        ensures stops { OnErr result (StopsShort (asking (B.calc bench.old) object self.old.state)
+            self.old self.new (B.count bench.old) (B.count bench.new)
             (B.log bench.old) (B.log bench.new)) }
         ensures sound { IsSound (B.calc bench.old) self.new.state }
     {
-        let asked = self.desk.ask(object, bench)?;
+        self.desk.ask(object, bench)
+    }
+
+    // Prices a lazy object that is not late, whatever its flags say.
+    pub(crate) fn reprice<B: Bench>(
+        &mut self,
+        object: ObjId,
+        bench: &mut B,
+    ) -> Result<Asked, AllocError>
+        requires may { MayRecalc self.old object }
+        requires sound { IsSound (B.calc bench.old) self.old.state }
+        ensures same { B.calc bench.new ≡ B.calc bench.old }
+        ensures prices { IfOk result (λ answer. Prices (recalculating (B.calc bench.old) object self.old.state)
+            object self.old self.new answer (B.count bench.old) (B.count bench.new)
+            (B.log bench.old) (B.log bench.new)) }
+        ensures stops { OnErr result (StopsShort (recalculating (B.calc bench.old) object self.old.state)
+            self.old self.new (B.count bench.old) (B.count bench.new)
+            (B.log bench.old) (B.log bench.new)) }
+        ensures sound { IsSound (B.calc bench.old) self.new.state }
+    {
+        match self.desk.recalc(object, bench)? {
+            Recalced::Done(asked) => Ok(asked),
+            Recalced::Deferred(_) => unreachable!(),
+        }
+    }
+
+    // Writes the line of an object that was priced.
+    pub(crate) fn report(
+        &self,
+        name: NameId,
+        object: ObjId,
+        asked: &Asked,
+        lines: &mut Vec<u8>,
+    ) -> Result<(), AllocError>
+        requires given { (outcome : Outcome) × Shows asked.now.cause (kept_at self.now.state object).last outcome }
+        ensures ok { (outcome : Outcome) → Shows asked.now.cause (kept_at self.now.state object).last outcome
+            → OnOk result (lines.new.items ≡ lines.old.items
+            ++ asked_line self.now.names self.now.of_object name outcome asked.now.mark asked.now.runs) }
+        ensures err { OnErr result (lines.new.items ≡ lines.old.items) }
+    {
         let namer = Namer {
             names: &self.names,
             of_object: &self.of_object,
@@ -309,40 +399,35 @@ impl Session {
         asked_line(
             self.alloc,
             name,
-            &asked,
+            asked,
             self.desk.last(object),
             &namer,
             lines,
         )
     }
 
-    // Asks a curve for its discount factor at a day, and writes its line.
-    pub(crate) fn discount<B: Bench>(
-        &mut self,
+    // Writes the line of the discount factor at a day of a curve that was priced.
+    pub(crate) fn report_discount(
+        &self,
         name: NameId,
         object: ObjId,
         day: Day,
-        bench: &mut B,
+        asked: &Asked,
         lines: &mut Vec<u8>,
     ) -> Result<(), AllocError>
-        requires lazy { is_lazy_at self.old.state.market object ≡ true }
-        requires sound { IsSound (B.calc bench.old) self.old.state }
-        ensures same { B.calc bench.new ≡ B.calc bench.old }
-        ensures steps { OnOk result (Carries (B.calc bench.old) (act.Df name object day) self.old self.new
-            lines.old.items lines.new.items (B.count bench.old) (B.count bench.new)
-            (B.log bench.old) (B.log bench.new)) }
-        ensures stops { OnErr result (BreaksOff (B.calc bench.old) (act.Df name object day) self.old self.new
-            lines.old.items lines.new.items (B.count bench.old) (B.count bench.new)
-            (B.log bench.old) (B.log bench.new)) }
-        ensures sound { IsSound (B.calc bench.old) self.new.state }
+        requires given { (outcome : Outcome) × Shows asked.now.cause (kept_at self.now.state object).last outcome }
+        ensures ok { (outcome : Outcome) → Shows asked.now.cause (kept_at self.now.state object).last outcome
+            → OnOk result (lines.new.items ≡ lines.old.items
+            ++ df_line self.now.names self.now.of_object name day (discount_in object day outcome)
+            asked.now.mark asked.now.runs) }
+        ensures err { OnErr result (lines.new.items ≡ lines.old.items) }
     {
-        let asked = self.desk.ask(object, bench)?;
-        let found = discount_in(object, day, &asked, self.desk.last(object));
+        let found = discount_in(object, day, asked, self.desk.last(object));
         let namer = Namer {
             names: &self.names,
             of_object: &self.of_object,
         };
-        df_line(self.alloc, name, day, &found, &asked, &namer, lines)
+        df_line(self.alloc, name, day, &found, asked, &namer, lines)
     }
 
     // Writes the line of a refused command.

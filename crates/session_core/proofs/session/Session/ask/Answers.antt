@@ -1,95 +1,61 @@
-use Rattle.std.proofs.Common.{Option, refl, sym, subst}
-use Rattle.std.specs.Prelude.{OnOk, OnErr}
-use Rattle.desk_terms.specs.declared.value.Value.{Value}
-use Rattle.desk_terms.specs.Asked.{Shows}
+use Rattle.std.proofs.Common.{ℕ, List, refl}
+use Rattle.desk_terms.specs.declared.asked.Mark.{Mark}
 use Rattle.desk_terms.specs.Reading.{Calc}
 use Rattle.desk_model.specs.State.{shows}
+use Rattle.price_report.specs.Line.{asked_line}
 use Rattle.session_model.specs.declared.act.Act.TheVariants as act
 use Rattle.session_model.specs.Standing.{Standing}
-use Rattle.session_core.specs.Steps.{Carries, BreaksOff}
-use Rattle.session_core.proofs.Naming.{names_alike}
-use Rattle.session_core.proofs.Alike.{stored_alike, asked_alike}
-use Rattle.session_core.proofs.Turns.{ask_carries, ask_breaks, ask_unwritten, on_err, on_ok, on_err_of}
+use Rattle.session_model.specs.Turn.{step, effect_of}
+use Rattle.session_core.specs.Pricing.{asking}
+use Rattle.session_core.proofs.Turns.{priced_does, priced_stops, priced_unwritten, asked_line_some, on_err, on_ok, on_err_of}
 use Rattle.session_core.proofs.session.Session.ask.Goals as goal
 
-pub invariant_of-self : goal.invariant_of-self
-invariant_of-self g c =
-    let stops = c.in_err-asked.ensures.stops in
-    names_alike _ c.self.inside.of_name.items c.self.inside.live c.ask.new.self c.self.inside.stopped
-    (stored_alike c.self.inside.desk c.ask.new.self stops.front stops.state) c.self.invariant
-
 pub returns-in_err-asked-clause-stops : goal.returns-in_err-asked-clause-stops
+unfolding effect_of
 returns-in_err-asked-clause-stops g c =
     let calc : Calc = g.B.Bench.calc c.args.bench.now in
-    let p : Standing = record {
-      state = c.self.inside.desk;
-      names = c.self.inside.names;
-      of_object =
-          c.self.inside.of_object;
-      actions = c.self.inside.actions;
-      stopped = c.self.inside.stopped;
-    } in
+    let p : Standing = c.args.self.now in
+    let o : ℕ = c.args.object in
     on_err c.from_residual.result
-    (subst (λ (q : Standing). BreaksOff calc (act.Ask c.args.name c.args.object) q
-    (record p { state = c.ask.new.self }) c.args.lines.now.items c.args.lines.now.items
-    (g.B.Bench.count c.args.bench.now) (g.B.Bench.count c.ask.new.bench) (g.B.Bench.log c.args.bench.now)
-    (g.B.Bench.log c.ask.new.bench)) c.self.view_is
-    (ask_breaks calc c.args.name c.args.object p
-    (record p { state = c.ask.new.self }) c.args.lines.now.items c.args.lines.now.items
-    (g.B.Bench.count c.args.bench.now) (g.B.Bench.count c.ask.new.bench) (g.B.Bench.log c.args.bench.now)
-    (g.B.Bench.log c.ask.new.bench) c.in_err-asked.ensures.stops refl refl))
+    (priced_stops (asking calc o p.state) o (effect_of calc p (act.Ask c.args.name c.args.object)) p
+    c.price.new.self c.args.lines.now.items c.args.lines.now.items
+    (g.B.Bench.count c.args.bench.now) (g.B.Bench.count c.price.new.bench)
+    (g.B.Bench.log c.args.bench.now) (g.B.Bench.log c.price.new.bench) refl
+    c.in_err-asked.ensures.stops refl)
 
-pub invariant_of-self-2 : goal.invariant_of-self-2
-invariant_of-self-2 g c =
-    names_alike _ c.self.inside.of_name.items c.self.inside.live c.ask.new.self c.self.inside.stopped
-    (asked_alike (g.B.Bench.calc c.args.bench.now) c.self.inside.desk c.ask.new.self c.args.object
-    c.in_ok-asked.ensures.asks.state) c.self.invariant
+pub report-requires : goal.report-requires
+report-requires g c =
+    let calc : Calc = g.B.Bench.calc c.args.bench.now in
+    let p : Standing = c.args.self.now in
+    let o : ℕ = c.args.object in
+    record { given = (shows calc p.state o, c.in_ok-asked.ensures.prices.shown) }
 
 pub returns-clause-steps : goal.returns-clause-steps
+unfolding effect_of step
 returns-clause-steps g c =
     let calc : Calc = g.B.Bench.calc c.args.bench.now in
-    let p : Standing = record {
-      state = c.self.inside.desk;
-      names = c.self.inside.names;
-      of_object =
-          c.self.inside.of_object;
-      actions = c.self.inside.actions;
-      stopped = c.self.inside.stopped;
-    } in
-    let asks = c.in_ok-asked.ensures.asks in
-    subst (λ (q : Standing). OnOk c.asked_line.result
-    (Carries calc (act.Ask c.args.name c.args.object) q
-    (record p { state = c.ask.new.self }) c.args.lines.now.items c.asked_line.new.out.items
-    (g.B.Bench.count c.args.bench.now) (g.B.Bench.count c.ask.new.bench) (g.B.Bench.log c.args.bench.now)
-    (g.B.Bench.log c.ask.new.bench))) c.self.view_is
-    (on_ok c.asked_line.result
-    (ask_carries calc c.args.name c.args.object p
-    (record p { state = c.ask.new.self }) c.args.lines.now.items c.asked_line.new.out.items
-    (g.B.Bench.count c.args.bench.now) (g.B.Bench.count c.ask.new.bench) (g.B.Bench.log c.args.bench.now)
-    (g.B.Bench.log c.ask.new.bench) c.in_ok-asked.asked asks refl)
-    (c.asked_line.ensures.ok (shows calc c.self.inside.desk c.args.object)
-    (subst (λ (l : Option Value). Shows c.in_ok-asked.asked.cause l (shows calc c.self.inside.desk c.args.object))
-    (sym c.last.ensures) asks.shown)))
+    let p : Standing = c.args.self.now in
+    let o : ℕ = c.args.object in
+    on_ok c.report.result
+    (priced_does (asking calc o p.state) o (effect_of calc p (act.Ask c.args.name c.args.object)) p
+    c.price.new.self c.args.lines.now.items c.report.new.lines.items
+    (g.B.Bench.count c.args.bench.now) (g.B.Bench.count c.price.new.bench)
+    (g.B.Bench.log c.args.bench.now) (g.B.Bench.log c.price.new.bench) refl
+    (λ (names : List (List ℕ)) (of_object : List ℕ) (mark : Mark) (n : ℕ).
+    asked_line names of_object c.args.name (shows calc p.state o) mark n)
+    c.in_ok-asked.asked c.in_ok-asked.ensures.prices refl refl)
+    (c.report.ensures.ok (shows calc p.state o) c.in_ok-asked.ensures.prices.shown)
 
 pub returns-clause-stops : goal.returns-clause-stops
+unfolding effect_of step
 returns-clause-stops g c =
     let calc : Calc = g.B.Bench.calc c.args.bench.now in
-    let p : Standing = record {
-      state = c.self.inside.desk;
-      names = c.self.inside.names;
-      of_object =
-          c.self.inside.of_object;
-      actions = c.self.inside.actions;
-      stopped = c.self.inside.stopped;
-    } in
-    subst (λ (q : Standing). OnErr c.asked_line.result
-    (BreaksOff calc (act.Ask c.args.name c.args.object) q
-    (record p { state = c.ask.new.self }) c.args.lines.now.items c.asked_line.new.out.items
-    (g.B.Bench.count c.args.bench.now) (g.B.Bench.count c.ask.new.bench) (g.B.Bench.log c.args.bench.now)
-    (g.B.Bench.log c.ask.new.bench))) c.self.view_is
-    (on_err_of c.asked_line.result
-    (ask_unwritten calc c.args.name c.args.object p
-    (record p { state = c.ask.new.self }) c.args.lines.now.items c.asked_line.new.out.items
-    (g.B.Bench.count c.args.bench.now) (g.B.Bench.count c.ask.new.bench) (g.B.Bench.log c.args.bench.now)
-    (g.B.Bench.log c.ask.new.bench) c.in_ok-asked.asked c.in_ok-asked.ensures.asks refl)
-    c.asked_line.ensures.err)
+    let p : Standing = c.args.self.now in
+    let o : ℕ = c.args.object in
+    on_err_of c.report.result
+    (priced_unwritten (asking calc o p.state) o (effect_of calc p (act.Ask c.args.name c.args.object)) p
+    c.price.new.self c.args.lines.now.items c.report.new.lines.items
+    (g.B.Bench.count c.args.bench.now) (g.B.Bench.count c.price.new.bench)
+    (g.B.Bench.log c.args.bench.now) (g.B.Bench.log c.price.new.bench) refl
+    c.in_ok-asked.asked c.in_ok-asked.ensures.prices refl (asked_line_some _ _ _ _ _ _))
+    c.report.ensures.err

@@ -1,4 +1,4 @@
-use Rattle.session_core.proofs.Turns.{make_carries, set_carries, weigh_carries, link_carries, engine_carries, today_carries, fixing_carries, drop_carries, ends_at_once, on_ok, on_err_of}
+use Rattle.session_core.proofs.Turns.{make_carries, set_carries, weigh_carries, link_carries, engine_carries, today_carries, fixing_carries, freeze_carries, thaw_carries, forward_carries, defer_carries, resume_carries, drop_carries, ends_at_once, on_ok, on_err_of}
 use Rattle.std.proofs.Common.{refl, ℤ, ◌∙◌, ap, subst, arith, FitsSigned, w64}
 use Rattle.std.proofs.lemmas.Int.{to_z-of_z, fits_signed_from_abs}
 use Rattle.desk_model.specs.Effect.{member_set}
@@ -118,3 +118,49 @@ returns-in-Drop-clause-steps g c =
 
 pub returns-in-Drop-clause-sound : goal.returns-in-Drop-clause-sound
 returns-in-Drop-clause-sound g c = c.remove.ensures.sound (g.B.Bench.calc c.args.bench.now) c.requires.sound
+
+pub returns-in-Freeze-clause-steps : goal.returns-in-Freeze-clause-steps
+returns-in-Freeze-clause-steps g c =
+    let calc : Calc = g.B.Bench.calc c.args.bench.now in
+    rw c.in-Freeze.is (freeze_carries calc c.in-Freeze.object c.args.self.now c.freeze.new.self c.args.lines.now.items
+    (g.B.Bench.count c.args.bench.now) (g.B.Bench.log c.args.bench.now) c.freeze.ensures.set)
+
+pub returns-in-Freeze-clause-sound : goal.returns-in-Freeze-clause-sound
+returns-in-Freeze-clause-sound g c = c.freeze.ensures.sound (g.B.Bench.calc c.args.bench.now) c.requires.sound
+
+pub returns-in-Thaw-clause-steps : goal.returns-in-Thaw-clause-steps
+returns-in-Thaw-clause-steps g c =
+    let calc : Calc = g.B.Bench.calc c.args.bench.now in
+    rw c.in-Thaw.is (thaw_carries calc c.in-Thaw.object c.args.self.now c.thaw.new.self c.args.lines.now.items
+    (g.B.Bench.count c.args.bench.now) (g.B.Bench.log c.args.bench.now) c.thaw.ensures.set)
+
+pub returns-in-Thaw-clause-sound : goal.returns-in-Thaw-clause-sound
+returns-in-Thaw-clause-sound g c = c.thaw.ensures.sound (g.B.Bench.calc c.args.bench.now) c.requires.sound
+
+pub returns-in-Forward-clause-steps : goal.returns-in-Forward-clause-steps
+returns-in-Forward-clause-steps g c =
+    let calc : Calc = g.B.Bench.calc c.args.bench.now in
+    rw c.in-Forward.is (forward_carries calc c.in-Forward.object c.in-Forward.is_on c.args.self.now c.forward.new.self
+    c.args.lines.now.items
+    (g.B.Bench.count c.args.bench.now) (g.B.Bench.log c.args.bench.now) c.forward.ensures.set)
+
+pub returns-in-Forward-clause-sound : goal.returns-in-Forward-clause-sound
+returns-in-Forward-clause-sound g c = c.forward.ensures.sound (g.B.Bench.calc c.args.bench.now) c.requires.sound
+
+pub returns-in-Defer-clause-steps : goal.returns-in-Defer-clause-steps
+returns-in-Defer-clause-steps g c =
+    let calc : Calc = g.B.Bench.calc c.args.bench.now in
+    rw c.in-Defer.is (defer_carries calc c.args.self.now c.defer.new.self c.args.lines.now.items
+    (g.B.Bench.count c.args.bench.now) (g.B.Bench.log c.args.bench.now) c.defer.ensures.set)
+
+pub returns-in-Defer-clause-sound : goal.returns-in-Defer-clause-sound
+returns-in-Defer-clause-sound g c = c.defer.ensures.sound (g.B.Bench.calc c.args.bench.now) c.requires.sound
+
+pub returns-in-Resume-clause-steps : goal.returns-in-Resume-clause-steps
+returns-in-Resume-clause-steps g c =
+    let calc : Calc = g.B.Bench.calc c.args.bench.now in
+    rw c.in-Resume.is (resume_carries calc c.args.self.now c.resume.new.self c.args.lines.now.items
+    (g.B.Bench.count c.args.bench.now) (g.B.Bench.log c.args.bench.now) c.resume.ensures.set)
+
+pub returns-in-Resume-clause-sound : goal.returns-in-Resume-clause-sound
+returns-in-Resume-clause-sound g c = c.resume.ensures.sound (g.B.Bench.calc c.args.bench.now) c.requires.sound

@@ -1,0 +1,11 @@
+use Rattle.session_core.proofs.Naming.{names_alike}
+use Rattle.session_core.proofs.Alike.{thawed_alike, sound_as}
+use Rattle.session_core.proofs.session.Session.thaw.Goals as goal
+
+pub invariant_of-self : goal.invariant_of-self
+invariant_of-self c =
+    names_alike _ c.self.inside.of_name.items c.self.inside.live c.thaw.new.self c.self.inside.stopped
+    (thawed_alike c.self.inside.desk c.thaw.new.self c.args.object c.thaw.ensures.set) c.self.invariant
+
+pub returns-clause-sound : goal.returns-clause-sound
+returns-clause-sound c = sound_as _ c.args.self.now c.thaw.new.self c.self.view_is c.thaw.ensures.sound

@@ -1,2 +1,3 @@
-pub mod Asking
+pub mod Answers
+pub mod RunCommand
 pub mod Words

@@ -1,8 +1,9 @@
 //! The words of the command line that this version takes, and what they ask for.
-//!
-//! `read_words`, `Request`.
+//! A scan decides whether the words are one of the lists that are taken; `clap` then finds the paths of a run.
+//! Offers `read_words`, `Request` and `WordsFault`.
 #![tactic(auto)]
 
+mod run_command;
 mod words;
 
-pub use words::{Request, read_words};
+pub use words::{Request, WordsFault, read_words};

@@ -1,0 +1,2 @@
+pub mod RunWalk
+pub mod WordsRows

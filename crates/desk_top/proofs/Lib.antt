@@ -1,2 +1,6 @@
+pub mod Opening
 pub mod Planning
 pub mod Progress
+pub mod Reported
+pub mod Started
+pub mod Steps

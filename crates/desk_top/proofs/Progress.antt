@@ -30,7 +30,7 @@ logged-logged : (log : Log) (a b : List (ℕ × Bool)) → logged (logged log a)
 logged-logged None a b = refl
 logged-logged (Some entries) a b = ap Some (append_assoc entries a b)
 
-logged_nothing : (log : Log) → log ≡ logged log []
+pub logged_nothing : (log : Log) → log ≡ logged log []
 logged_nothing None = refl
 logged_nothing (Some entries) = ap Some (sym (append-nil entries))
 
@@ -45,7 +45,7 @@ unfolding calls_in
 calls_joined [] b = refl
 calls_joined (t ∷ a) b = ap (λ (l : List (ℕ × Bool)). t.calls ++ l) (calls_joined a b) ∙ sym (append_assoc t.calls (calls_in a) (calls_in b))
 
-lines_one : (t : Turn) → lines_of (t ∷ []) ≡ t.lines
+pub lines_one : (t : Turn) → lines_of (t ∷ []) ≡ t.lines
 unfolding lines_of
 lines_one t = append-nil t.lines
 
@@ -223,8 +223,8 @@ module _ (calc : Calc) (first : Standing) (commands : List Command) (start : Out
     ends_written status.TheVariants.NoMemory r = halted_front (rounds calc first commands) start new (progress_halted command rest state now new p r)
     ends_written status.TheVariants.Done r = absurd r
     ends_written status.TheVariants.Usage r = absurd r
-    ends_written (status.TheVariants.Market section entry kind) r = absurd r
-    ends_written (status.TheVariants.Script line kind) r = absurd r
+    ends_written (status.TheVariants.Market section entry why) r = absurd r
+    ends_written (status.TheVariants.Script line why) r = absurd r
     ends_written status.TheVariants.ReadFault r = absurd r
     ends_written (status.TheVariants.Absent role) r = absurd r
 

@@ -1,24 +1,24 @@
--- What the reading of the files gives.
-use Rattle.std.specs.Prelude.{◌≡◌, ◌⊎◌, ◌<◌, ℕ, List, length, Option, None, Some, Result, Ok, Err, Vec}
-use Rattle.std.specs.declared.alloc.Global.{Global}
-use Rattle.desk_edge.specs.Shelf.{most_bytes}
-use Rattle.desk_top.specs.declared.status.Section.TheVariants.{Top}
-use Rattle.desk_top.specs.declared.status.MarketKind as market
-use Rattle.session_commands.specs.declared.script_kind.ScriptKind.TheVariants.{TooLong}
-use Rattle.desk_top.specs.declared.status.FileRole.{FileRole}
-use Rattle.desk_top.specs.declared.status.FileRole as role
-use Rattle.desk_top.specs.declared.status.Status.{Status}
-use Rattle.desk_top.specs.declared.status.Status.TheVariants.{Done, Market, Script, ReadFault, WriteFault, NoMemory, Absent}
+-- What the reading of words and files gives, and what it leaves of the shelf.
+use Rattle.std.specs.Prelude.{◌≡◌, ◌⊎◌, ◌≤◌, ℕ, List, All, Option, Result, Ok, Err, IfSome, IfErr, IsErrOf}
+use Rattle.desk_edge.specs.Count.{Rose}
+use Rattle.desk_edge.specs.Shelf.{Contents, files_of}
 use Rattle.desk_edge.specs.declared.reading.ReadFault as fault
+use Rattle.desk_terms.specs.Reading.{AreInRange}
+use Rattle.desk_terms.specs.declared.terms.Terms.{Terms}
+use Rattle.market_file.specs.Market.{Market}
+use Rattle.market_file.specs.Standing.{IsReady}
+use Rattle.market_file.specs.declared.fault.MarketFault as untaken
+use Rattle.session_commands.specs.Whole.{IsScript}
 use Rattle.session_lang.specs.declared.fault.ScriptFault as unread
-use Rattle.desk_top.specs.declared.running.Plan as read
+use Rattle.desk_top.specs.declared.status.FileRole.{FileRole}
+use Rattle.desk_top.specs.declared.status.Status.{Status}
+use Rattle.desk_top.specs.declared.status.Status.TheVariants.{Done, Usage, Market as OfMarket, Script, ReadFault, WriteFault, NoMemory, Absent}
+use Rattle.desk_top.specs.declared.plan.Opened as opened
+use Rattle.desk_top.specs.declared.plan.Plan as planned
+use Rattle.desk_top.specs.declared.plan.ScriptRun as scripted
+use Rattle.desk_top.specs.Reading.{Files, too_long_of}
 use Rattle.desk_top.specs.Run.{IsReading}
-use Rattle.desk_top.specs.Verdict.{Plan}
-
--- the status of a file that is longer than the most bytes
-abbrev pub too_long_of : FileRole → Status
-too_long_of role.TheVariants.Market = Market Top 0 market.TheVariants.Unbuilt
-too_long_of role.TheVariants.Script = Script 0 TooLong
+use Rattle.desk_top.specs.Verdict.{ScriptRun, Plan, Run, Check}
 
 -- the status of a read that failed
 abbrev pub read_status : FileRole → fault.ReadFault → Status
@@ -26,35 +26,94 @@ read_status role fault.TheVariants.Failed = ReadFault
 read_status role fault.TheVariants.TooLong = too_long_of role
 read_status role fault.TheVariants.NoMemory = NoMemory
 
+-- the status of a market that was not read
+abbrev pub market_status : untaken.MarketFault → Status
+market_status (untaken.TheVariants.At section entry why) = OfMarket section entry why
+market_status untaken.TheVariants.NoMemory = NoMemory
+
 -- the status of a script that was not read
 abbrev pub script_status : unread.ScriptFault → Status
-script_status (unread.TheVariants.At line kind) = Script line kind
+script_status (unread.TheVariants.At line why) = Script line why
 script_status unread.TheVariants.NoMemory = NoMemory
 
--- the answer of a read of a whole file, where this is the file
-abbrev pub Finds : Option (List ℕ) → FileRole → Result (Vec ℕ Global) Status → Type 0
-Finds (Some bytes) role (Ok text) = text.items ≡ bytes
-Finds (Some bytes) role (Err status) = IsReading status ⊎ ((most_bytes < length bytes) × (status ≡ too_long_of role))
-Finds None role (Ok text) = ⊥
-Finds None role (Err status) = IsReading status ⊎ (status ≡ Absent role)
+-- a shelf as contracts see it: its files where they are told, and its counts
+pub record Seen : Type 0 where
+  pub files : Option Files
+  pub faults : ℕ
+  pub misses : ℕ
+
+abbrev pub seen : Option Contents → ℕ → ℕ → Seen
+seen contents faults misses = record { files = files_of contents; faults = faults; misses = misses }
+
+-- the answer, seen by view, is this, but for a fault of reading or want of memory
+abbrev pub Tells : {X Y : Type 0} → (X → Y) → Result X Status → Result Y Status → Type 0
+Tells view (Ok x) told = told ≡ Ok (view x)
+Tells view (Err status) told = IsReading status ⊎ (told ≡ Err status)
+
+-- a status that reading may end with
+abbrev pub IsRefusal : Status → Type 0
+IsRefusal Done = ⊥
+IsRefusal Usage = ⊥
+IsRefusal WriteFault = ⊥
+IsRefusal (OfMarket section entry why) = Unit {0}
+IsRefusal (Script line why) = Unit {0}
+IsRefusal ReadFault = Unit {0}
+IsRefusal NoMemory = Unit {0}
+IsRefusal (Absent role) = Unit {0}
+
+-- Files were read: the answer, seen by view, is what the definition tells of them. The files stay, and a fault of
+-- reading and an absent file were counted.
+pub record Reads {X Y : Type 0} (view : X → Y) (meaning : Files → Result Y Status) (old new : Seen) (result : Result X Status) : Type 0 where
+  pub tells : IfSome old.files (λ files. Tells view result (meaning files))
+  pub files : new.files ≡ old.files
+  pub refused : IfErr result IsRefusal
+  pub read : IsErrOf result ReadFault → Rose old.faults new.faults
+  pub absent : (role : FileRole) → IsErrOf result (Absent role) → Rose old.misses new.misses
+  pub faults : old.faults ≤ new.faults
+  pub misses : old.misses ≤ new.misses
+
+-- the answer of a text that was read, seen by view, is this, but for want of memory
+abbrev pub Says : {X Y : Type 0} → (X → Y) → Result X Status → Result Y Status → Type 0
+Says view (Ok x) told = told ≡ Ok (view x)
+Says view (Err NoMemory) told = Unit {0}
+Says view (Err (OfMarket section entry why)) told = told ≡ Err (OfMarket section entry why)
+Says view (Err (Script line why)) told = told ≡ Err (Script line why)
+Says view (Err Done) told = ⊥
+Says view (Err Usage) told = ⊥
+Says view (Err ReadFault) told = ⊥
+Says view (Err WriteFault) told = ⊥
+Says view (Err (Absent role)) told = ⊥
+
+-- a market of the code, as the definition sees it
+abbrev pub market_in : opened.Opened → Market
+market_in opened = record { today = opened.today; made = opened.made.items; names = opened.names }
+
+-- objects of which a session can be made
+pub record AreWhole (names : List (List ℕ)) (made : List (ℕ × Terms)) : Type 0 where
+  pub ready : IsReady names made
+  pub ranged : All (λ entry. AreInRange entry.1) made
+
+-- a script to be run, as the definition sees it
+abbrev pub run_in : scripted.ScriptRun → ScriptRun
+run_in run =
+    record { names = run.market.names; today = run.market.today; made = run.market.made.items; script = run.script }
+
+-- a plan of the code, as the definition sees it
+abbrev pub plan_in : planned.Plan → Plan
+plan_in (planned.TheVariants.Run run) = Run (run_in run)
+plan_in (planned.TheVariants.Check objects fixings) = Check objects fixings
+
+-- a session can be made of the objects, and the script is whole
+abbrev pub CanRun : scripted.ScriptRun → Type 0
+CanRun run = AreWhole run.market.names run.market.made.items × IsScript run.market.names run.script
+
+-- the same of a plan: a report needs nothing
+abbrev pub CanDo : planned.Plan → Type 0
+CanDo (planned.TheVariants.Run run) = CanRun run
+CanDo (planned.TheVariants.Check objects fixings) = Unit {0}
 
 -- a status that may come before the first command is done
 abbrev pub IsBefore : Status → Type 0
 IsBefore Done = ⊥
 IsBefore WriteFault = ⊥
 IsBefore status = Unit {0}
-
--- a plan of the code, as the definition sees it
-abbrev pub plan_in : read.Plan → Plan
-plan_in plan = record { names = plan.names; today = plan.today; script = plan.script }
-
--- the answer is this verdict, but for a fault of reading or want of memory
-abbrev pub Plans : Result Plan Status → Result read.Plan Status → Type 0
-Plans verdict (Ok plan) = verdict ≡ Ok (plan_in plan)
-Plans verdict (Err status) = IsReading status ⊎ (verdict ≡ Err status)
-
--- the same of a script alone, and memory is all that may be wanting
-abbrev pub Reads : Result Plan Status → Result read.Plan Status → Type 0
-Reads told (Ok plan) = told ≡ Ok (plan_in plan)
-Reads told (Err NoMemory) = Unit {0}
-Reads told (Err status) = told ≡ Err status

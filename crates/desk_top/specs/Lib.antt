@@ -1,6 +1,7 @@
 pub mod Early
 pub mod Found
-pub mod Market
+pub mod Reading
+pub mod Report
 pub mod Round
 pub mod Run
 pub mod Status

@@ -16,8 +16,8 @@ IsOutside status = ⊥
 -- a status that comes before the first command is done
 abbrev pub IsEarly : Status → Type 0
 IsEarly Usage = Unit {0}
-IsEarly (Market section entry kind) = Unit {0}
-IsEarly (Script line kind) = Unit {0}
+IsEarly (Market section entry why) = Unit {0}
+IsEarly (Script line why) = Unit {0}
 IsEarly ReadFault = Unit {0}
 IsEarly (Absent role) = Unit {0}
 IsEarly Done = ⊥

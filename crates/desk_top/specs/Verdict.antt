@@ -1,79 +1,100 @@
 -- Whether words and files are accepted, and what is done then: the first failure in the order in which files are read
 -- (this project's profile).
-use Rattle.std.specs.Prelude.{ℕ, Bool, List, [], ◌∷◌, codes, if◌then◌else◌, ℤ, Option, None, Some, Result, Ok, Err}
-use Rattle.std.specs.Str.{bytes_eq}
-use Rattle.desk_edge.specs.Shelf.{file_at}
+use Rattle.std.specs.Prelude.{ℕ, Bool, List, [], ◌∷◌, length, ℤ, pos, Option, None, Some, Result, Ok, Err}
 use Rattle.desk_terms.specs.Reading.{Calc}
-use Rattle.desk_top.specs.declared.status.Section.TheVariants.{Top}
-use Rattle.desk_top.specs.declared.status.MarketKind as market
-use Rattle.desk_top.specs.declared.status.FileRole as role
-use Rattle.desk_top.specs.declared.status.Status.{Status}
-use Rattle.desk_top.specs.declared.status.Status as status
-use Rattle.desk_top.specs.Market.{two_lines, evaluation_date}
-use Rattle.session_commands.specs.declared.script_kind.ScriptKind.{ScriptKind}
+use Rattle.desk_terms.specs.declared.terms.Terms.{Terms}
+use Rattle.desk_words.specs.Words.{Request, Run as RunOf, Check as CheckOf, request_of}
+use Rattle.market_file.specs.Market.{Market}
+use Rattle.market_tables.specs.Given.{◌>>=◌}
 use Rattle.session_commands.specs.declared.script.Script.{Script}
 use Rattle.session_lang.specs.Reading.{script_meaning}
-use Rattle.session_model.specs.Standing.{Standing, start_of}
+use Rattle.session_model.specs.Standing.{Standing, start_of, start_with}
 use Rattle.session_model.specs.Rounds.{rounds, transcript, calls_of}
 use Rattle.session_model.specs.Turn.{Turn}
-use Rattle.desk_words.specs.Words.{Request, request_of}
+use Rattle.desk_top.specs.declared.status.Status.{Status}
+use Rattle.desk_top.specs.declared.status.Status as status
+use Rattle.desk_top.specs.declared.status.FileRole.TheVariants as role
+use Rattle.desk_top.specs.Reading.{Files, file_of, or_script, market_of}
+use Rattle.desk_top.specs.Report.{fixings_in, check_line}
 
--- files by path; of several with a path the first counts
-abbrev pub Files : Type 0
-Files = List (List ℕ × List ℕ)
-
--- what is to be done: a script over the names of its session, from the market's evaluation date on
-pub record Plan : Type 0 where
+-- a script to be run: the names of its session, the evaluation date and the objects of its market, and the script
+pub record ScriptRun : Type 0 where
   pub names : List (List ℕ)
   pub today : ℤ
+  pub made : List (ℕ × Terms)
   pub script : Script
 
--- the names before a script is read: `today`, the name of the first object
-abbrev pub first_names : List (List ℕ)
-first_names = codes "today" ∷ []
+-- what is to be done: a script to be run, or the report of a market with so many objects and so many stored fixings
+pub data Plan : Type 0 where
+  Run : ScriptRun → Plan
+  Check : (objects fixings : ℕ) → Plan
 
--- what a text is read to, or its first fault with its line
-abbrev pub with_plan : Result (Script × List (List ℕ)) (ℕ × ScriptKind) → Result Plan Status
-with_plan (Ok read) = Ok (record { names = read.1; today = evaluation_date; script = read.0 })
-with_plan (Err fault) = Err (status.TheVariants.Script fault.0 fault.1)
+-- a script and the names after it, over a market
+abbrev pub run_of : Market → Script × List (List ℕ) → ScriptRun
+run_of market read = record { names = read.1; today = market.today; made = market.made; script = read.0 }
 
--- the script, once the market is accepted
-abbrev pub with_script : Option (List ℕ) → Result Plan Status
-with_script None = Err (status.TheVariants.Absent role.TheVariants.Script)
-with_script (Some text) = with_plan (script_meaning first_names text)
+-- the script of a text, over a market
+abbrev pub scripted : Market → List ℕ → Result ScriptRun Status
+scripted market text = or_script (script_meaning market.names text) >>= (λ read. Ok (run_of market read))
 
--- the market, and then the script
-abbrev pub with_market : Option (List ℕ) → Option (List ℕ) → Result Plan Status
-with_market None script = Err (status.TheVariants.Absent role.TheVariants.Market)
-with_market (Some text) script = if bytes_eq text two_lines then with_script script else Err (status.TheVariants.Market Top 0 market.TheVariants.Unbuilt)
+-- the script at a path, over a market
+abbrev pub run_over : Market → List ℕ → Files → Result ScriptRun Status
+run_over market path files = file_of role.Script path files >>= (λ text. scripted market text)
 
-abbrev pub with_request : Files → Option Request → Result Plan Status
-with_request files None = Err status.TheVariants.Usage
-with_request files (Some request) = with_market (file_at files request.market) (file_at files request.script)
+-- the report of a market
+abbrev pub check_of : Market → Plan
+check_of market = Check (length market.made) (fixings_in market.made)
+
+-- what a request asks for, over these files: the script is read behind the market
+abbrev pub plan_of : Request → Files → Result Plan Status
+plan_of (RunOf market script) files =
+    market_of market files >>= (λ m. run_over m script files >>= (λ run. Ok (Run run)))
+plan_of (CheckOf market) files = market_of market files >>= (λ m. Ok (check_of m))
+
+-- the same of words that may be no request
+abbrev pub with_request : Option Request → Files → Result Plan Status
+with_request None files = Err status.TheVariants.Usage
+with_request (Some request) files = plan_of request files
 
 -- what is to be done, or the status with which it is refused
 unfoldable pub verdict_of : Files → List (List ℕ) → Result Plan Status
-verdict_of files words = with_request files (request_of words)
+verdict_of files words = with_request (request_of words) files
 
 abbrev pub status_of : Result Plan Status → Status
 status_of (Ok plan) = status.TheVariants.Done
 status_of (Err status) = status
 
--- the session before the first command
-abbrev pub first_standing : Plan → Standing
-first_standing plan = start_of plan.today plan.names plan.script.actions
+-- the session before the first command: it has the market's objects
+abbrev pub first_standing : ScriptRun → Standing
+first_standing run = start_with run.today run.names run.made run.script.actions
 
 -- the bytes that a run writes
+abbrev pub output_in : Calc → Plan → List ℕ
+output_in calc (Run run) = transcript calc (first_standing run) run.script.commands
+output_in calc (Check objects fixings) = check_line objects fixings
+
 abbrev pub output_of : Calc → Result Plan Status → List ℕ
-output_of calc (Ok plan) = transcript calc (first_standing plan) plan.script.commands
+output_of calc (Ok plan) = output_in calc plan
 output_of calc (Err status) = []
 
--- the computations that a run makes
+-- the computations that a run makes: a report makes none
+abbrev pub computed_in : Calc → Plan → List (ℕ × Bool)
+computed_in calc (Run run) = calls_of calc (first_standing run) run.script.commands
+computed_in calc (Check objects fixings) = []
+
 abbrev pub computed_by : Calc → Result Plan Status → List (ℕ × Bool)
-computed_by calc (Ok plan) = calls_of calc (first_standing plan) plan.script.commands
+computed_by calc (Ok plan) = computed_in calc plan
 computed_by calc (Err status) = []
 
--- the rounds of a run
+-- the report of a market as a round
+abbrev pub report_turn : ℕ → ℕ → Turn
+report_turn objects fixings = record { lines = check_line objects fixings; calls = []; next = start_of (pos 0) [] [] }
+
+-- the rounds of a run; a report counts as one
+abbrev pub rounds_in : Calc → Plan → List Turn
+rounds_in calc (Run run) = rounds calc (first_standing run) run.script.commands
+rounds_in calc (Check objects fixings) = report_turn objects fixings ∷ []
+
 abbrev pub rounds_of : Calc → Result Plan Status → List Turn
-rounds_of calc (Ok plan) = rounds calc (first_standing plan) plan.script.commands
+rounds_of calc (Ok plan) = rounds_in calc plan
 rounds_of calc (Err status) = []

@@ -1,13 +1,16 @@
-//! The top call: from words, a market file and a script to the bytes of the session's transcript and a status, for
-//! every shelf of files, sink of bytes and bench of prices.
+//! The top call: from words, a market with its tables and a script to the bytes of the session's transcript or of the
+//! market's report, and a status, for every shelf of files, sink of bytes and bench of prices.
 //!
 //! `run`, `Status` with `Section`, `MarketKind` and `FileRole`.
 #![tactic(auto)]
 
-mod market;
+mod plan;
 mod play;
+mod reading;
+mod report;
 mod running;
 mod status;
 
+pub use market_file::{MarketKind, Section};
 pub use running::run;
-pub use status::{FileRole, MarketKind, Section, Status};
+pub use status::{FileRole, Status};

@@ -1,12 +1,10 @@
 // All commands of a script, in order.
-ghost use Rattle.std.specs.Prelude.{◌≡◌, ◌≤◌, ◌<◌, ℕ, true, false, length, take, codes, All, IfErr, OnOk, IsErrOf};
+ghost use Rattle.std.specs.Prelude.{◌≡◌, ◌≤◌, ℕ, false, length, take, All, IfErr, OnOk, IsErrOf};
 ghost use Rattle.desk_edge.specs.Count.{Rose};
 ghost use Rattle.desk_edge.specs.Sink.{appended};
-ghost use Rattle.desk_names.specs.Names.{has_text};
 ghost use Rattle.desk_terms.specs.Bench.{counted, logged};
 ghost use Rattle.desk_model.specs.Sound.{IsSound};
-ghost use Rattle.session_commands.specs.Whole.{IsCommand};
-ghost use Rattle.session_model.specs.Standing.{start_of, IsKnown};
+ghost use Rattle.session_model.specs.Standing.{IsKnown};
 ghost use Rattle.session_model.specs.Turn.{Turn, turn};
 ghost use Rattle.session_model.specs.Rounds.{rounds, transcript, calls_of};
 ghost use Rattle.desk_top.specs.Early.{outside, IsCut, IsHalted};
@@ -14,48 +12,43 @@ ghost use Rattle.desk_top.specs.Round.{RoundEnds};
 ghost use Rattle.desk_top.specs.Run.{IsLate, Writes, ended};
 
 use crate::Status;
-use day_number::Day;
 use desk_edge::{Sink, write_whole};
-use desk_names::Names;
 use desk_terms::Bench;
-use session_commands::{Actions, Command};
+use session_commands::Command;
 use session_core::Session;
 use std::alloc::Global;
 
-/// Does all commands in order over a new session, and writes the lines of each before the next begins. The session has
-/// these names, this evaluation date and these actions.
-pub fn play<K: Sink, B: Bench>(
+/// Does all commands in order over a session, and writes the lines of each before the next begins.
+pub(crate) fn play<K: Sink, B: Bench>(
     alloc: Global,
-    names: Names,
-    today: Day,
-    actions: Actions,
+    mut session: Session,
     commands: &[Command],
     out: &mut K,
     bench: &mut B,
 ) -> Result<(), Status>
-    requires today { has_text names (codes "today") ≡ true }
-    requires known { All (IsCommand (length names) (length actions)) commands.now }
+    requires running { session.stopped ≡ false }
+    requires known { All (IsKnown session) commands.now }
+    requires sound { IsSound (B.calc bench.old) session.state }
     ensures same { B.calc bench.new ≡ B.calc bench.old }
 
     // At Ok the lines of all rounds were written, and their computations made.
-    ensures written { Writes (K.bytes out.old) (K.bytes out.new) (transcript (B.calc bench.old) (start_of today names actions) commands.now) (ended result) }
-    ensures count { OnOk result (B.count bench.new ≡ counted (B.count bench.old) (length (calls_of (B.calc bench.old) (start_of today names actions) commands.now))) }
-    ensures log { OnOk result (B.log bench.new ≡ logged (B.log bench.old) (calls_of (B.calc bench.old) (start_of today names actions) commands.now)) }
+    ensures written { Writes (K.bytes out.old) (K.bytes out.new) (transcript (B.calc bench.old) session commands.now) (ended result) }
+    ensures count { OnOk result (B.count bench.new ≡ counted (B.count bench.old) (length (calls_of (B.calc bench.old) session commands.now))) }
+    ensures log { OnOk result (B.log bench.new ≡ logged (B.log bench.old) (calls_of (B.calc bench.old) session commands.now)) }
 
     // At an early end it stands within one round, whose lines were not all written.
-    ensures cut { IsErrOf result Status.WriteFault → IsCut (rounds (B.calc bench.old) (start_of today names actions) commands.now)
+    ensures cut { IsErrOf result Status.WriteFault → IsCut (rounds (B.calc bench.old) session commands.now)
         (outside (K.bytes out.old) (B.count bench.old) (B.log bench.old)) (outside (K.bytes out.new) (B.count bench.new) (B.log bench.new)) }
-    ensures halted { IsErrOf result Status.NoMemory → IsHalted (rounds (B.calc bench.old) (start_of today names actions) commands.now)
+    ensures halted { IsErrOf result Status.NoMemory → IsHalted (rounds (B.calc bench.old) session commands.now)
         (outside (K.bytes out.old) (B.count bench.old) (B.log bench.old)) (outside (K.bytes out.new) (B.count bench.new) (B.log bench.new)) }
 
     // Each round left a sound state.
-    ensures sound { OnOk result (All (λ (t : Turn). IsSound (B.calc bench.old) t.next.state) (rounds (B.calc bench.old) (start_of today names actions) commands.now)) }
+    ensures sound { OnOk result (All (λ (t : Turn). IsSound (B.calc bench.old) t.next.state) (rounds (B.calc bench.old) session commands.now)) }
 
     ensures late { IfErr result IsLate }
     ensures write { IsErrOf result Status.WriteFault → Rose (K.faults out.old) (K.faults out.new) }
     ensures faults { K.faults out.old ≤ K.faults out.new }
 {
-    let mut session = Session::new(alloc, names, today, actions)?;
     let mut lines = Vec::new(alloc);
     for command in commands {
         play_round(&mut session, command, &mut lines, out, bench)?;

@@ -1,46 +1,35 @@
 // The top call.
-ghost use Rattle.std.specs.Prelude.{◌≡◌, ◌≢◌, ◌⊎◌, ◌↔◌, ◌≤◌, Ok, true, codes, length, map, None, IfSome, IfOk, IfErr, OnErr, IsErrOf, OnOk};
+ghost use Rattle.std.specs.Prelude.{◌≡◌, ◌⊎◌, ◌↔◌, Ok, length, map, None, IfSome, IfOk, IfErr, IsErrOf, OnOk};
 ghost use Rattle.std.specs.String.{string_bytes};
 ghost use Rattle.desk_edge.specs.Count.{Rose};
-ghost use Rattle.desk_edge.specs.Shelf.{files_of, file_at};
+ghost use Rattle.desk_edge.specs.Shelf.{files_of};
 ghost use Rattle.desk_terms.specs.Bench.{counted, logged};
 ghost use Rattle.desk_top.specs.declared.status.FileRole.{FileRole};
-ghost use Rattle.desk_top.specs.Found.{too_long_of, read_status, script_status, Finds, IsBefore, Plans, Reads};
+ghost use Rattle.desk_top.specs.Found.{IsBefore, CanRun, CanDo, Tells, Reads, seen, run_in, plan_in};
 ghost use Rattle.desk_top.specs.Early.{outside, IsCut, IsHalted};
-ghost use Rattle.desk_top.specs.Run.{IsOutside, IsEarly, IsReading, IsAccepted, IsQuiet, Writes};
-ghost use Rattle.desk_names.specs.Names.{has_text, IsNames};
-ghost use Rattle.session_lang.specs.Reading.{script_meaning};
-ghost use Rattle.session_commands.specs.Whole.{IsScript};
-ghost use Rattle.session_model.specs.Rounds.{rounds};
-ghost use Rattle.desk_top.specs.Verdict.{Plan as Wanted, first_names, with_plan, verdict_of, status_of, output_of, computed_by, rounds_of};
+ghost use Rattle.desk_top.specs.Run.{IsOutside, IsEarly, IsLate, IsAccepted, IsQuiet, Writes, ended};
+ghost use Rattle.desk_top.specs.Verdict.{Plan as Wanted, Run as RunWanted, plan_of, verdict_of, status_of, output_in, output_of, computed_in, computed_by, rounds_in, rounds_of};
+ghost use Rattle.desk_words.specs.Answers.{request_in};
 ghost use Rattle.desk_words.specs.Words.{request_of};
 
-use crate::market::{evaluation_date, is_market};
+use crate::Status;
+use crate::plan::{Plan, ScriptRun};
 use crate::play::play;
-use crate::{FileRole, MarketKind, Section, Status};
-use day_number::Day;
-use desk_edge::{ReadFault, Shelf, Sink, read_whole};
-use desk_names::{NameFault, Names};
+use crate::reading::{open_market, open_script};
+use crate::report::{check_of, report};
+use desk_edge::{Shelf, Sink};
 use desk_terms::Bench;
-use desk_words::read_words;
-use session_commands::{Script, ScriptKind};
-use session_lang::{ScriptFault, read_script};
-use std::alloc::{AllocError, Global};
-
-// A script that was read, the names of its session, and the evaluation date of the market.
-#[derive(Drop)]
-struct Plan {
-    names: Names,
-    today: Day,
-    script: Script,
-}
+use desk_words::{Request, WordsFault, read_words};
+use market_session::session_of;
+use std::alloc::Global;
 
 /// Does what the words ask for over the files of the shelf, writes the transcript to `out`, and answers how that went.
 /// The words are those behind the program's name. The prices are those of the bench.
 ///
-/// The first failure in this order is the answer: the words, the market's file, the market, the script's file, the
-/// script; then each command, whose lines are written before the next begins. Nothing is written before the first
-/// command. A fault outside, or want of memory, may come at any time.
+/// The first failure in this order is the answer: the words; the market's file and the tables' names in it; the file of
+/// the quotes, and that of the fixings, where the market names them; the market. Then a check writes its one line. A run
+/// goes on: the script's file, the script; then each command, whose lines are written before the next begins. Nothing is
+/// written before the first command. A fault outside, or want of memory, may come at any time.
 pub fn run<H: Shelf, K: Sink, B: Bench>(
     alloc: Global,
     words: &[String],
@@ -91,135 +80,104 @@ pub fn run<H: Shelf, K: Sink, B: Bench>(
     ensures absent { (role : FileRole) → result ≡ Status.Absent role → Rose (H.misses shelf.old) (H.misses shelf.new) }
     ensures files { files_of (H.contents shelf.new) ≡ files_of (H.contents shelf.old) }
 {
-    let Plan {
-        names,
-        today,
-        script,
-    } = match plan_of(alloc, words, shelf) {
+    let plan = match plan_of(alloc, words, shelf) {
         Ok(plan) => plan,
         Err(status) => return status,
     };
-    if let Err(status) = play(
-        alloc,
-        names,
-        today,
-        script.actions,
-        script.commands.items(),
-        out,
-        bench,
-    ) {
-        return status;
-    }
-    Status::Done
-}
-
-// The whole of a file that the words name.
-fn read_file<H: Shelf>(
-    alloc: Global,
-    shelf: &mut H,
-    path: &str,
-    role: FileRole,
-) -> Result<Vec<u8>, Status>
-    ensures finds { IfSome (files_of (H.contents shelf.old)) (λ files. Finds (file_at files path.now) role result) }
-    ensures files { files_of (H.contents shelf.new) ≡ files_of (H.contents shelf.old) }
-    ensures before { IfErr result (λ status. IsBefore status × (status ≢ Status.Usage)) }
-    ensures read { IsErrOf result Status.ReadFault → Rose (H.faults shelf.old) (H.faults shelf.new) }
-    ensures absent { (other : FileRole) → IsErrOf result (Status.Absent other) → Rose (H.misses shelf.old) (H.misses shelf.new) }
-    ensures faults { H.faults shelf.old ≤ H.faults shelf.new }
-    ensures misses { H.misses shelf.old ≤ H.misses shelf.new }
-{
-    let mut text = Vec::new(alloc);
-    match read_whole(shelf, path, &mut text) {
-        Ok(true) => Ok(text),
-        Ok(false) => Err(Status::Absent(role)),
-        Err(fault) => Err(read_status(fault, role)),
-    }
-}
-
-// The status of a read that failed.
-fn read_status(fault: ReadFault, role: FileRole) -> Status
-    ensures { result ≡ read_status role fault }
-{
-    match fault {
-        ReadFault::Failed => Status::ReadFault,
-        ReadFault::TooLong => too_long(role),
-        ReadFault::NoMemory => Status::NoMemory,
-    }
-}
-
-// The status of a file that is longer than the most bytes.
-fn too_long(role: FileRole) -> Status
-    ensures { result ≡ too_long_of role }
-{
-    match role {
-        FileRole::Market => Status::Market(Section::Top, 0, MarketKind::Unbuilt),
-        FileRole::Script => Status::Script(0, ScriptKind::TooLong),
+    match carry_out(alloc, plan, out, bench) {
+        Ok(()) => Status::Done,
+        Err(status) => status,
     }
 }
 
 // What the words and the files ask for.
 fn plan_of<H: Shelf>(alloc: Global, words: &[String], shelf: &mut H) -> Result<Plan, Status>
-    ensures plans { IfSome (files_of (H.contents shelf.old)) (λ files. Plans (verdict_of files (map string_bytes words.now)) result) }
-    ensures today { IfOk result (λ plan. has_text plan.names (codes "today") ≡ true) }
-    ensures whole { IfOk result (λ plan. IsScript plan.names plan.script) }
+    ensures plans { IfSome (files_of (H.contents shelf.old)) (λ files. Tells plan_in result (verdict_of files (map string_bytes words.now))) }
     ensures usage { IsErrOf result Status.Usage ↔ (request_of (map string_bytes words.now) ≡ None) }
+    ensures can { IfOk result CanDo }
     ensures before { IfErr result IsBefore }
     ensures files { files_of (H.contents shelf.new) ≡ files_of (H.contents shelf.old) }
     ensures read { IsErrOf result Status.ReadFault → Rose (H.faults shelf.old) (H.faults shelf.new) }
     ensures absent { (role : FileRole) → IsErrOf result (Status.Absent role) → Rose (H.misses shelf.old) (H.misses shelf.new) }
-    ensures faults { H.faults shelf.old ≤ H.faults shelf.new }
-    ensures misses { H.misses shelf.old ≤ H.misses shelf.new }
 {
-    let request = match read_words(words) {
-        Some(request) => request,
-        None => return Err(Status::Usage),
-    };
-    let market = read_file(alloc, shelf, request.market, FileRole::Market)?;
-    if !is_market(&market) {
-        return Err(Status::Market(Section::Top, 0, MarketKind::Unbuilt));
-    }
-    let script = read_file(alloc, shelf, request.script, FileRole::Script)?;
-    read_plan(alloc, &script)
-}
-
-// What a script asks for.
-fn read_plan(alloc: Global, text: &[u8]) -> Result<Plan, Status>
-    ensures reads { Reads (with_plan (script_meaning first_names text.now)) result }
-    ensures today { IfOk result (λ plan. has_text plan.names (codes "today") ≡ true) }
-    ensures whole { IfOk result (λ plan. IsScript plan.names plan.script) }
-{
-    let mut names = first_names(alloc)?;
-    match read_script(alloc, text, &mut names) {
-        Ok(script) => Ok(Plan {
-            names,
-            today: evaluation_date(),
-            script,
-        }),
-        Err(fault) => Err(script_status(fault)),
+    match read_words(alloc, words) {
+        Ok(request) => plan_for(alloc, &request, shelf),
+        Err(WordsFault::Usage) => Err(Status::Usage),
+        Err(WordsFault::NoMemory) => Err(Status::NoMemory),
     }
 }
 
-// The status of a script that was not read.
-fn script_status(fault: ScriptFault) -> Status
-    ensures { result ≡ script_status fault }
+// What a request asks for, over the files.
+fn plan_for<H: Shelf>(alloc: Global, request: &Request, shelf: &mut H) -> Result<Plan, Status>
+    ensures reads { Reads plan_in (plan_of (request_in request.now))
+        (seen (H.contents shelf.old) (H.faults shelf.old) (H.misses shelf.old))
+        (seen (H.contents shelf.new) (H.faults shelf.new) (H.misses shelf.new)) result }
+    ensures can { IfOk result CanDo }
 {
-    match fault {
-        ScriptFault::At { line, kind } => Status::Script(line, kind),
-        ScriptFault::NoMemory => Status::NoMemory,
+    match request {
+        Request::Run { market, script } => {
+            let market = open_market(alloc, shelf, market.text())?;
+            let run = open_script(alloc, shelf, market, script.text())?;
+            Ok(Plan::Run(run))
+        }
+        Request::Check { market } => {
+            let market = open_market(alloc, shelf, market.text())?;
+            Ok(check_of(&market))
+        }
     }
 }
 
-// The names before a script is read.
-fn first_names(alloc: Global) -> Result<Names, AllocError>
-    ensures first { IfOk result (λ names. names ≡ first_names) }
-    ensures names { IfOk result (λ names. IsNames names) }
+// Does what is to be done.
+fn carry_out<K: Sink, B: Bench>(
+    alloc: Global,
+    plan: Plan,
+    out: &mut K,
+    bench: &mut B,
+) -> Result<(), Status>
+    requires can { CanDo plan }
+    ensures written { Writes (K.bytes out.old) (K.bytes out.new) (output_in (B.calc bench.old) (plan_in plan)) (ended result) }
+    ensures count { OnOk result (B.count bench.new ≡ counted (B.count bench.old) (length (computed_in (B.calc bench.old) (plan_in plan)))) }
+    ensures log { OnOk result (B.log bench.new ≡ logged (B.log bench.old) (computed_in (B.calc bench.old) (plan_in plan))) }
+    ensures cut { IsErrOf result Status.WriteFault → IsCut (rounds_in (B.calc bench.old) (plan_in plan))
+        (outside (K.bytes out.old) (B.count bench.old) (B.log bench.old)) (outside (K.bytes out.new) (B.count bench.new) (B.log bench.new)) }
+    ensures halted { IsErrOf result Status.NoMemory → IsHalted (rounds_in (B.calc bench.old) (plan_in plan))
+        (outside (K.bytes out.old) (B.count bench.old) (B.log bench.old)) (outside (K.bytes out.new) (B.count bench.new) (B.log bench.new)) }
+    ensures same { B.calc bench.new ≡ B.calc bench.old }
+    ensures late { IfErr result IsLate }
+    ensures write { IsErrOf result Status.WriteFault → Rose (K.faults out.old) (K.faults out.new) }
 {
-    let mut names = Names::new(alloc);
-    match names.intern(b"today") {
-        Ok(_) => Ok(names),
-        Err(NameFault::NoMemory) => Err(AllocError),
-        // `today` is a name, and there is room for it.
-        Err(NameFault::Form) => unreachable!(),
-        Err(NameFault::Full) => unreachable!(),
+    match plan {
+        Plan::Run(run) => play_script(alloc, run, out, bench),
+        Plan::Check { objects, fixings } => report(alloc, objects, fixings, out),
     }
+}
+
+// Plays a script over a session of its market's objects.
+fn play_script<K: Sink, B: Bench>(
+    alloc: Global,
+    run: ScriptRun,
+    out: &mut K,
+    bench: &mut B,
+) -> Result<(), Status>
+    requires can { CanRun run }
+    ensures written { Writes (K.bytes out.old) (K.bytes out.new) (output_in (B.calc bench.old) (RunWanted (run_in run))) (ended result) }
+    ensures count { OnOk result (B.count bench.new ≡ counted (B.count bench.old) (length (computed_in (B.calc bench.old) (RunWanted (run_in run))))) }
+    ensures log { OnOk result (B.log bench.new ≡ logged (B.log bench.old) (computed_in (B.calc bench.old) (RunWanted (run_in run)))) }
+    ensures cut { IsErrOf result Status.WriteFault → IsCut (rounds_in (B.calc bench.old) (RunWanted (run_in run)))
+        (outside (K.bytes out.old) (B.count bench.old) (B.log bench.old)) (outside (K.bytes out.new) (B.count bench.new) (B.log bench.new)) }
+    ensures halted { IsErrOf result Status.NoMemory → IsHalted (rounds_in (B.calc bench.old) (RunWanted (run_in run)))
+        (outside (K.bytes out.old) (B.count bench.old) (B.log bench.old)) (outside (K.bytes out.new) (B.count bench.new) (B.log bench.new)) }
+    ensures same { B.calc bench.new ≡ B.calc bench.old }
+    ensures late { IfErr result IsLate }
+    ensures write { IsErrOf result Status.WriteFault → Rose (K.faults out.old) (K.faults out.new) }
+{
+    let ScriptRun { market, script } = run;
+    let session = session_of(
+        alloc,
+        market.names,
+        market.today,
+        market.made,
+        script.actions,
+    )?;
+    play(alloc, session, script.commands.items(), out, bench)
 }

@@ -2,28 +2,19 @@
 ghost use Rattle.std.specs.Prelude.{◌≡◌, Some};
 ghost use Rattle.desk_top.specs.Status.{code_of, status_text};
 
+use market_file::{MarketKind, Section};
 use session_commands::ScriptKind;
 use std::alloc::AllocError;
 use std::fmt;
 
-/// A part of the market that a fault is in.
-#[derive(Clone, Copy, Debug, PartialEq, Eq)]
-pub enum Section {
-    /// The market file itself.
-    Top,
-}
-
-/// What is wrong with a market.
-#[derive(Clone, Copy, Debug, PartialEq, Eq)]
-pub enum MarketKind {
-    /// It is not the one market that this version takes.
-    Unbuilt,
-}
-
-/// A file that the words name.
+/// A file that is read.
 #[derive(Clone, Copy, Debug, PartialEq, Eq)]
 pub enum FileRole {
     Market,
+    /// The table of quotes that the market names.
+    Quotes,
+    /// The table of fixings that the market names.
+    Fixings,
     Script,
 }
 
@@ -77,32 +68,6 @@ impl From<AllocError> for Status {
     }
 }
 
-impl fmt::Display for Section {
-    ghost use Rattle.std.specs.Prelude.{Some};
-    ghost use Rattle.desk_top.specs.Status.{section_text};
-
-    ghost output = { λ s. Some (section_text s) };
-
-    fn fmt<W: fmt::Write>(&self, f: &mut fmt::Formatter<W>) -> fmt::Result {
-        match self {
-            Section::Top => write!(f, "top"),
-        }
-    }
-}
-
-impl fmt::Display for MarketKind {
-    ghost use Rattle.std.specs.Prelude.{Some};
-    ghost use Rattle.desk_top.specs.Status.{market_kind_text};
-
-    ghost output = { λ k. Some (market_kind_text k) };
-
-    fn fmt<W: fmt::Write>(&self, f: &mut fmt::Formatter<W>) -> fmt::Result {
-        match self {
-            MarketKind::Unbuilt => write!(f, "unbuilt"),
-        }
-    }
-}
-
 impl fmt::Display for FileRole {
     ghost use Rattle.std.specs.Prelude.{Some};
     ghost use Rattle.desk_top.specs.Status.{role_text};
@@ -112,6 +77,8 @@ impl fmt::Display for FileRole {
     fn fmt<W: fmt::Write>(&self, f: &mut fmt::Formatter<W>) -> fmt::Result {
         match self {
             FileRole::Market => write!(f, "market"),
+            FileRole::Quotes => write!(f, "quotes"),
+            FileRole::Fixings => write!(f, "fixings"),
             FileRole::Script => write!(f, "script"),
         }
     }

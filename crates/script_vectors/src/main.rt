@@ -1,10 +1,11 @@
-//! Runs scripts over the two-line market, and compares the bytes with those that an independent model of the session
-//! writes: prints the number of each script that differs, and how many agree.
+//! Runs scripts over the two-line market and over markets of every kind, and compares the bytes with those that an
+//! independent model of the session writes: prints each case that differs, and how many agree.
 //! Then runs one script with each call of the shelf and of the sink failing in turn, and compares how many calls were
 //! made, failed and missed, and how many bytes were written.
 #![tactic(auto)]
 
 mod calls;
+mod wholes;
 
 use desk_bench::DeskBench;
 use desk_edge::{CallList, FileList, MemoryFile, MemoryShelf, MemorySink};
@@ -20,7 +21,10 @@ const ROOM: usize = 100_000;
 // `scripts` has scripts of which no command is refused, `refused` those with refused commands or a fault, `faults` those
 // that have a fault, `unset` those that take values away from quotes, `graphs` those of composites and derived quotes, and
 // `handles` those of all commands that are built, 200 of them with links, cycles, drops of linked targets and names made
-// again.
+// again. `examples` has the folders of the repository's examples, `markets` and `desk` markets with scripts over them, `market_faults`
+// those that have a fault, and `market_files` files that are not there, and words. `freezing` has scripts with freezing,
+// recalculation and notices that are held back, `deferral` those that relink and drop under deferral, and `frozen_markets`
+// the same over markets.
 fn main(rt: HostRuntime) -> io::Result<()> {
     compare(&rt, "scripts")?;
     compare(&rt, "refused")?;
@@ -28,11 +32,18 @@ fn main(rt: HostRuntime) -> io::Result<()> {
     compare(&rt, "unset")?;
     compare(&rt, "graphs")?;
     compare(&rt, "handles")?;
+    compare(&rt, "examples")?;
+    compare(&rt, "markets")?;
+    compare(&rt, "desk")?;
+    compare(&rt, "market_faults")?;
+    compare(&rt, "market_files")?;
+    compare(&rt, "freezing")?;
+    compare(&rt, "deferral")?;
+    compare(&rt, "frozen_markets")?;
     calls::compare(&rt)
 }
 
-// Compares the cases of a file and prints how many agree. A line `==` stands between two cases. In a case `--` and a
-// newline stand between the script, which may lack its last newline, and what a terminal shows of its run.
+// Compares the cases of a file and prints how many agree. A line `==` stands between two cases.
 fn compare(rt: &HostRuntime, file: &str) -> io::Result<()> {
     let text = fs::read_to_string(rt, file)?;
     let mut agree = 0u32;
@@ -48,20 +59,28 @@ fn compare(rt: &HostRuntime, file: &str) -> io::Result<()> {
     println!(rt; "{file}: {agree} agree, {differ} differ")
 }
 
-// Whether the case's script shows the case's text.
+// Whether the run that a case asks for shows the case's text. What is given stands before a line `-- shown`, or else is
+// a script over the two-line market, and stands before `--` and a newline: so the script may lack its last newline.
 fn agrees(alloc: Global, case: &str) -> Result<bool, AllocError> {
+    if let Some((given, text)) = case.split_once("-- shown\n") {
+        let mut shelf = wholes::shelf(alloc, given)?;
+        let words = wholes::words(alloc, given)?;
+        return Ok(shown(alloc, &words, &mut shelf)?.as_slice() == text.as_bytes());
+    }
     match case.split_once("--\n") {
-        Some((script, text)) => Ok(shown(alloc, script)?.as_slice() == text.as_bytes()),
+        Some((script, text)) => {
+            let mut shelf = shelf(alloc, script)?;
+            let words = texts(alloc, "run m s")?;
+            Ok(shown(alloc, &words, &mut shelf)?.as_slice() == text.as_bytes())
+        }
         None => Ok(false),
     }
 }
 
-// What a terminal shows of a script's run: its output, and the line of a status that is not Done.
-fn shown(alloc: Global, script: &str) -> Result<Vec<u8>, AllocError> {
-    let mut shelf = shelf(alloc, script)?;
+// What a terminal shows of a run of the words: its output, and the line of a status that is not Done.
+fn shown(alloc: Global, words: &[String], shelf: &mut MemoryShelf) -> Result<Vec<u8>, AllocError> {
     let mut out = MemorySink::new(alloc, ROOM, 4096, CallList::new(alloc))?;
-    let words = words(alloc)?;
-    let status = run(alloc, &words, &mut shelf, &mut out, &mut DeskBench::new());
+    let status = run(alloc, words, shelf, &mut out, &mut DeskBench::new());
     let mut text = out.bytes().to_vec(alloc)?;
     if status != Status::Done {
         text.extend_from_slice(format!(in alloc; "{status}\n")?.as_bytes())?;
@@ -82,10 +101,10 @@ pub(crate) fn file(alloc: Global, path: &str, bytes: &[u8]) -> Result<MemoryFile
     Ok(MemoryFile::new(path, bytes.to_vec(alloc)?))
 }
 
-// The words that ask for a run of `s` over `m`.
-fn words(alloc: Global) -> Result<Vec<String>, AllocError> {
+// Words that one space parts.
+pub(crate) fn texts(alloc: Global, line: &str) -> Result<Vec<String>, AllocError> {
     let mut words = Vec::new(alloc);
-    for word in ["run", "m", "s"] {
+    for word in line.split(' ') {
         words.push(String::from_str(alloc, word)?)?;
     }
     Ok(words)

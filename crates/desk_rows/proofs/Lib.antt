@@ -1,4 +1,0 @@
-pub mod Apart
-pub mod KindLemmas
-pub mod Serving
-pub mod Showing

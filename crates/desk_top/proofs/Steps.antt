@@ -1,0 +1,98 @@
+-- Steps of reading, one after another.
+use Rattle.std.proofs.Common.{◌≡◌, inl, inr, ⊎_elim, ℕ, ◌<◌, ◌≤◌, Option, Some, None, Result, Ok, Err, refl, sym, ◌∙◌, ap, subst, arith}
+use Rattle.std.specs.Prelude.{IfSome}
+use Rattle.desk_edge.specs.Count.{Rose}
+use Rattle.market_tables.specs.Given.{◌>>=◌}
+use Rattle.desk_top.specs.declared.status.Status.{Status}
+use Rattle.desk_top.specs.declared.status.Status.TheVariants as status
+use Rattle.desk_top.specs.Reading.{Files}
+use Rattle.desk_top.specs.Found.{Seen, IsRefusal, Tells, Reads, Says}
+
+-- what follows for each list of files
+pub told_map : {P Q : Files → Type 0} (told : Option Files) → ((files : Files) → P files → Q files) → IfSome told P
+    → IfSome told Q
+told_map None f p = tt
+told_map (Some files) f p = f files p
+
+-- the same of a fact for all
+pub told_any : {Q : Files → Type 0} (told : Option Files) → ((files : Files) → Q files) → IfSome told Q
+told_any None q = tt
+told_any (Some files) q = q files
+
+-- a count that rose later rose
+pub rose_since : (old mid new : ℕ) → old ≤ mid → Rose mid new → Rose old new
+rose_since old mid new le rose =
+    ⊎_elim (λ up. let less : old < new = omega (arith, le, up) in inl less) (λ last. inr last) rose
+
+tells_on : {Y Z W : Type 0} (other : Z → W) (r : Result Y Status) (y : Y) (go : Y → Result W Status)
+    (result : Result Z Status) → r ≡ Ok y → Tells other result (go y) → Tells other result (r >>= go)
+tells_on {Y} other r y go result is t =
+    subst (λ q. Tells other result q) (sym (ap (λ (q : Result Y Status). q >>= go) is)) t
+
+told_on : {Y Z W : Type 0} (other : Z → W) (step : Files → Result Y Status) (y : Y) (go : Files → Y → Result W Status)
+    (result : Result Z Status) (told mid : Option Files) → mid ≡ told → IfSome told (λ files. step files ≡ Ok y)
+    → IfSome mid (λ files. Tells other result (go files y))
+    → IfSome told (λ files. Tells other result (step files >>= go files))
+told_on other step y go result None mid same first second = tt
+told_on other step y go result (Some files) mid same first second =
+    tells_on other (step files) y (go files) result first
+    (subst (λ (m : Option Files). IfSome m (λ files. Tells other result (go files y))) same second)
+
+-- a step that gives a value goes on with it
+pub reads_on : {X Y Z W : Type 0} (view : X → Y) (other : Z → W) (step : Files → Result Y Status)
+    (go : Files → Y → Result W Status) (old mid new : Seen) (x : X) (result : Result Z Status)
+    → Reads view step old mid (Ok x) → Reads other (λ files. go files (view x)) mid new result
+    → Reads other (λ files. step files >>= go files) old new result
+reads_on view other step go old mid new x result a b = record {
+  tells = told_on other step (view x) go result old.files mid.files a.files a.tells b.tells;
+  files = b.files ∙ a.files;
+  refused = b.refused;
+  read = λ e. rose_since old.faults mid.faults new.faults a.faults (b.read e);
+  absent = λ role e. rose_since old.misses mid.misses new.misses a.misses (b.absent role e);
+  faults = omega (arith, a.faults, b.faults);
+  misses = omega (arith, a.misses, b.misses);
+}
+
+says_tells : {X Y : Type 0} (view : X → Y) (result : Result X Status) (told : Result Y Status) → Says view result told
+    → Tells view result told
+says_tells view (Ok x) told says = says
+says_tells view (Err status.NoMemory) told says = inl tt
+says_tells view (Err (status.Market section entry why)) told says = inr says
+says_tells view (Err (status.Script line why)) told says = inr says
+says_tells view (Err status.Done) told says = absurd says
+says_tells view (Err status.Usage) told says = absurd says
+says_tells view (Err status.ReadFault) told says = absurd says
+says_tells view (Err status.WriteFault) told says = absurd says
+says_tells view (Err (status.Absent role)) told says = absurd says
+
+says_refused : {X Y : Type 0} (view : X → Y) (s : Status) (told : Result Y Status) → Says view (Err s) told → IsRefusal s
+says_refused view status.NoMemory told says = tt
+says_refused view (status.Market section entry why) told says = tt
+says_refused view (status.Script line why) told says = tt
+says_refused view status.Done told says = says
+says_refused view status.Usage told says = says
+says_refused view status.ReadFault told says = tt
+says_refused view status.WriteFault told says = says
+says_refused view (status.Absent role) told says = tt
+
+-- a text that is read leaves the shelf alone
+pub reads_text : {X Y : Type 0} (view : X → Y) (told : Result Y Status) (s : Seen) (result : Result X Status)
+    → Says view result told → Reads view (λ files. told) s s result
+reads_text view told s (Ok x) says = record {
+  tells = told_any s.files (λ files. says);
+  files = refl;
+  refused = tt;
+  read = λ e. absurd (cc);
+  absent = λ role e. absurd (cc);
+  faults = omega arith;
+  misses = omega arith;
+}
+reads_text {X} view told s (Err fault) says = record {
+  tells = told_any s.files (λ files. says_tells view (Err fault) told says);
+  files = refl;
+  refused = says_refused view fault told says;
+  read = λ e. absurd (subst (λ (r : Result X Status). Says view r told) e says);
+  absent = λ role e. absurd (subst (λ (r : Result X Status). Says view r told) e says);
+  faults = omega arith;
+  misses = omega arith;
+}

@@ -1,0 +1,29 @@
+// What words and files ask for.
+use day_number::Day;
+use desk_names::Names;
+use market_file::MadeList;
+use session_commands::Script;
+
+// A market that was read: the names of its objects, its evaluation date, and the objects in order of creation.
+#[derive(Drop)]
+pub(crate) struct Opened {
+    pub(crate) names: Names,
+    pub(crate) today: Day,
+    pub(crate) made: MadeList,
+}
+
+// A script over a market. The names are those of the market and of the script.
+#[derive(Drop)]
+pub(crate) struct ScriptRun {
+    pub(crate) market: Opened,
+    pub(crate) script: Script,
+}
+
+// What is to be done.
+#[derive(Drop)]
+pub(crate) enum Plan {
+    // A script is to be run.
+    Run(ScriptRun),
+    // A market is to be reported that has so many objects and so many stored fixings.
+    Check { objects: usize, fixings: u128 },
+}

@@ -1,0 +1,21 @@
+#!/usr/bin/env bash
+# Prints the examples as rows of crates/script_vectors/data/examples, where the gate runs them too:
+#
+#   examples/rows.sh > crates/script_vectors/data/examples
+set -euo pipefail
+cd "$(dirname "$0")/.."
+export LC_ALL=C
+between=
+for script in examples/*/script.txt examples/stale/*/script.txt; do
+    folder=${script%/script.txt}
+    printf '%s# %s\nrun %s/market.toml %s\n' "$between" "$folder" "$folder" "$script"
+    for file in "$folder/market.toml" "$folder"/*.csv "$script"; do
+        if [ -e "$file" ]; then
+            printf -- '-- %s\n' "$file"
+            cat "$file"
+        fi
+    done
+    printf -- '-- shown\n'
+    cat "$folder/transcript.txt"
+    between=$'==\n'
+done

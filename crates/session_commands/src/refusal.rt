@@ -5,29 +5,6 @@ ghost use Rattle.session_commands.specs.Refusal.{refusal_word};
 use desk_names::{NameId, ObjId};
 use fixed_amount::Rate;
 
-// The words of the refusals, each here alone.
-const UNKNOWN: &[u8] = b"unknown";
-
-const TAKEN: &[u8] = b"taken";
-
-const KIND: &[u8] = b"kind";
-
-const CYCLE: &[u8] = b"cycle";
-
-const IN_USE: &[u8] = b"inuse";
-
-const EXISTS: &[u8] = b"exists";
-
-const TOO_MANY: &[u8] = b"toomany";
-
-const REGISTERED: &[u8] = b"registered";
-
-const NOT_REGISTERED: &[u8] = b"notregistered";
-
-const DEFERRED: &[u8] = b"deferred";
-
-const UNBUILT: &[u8] = b"unbuilt";
-
 /// Why a session refuses a command, which then changes nothing.
 #[derive(Clone, Copy, Debug, PartialEq, Eq)]
 pub enum Refusal {
@@ -61,17 +38,17 @@ impl Refusal {
         ensures { result.now ≡ refusal_word self.now }
     {
         match self {
-            Refusal::Unknown(_) => UNKNOWN,
-            Refusal::Taken(_) => TAKEN,
-            Refusal::Kind(_) => KIND,
-            Refusal::Cycle => CYCLE,
-            Refusal::InUse(_) => IN_USE,
-            Refusal::FixingExists(_) => EXISTS,
-            Refusal::TooMany => TOO_MANY,
-            Refusal::AlreadyRegistered => REGISTERED,
-            Refusal::NotRegistered => NOT_REGISTERED,
-            Refusal::Deferred(_) => DEFERRED,
-            Refusal::Unbuilt => UNBUILT,
+            Refusal::Unknown(_) => b"unknown",
+            Refusal::Taken(_) => b"taken",
+            Refusal::Kind(_) => b"kind",
+            Refusal::Cycle => b"cycle",
+            Refusal::InUse(_) => b"inuse",
+            Refusal::FixingExists(_) => b"exists",
+            Refusal::TooMany => b"toomany",
+            Refusal::AlreadyRegistered => b"registered",
+            Refusal::NotRegistered => b"notregistered",
+            Refusal::Deferred(_) => b"deferred",
+            Refusal::Unbuilt => b"unbuilt",
         }
     }
 }

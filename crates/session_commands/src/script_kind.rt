@@ -1,35 +1,6 @@
 // What is wrong with a script.
 use std::fmt;
 
-// The words of the faults, each here alone.
-const TOO_LONG: &str = "toolong";
-
-const BYTE: &str = "byte";
-
-const WORD: &str = "word";
-
-const COUNT: &str = "count";
-
-const NESTED: &str = "nested";
-
-const END: &str = "end";
-
-const NAME: &str = "name";
-
-const TWICE: &str = "twice";
-
-const NUMBER: &str = "number";
-
-const DATE: &str = "date";
-
-const CHOICE: &str = "choice";
-
-const NAMES: &str = "names";
-
-const UNCLOSED: &str = "unclosed";
-
-const NO_ACTION: &str = "noaction";
-
 /// What is wrong with a line of a script. Within a line the first that holds is told, in this order; `Name`, `Number`,
 /// `Date` and `Choice` word by word from the left. (This project's profile.)
 #[derive(Clone, Copy, Debug, PartialEq, Eq)]
@@ -73,20 +44,20 @@ impl fmt::Display for ScriptKind {
 
     fn fmt<W: fmt::Write>(&self, f: &mut fmt::Formatter<W>) -> fmt::Result {
         match self {
-            ScriptKind::TooLong => f.write_str(TOO_LONG),
-            ScriptKind::Byte => f.write_str(BYTE),
-            ScriptKind::Word => f.write_str(WORD),
-            ScriptKind::Count => f.write_str(COUNT),
-            ScriptKind::Nested => f.write_str(NESTED),
-            ScriptKind::End => f.write_str(END),
-            ScriptKind::Name => f.write_str(NAME),
-            ScriptKind::Twice => f.write_str(TWICE),
-            ScriptKind::Number => f.write_str(NUMBER),
-            ScriptKind::Date => f.write_str(DATE),
-            ScriptKind::Choice => f.write_str(CHOICE),
-            ScriptKind::Names => f.write_str(NAMES),
-            ScriptKind::Unclosed => f.write_str(UNCLOSED),
-            ScriptKind::NoAction => f.write_str(NO_ACTION),
+            ScriptKind::TooLong => f.write_str("toolong"),
+            ScriptKind::Byte => f.write_str("byte"),
+            ScriptKind::Word => f.write_str("word"),
+            ScriptKind::Count => f.write_str("count"),
+            ScriptKind::Nested => f.write_str("nested"),
+            ScriptKind::End => f.write_str("end"),
+            ScriptKind::Name => f.write_str("name"),
+            ScriptKind::Twice => f.write_str("twice"),
+            ScriptKind::Number => f.write_str("number"),
+            ScriptKind::Date => f.write_str("date"),
+            ScriptKind::Choice => f.write_str("choice"),
+            ScriptKind::Names => f.write_str("names"),
+            ScriptKind::Unclosed => f.write_str("unclosed"),
+            ScriptKind::NoAction => f.write_str("noaction"),
         }
     }
 }

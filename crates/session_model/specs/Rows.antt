@@ -19,6 +19,7 @@ use Rattle.desk_terms.specs.declared.cause.Cause.TheVariants.{TooLarge}
 use Rattle.desk_terms.specs.Reading.{Outcome, Calc}
 use Rattle.session_commands.specs.declared.command.Command.{Command}
 use Rattle.session_commands.specs.declared.command.Command.TheVariants.{Quote, Sum, Difference, Handle, Stock, Composite, Member, Set, Unset, Link, Unlink, Engine, Today, Fixing, Freeze, Thaw, Recalc, Forward, Defer, Resume, Drop, Ask, Df, Watch, Register}
+use Rattle.session_model.specs.declared.limits.TheConstants.{MOST_LIVE, MOST_NUMBERS}
 use Rattle.session_model.specs.Standing.{Standing, start_of, start_with}
 use Rattle.session_model.specs.Rounds.{transcript, calls_of}
 
@@ -78,6 +79,7 @@ abbrev pub with_stock : ℤ → List Command → List Command
 with_stock value commands = Quote 1 (Some value) ∷ Stock 2 1 ∷ commands
 
 pub record AreRefused : Type 0 where
+  pub limits : (MOST_LIVE ≡ 4096) × (MOST_NUMBERS ≡ 65_536)
   pub nothing : written [] ≡ []
   pub names : written (Set 3 (units 1) ∷ Quote 1 (Some (units 1)) ∷ Quote 1 (Some (units 2)) ∷ Ask 1 ∷ Drop 0 ∷ [])
       ≡ codes "refused set unknown z\nrefused quote taken q\nrefused ask kind q\nrefused drop kind today\n"

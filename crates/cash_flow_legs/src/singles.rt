@@ -1,8 +1,9 @@
 // Flows that stand alone: a redemption, and the settlement of a forward rate agreement.
-ghost use Rattle.std.specs.Prelude.{◌≡◌, IfSome};
+ghost use Rattle.std.specs.Prelude.{◌≡◌, IfSome, IfNone, Err};
 ghost use Rattle.holiday_calendars.specs.Calendar.{is_business_day};
 ghost use Rattle.flow_terms.specs.Fixings.{IsRate};
 ghost use Rattle.flow_terms.specs.Ranges.{IsNotional, IsFlow};
+ghost use Rattle.cash_flow_legs.specs.declared.faults.LegFault.TheVariants.{DateRange};
 ghost use Rattle.cash_flow_legs.specs.Singles as single;
 ghost use Rattle.cash_flow_legs.specs.Appended.{Appends, AddsInRange, one_flow};
 
@@ -15,7 +16,7 @@ use flow_terms::{FlowTerm, FlowTermList, IndexTerms};
 use holiday_calendars::Calendar;
 
 /// Appends the notional, at most 10^18 units either way, paid on the calendar's next business day at or after the end
-/// (QuantLib's `Redemption`). `DateRange` where there is none; a fault leaves the list as it was.
+/// (QuantLib's `Redemption`). `DateRange` where there is none, whatever the memory; a fault leaves the list as it was.
 pub fn redemption(
     cal: &Calendar,
     end: Day,
@@ -25,6 +26,7 @@ pub fn redemption(
     requires { IsNotional notional }
     ensures flows { let flow = single.redemption_flow (is_business_day cal.now) end notional in
         Appends (one_flow flow) out.old out.new result }
+    ensures day { IfNone (single.redemption_flow (is_business_day cal.now) end notional) (result ≡ Err DateRange) }
     ensures range { AddsInRange out.old out.new }
 {
     append_one(redemption_flow(cal, end, notional), out)
@@ -58,6 +60,7 @@ pub fn forward_flow(
     requires strike { IsRate strike }
     ensures flows { let flow = single.settlement_flow index.now start notional strike in
         Appends (one_flow flow) out.old out.new result }
+    ensures day { IfNone (single.settlement_flow index.now start notional strike) (result ≡ Err DateRange) }
     ensures range { AddsInRange out.old out.new }
 {
     append_one(settlement_flow(index, start, notional, strike), out)
@@ -89,6 +92,7 @@ fn settlement_flow(
 fn append_one(flow: Option<FlowTerm>, out: &mut FlowTermList) -> Result<(), LegFault>
     requires { IfSome flow IsFlow }
     ensures flows { Appends (one_flow flow) out.old out.new result }
+    ensures day { IfNone flow (result ≡ Err DateRange) }
     ensures range { AddsInRange out.old out.new }
 {
     let Some(flow) = flow else {

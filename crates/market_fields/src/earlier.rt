@@ -1,6 +1,7 @@
 // What stands earlier in a market.
 ghost use Rattle.std.specs.Prelude.{◌≡◌};
 ghost use Rattle.market_tables.specs.Given.{Gives};
+ghost use Rattle.market_tables.specs.Refusals.{TakesNone};
 ghost use Rattle.market_fields.specs.Earlier.{seen, named_object, untaken, new_name, served, calendar_of, index_in, index_terms};
 
 use desk_names::{NameId, Names, ObjId, is_name};
@@ -30,7 +31,8 @@ pub struct Earlier<'a> {
 impl<'a> Earlier<'a> {
     /// The object that a text names: `Name` where the text is no name, `Unknown` where it names nothing.
     pub fn named_object(&self, text: &[u8]) -> Result<Named, TableFault>
-        ensures { Gives (λ n. n) result (named_object (seen self.now) text.now) }
+        ensures object { Gives (λ n. n) result (named_object (seen self.now) text.now) }
+        ensures memory { TakesNone result }
     {
         if !is_name(text) {
             return Err(TableFault::Kind(MarketKind::Name));
@@ -102,7 +104,8 @@ fn index_in(terms: &Terms) -> Result<&IndexTerms, TableFault>
 
 /// The object, where it is what is wanted, or `Kind`.
 pub fn served(named: Named, wanted: Wanted) -> Result<ObjId, TableFault>
-    ensures { Gives (λ object. object) result (served wanted named) }
+    ensures object { Gives (λ object. object) result (served wanted named) }
+    ensures memory { TakesNone result }
 {
     if named.kind.serves(wanted) {
         return Ok(named.object);

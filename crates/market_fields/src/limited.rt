@@ -108,11 +108,13 @@ impl TermRate {
     ghost use Rattle.std.specs.Prelude.{◌≡◌, pos};
     ghost use Rattle.flow_terms.specs.Fixings.{IsRate};
     ghost use Rattle.market_tables.specs.Given.{Gives};
+    ghost use Rattle.market_tables.specs.Refusals.{TakesNone};
     ghost use Rattle.market_fields.specs.Limited.{rate_of};
 
     /// The rate of a decimal with at most 9 places, up to 10 either way, or `Number`.
     pub fn read(text: &[u8]) -> Result<TermRate, TableFault>
-        ensures { Gives (λ rate. rate) result (rate_of text.now) }
+        ensures rate { Gives (λ rate. rate) result (rate_of text.now) }
+        ensures memory { TakesNone result }
     {
         let units = decimal_of(text, 9, MOST_RATE)?;
         Ok(TermRate { units })

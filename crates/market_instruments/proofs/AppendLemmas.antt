@@ -1,15 +1,16 @@
 -- What is appended, as a market has it.
 use Rattle.std.proofs.Common.{◌≡◌, ◌∙◌, sym, ap, subst, ℕ, List, [], Option, None, Some, Result, Ok, Err}
-use Rattle.std.specs.Prelude.{IfSome}
+use Rattle.std.specs.Prelude.{IfSome, IfNone}
 use Rattle.std.proofs.lemmas.List.Elements.{All-nil, All-append}
 use Rattle.flow_terms.specs.declared.flows.FlowTerm.{FlowTerm}
 use Rattle.flow_terms.specs.Ranges.{IsFlow}
-use Rattle.cash_flow_legs.specs.Appended.{Appends, AddsInRange}
+use Rattle.cash_flow_legs.specs.Appended.{Appends, AddsInRange, one_flow}
 use Rattle.cash_flow_legs.specs.declared.faults.LegFault.{LegFault}
 use Rattle.cash_flow_legs.specs.declared.faults.LegFault.TheVariants.{DateRange, NoMemory}
 use Rattle.market_tables.specs.declared.fault.MarketKind.TheVariants as fault
+use Rattle.market_tables.specs.Refusals.{Refuses}
 use Rattle.market_tables.specs.Values.{or_fault}
-use Rattle.market_instruments.specs.Appended.{behind, AreWithin, StayWithin}
+use Rattle.market_instruments.specs.Appended.{ranged, behind, AreWithin, StayWithin}
 use Rattle.market_instruments.proofs.KnownLemmas.{IsKnown, AreKnown}
 
 pub landed : (due : Option (List FlowTerm)) (old new : List FlowTerm) → Appends due old new (Ok tt) → behind old due ≡ Ok new
@@ -17,6 +18,12 @@ landed due old new (flows, is, more) = ap (behind old) is ∙ ap Ok (sym more)
 
 pub out_of_range : (due : Option (List FlowTerm)) (old new : List FlowTerm) → Appends due old new (Err DateRange) → behind old due ≡ Err fault.Range
 out_of_range due old new (is, same) = ap (behind old) is
+
+-- a flow without its days is refused whatever the memory
+pub refused : (flow : Option FlowTerm) (old : List FlowTerm) (r : Result (Unit {0}) LegFault)
+    → IfNone flow (r ≡ Err DateRange) → Refuses (ranged r) (behind old (one_flow flow))
+refused None old r is = ap ranged is
+refused (Some flow) old r is = tt
 
 -- with an index named, flows on it may come
 pub stay_on : {old new : List FlowTerm} → AddsInRange old new → (object : ℕ) → StayWithin (Some object) old new

@@ -1,5 +1,5 @@
 -- Flows put behind others.
-use Rattle.std.specs.Prelude.{ℕ, ℤ, List, ◌++◌, Option, Result, Ok}
+use Rattle.std.specs.Prelude.{ℕ, ℤ, List, ◌++◌, Option, Result, Ok, Err}
 use Rattle.std.specs.List.{All}
 use Rattle.year_parts.specs.declared.counters.Counter.{Counter}
 use Rattle.holiday_calendars.specs.declared.calendars.Calendar.{Calendar}
@@ -8,12 +8,22 @@ use Rattle.flow_terms.specs.declared.flows.FlowTerm.{FlowTerm}
 use Rattle.flow_terms.specs.declared.indexes.IndexTerms.{IndexTerms}
 use Rattle.flow_terms.specs.Ranges.{IsFlow, IsIndexNamed}
 use Rattle.cash_flow_legs.specs.Appended.{one_flow}
+use Rattle.cash_flow_legs.specs.declared.faults.LegFault.{LegFault}
+use Rattle.cash_flow_legs.specs.declared.faults.LegFault.TheVariants as leg
 use Rattle.cash_flow_legs.specs.Legs.{each_period, fixed_flow, float_flow}
 use Rattle.cash_flow_legs.specs.Singles.{redemption_flow, settlement_flow}
 use Rattle.market_tables.specs.declared.fault.MarketKind.{MarketKind}
 use Rattle.market_tables.specs.declared.fault.MarketKind.TheVariants as fault
+use Rattle.market_tables.specs.declared.fault.TableFault.{TableFault}
+use Rattle.market_tables.specs.declared.fault.TableFault.TheVariants as table
 use Rattle.market_tables.specs.Given.{◌>>=◌}
 use Rattle.market_tables.specs.Values.{or_fault}
+
+-- the answer of a leg as that of a market
+abbrev pub ranged : Result (Unit {0}) LegFault → Result (Unit {0}) TableFault
+ranged (Ok done) = Ok done
+ranged (Err leg.DateRange) = Err (table.Kind fault.Range)
+ranged (Err leg.NoMemory) = Err table.NoMemory
 
 -- flows with more behind them, where there are days for these
 abbrev pub behind : List FlowTerm → Option (List FlowTerm) → Result (List FlowTerm) MarketKind

@@ -6,7 +6,8 @@ ghost use Rattle.flow_terms.specs.Fixings.{IsRate};
 ghost use Rattle.flow_terms.specs.Ranges.{IsNotional};
 ghost use Rattle.cash_flow_legs.specs.Appended.{Appends};
 ghost use Rattle.market_tables.specs.Given.{Gives};
-ghost use Rattle.market_instruments.specs.Appended.{behind, fixed_behind, float_behind, redeemed, settled, StayWithin};
+ghost use Rattle.market_tables.specs.Refusals.{Refuses};
+ghost use Rattle.market_instruments.specs.Appended.{ranged, behind, fixed_behind, float_behind, redeemed, settled, StayWithin};
 
 use cash_flow_legs::{LegFault, fixed_leg, float_leg, forward_flow, redemption};
 use day_number::Day;
@@ -20,7 +21,8 @@ use year_parts::Counter;
 // The same answer, with `Range` where a day is not there.
 #[tactic(auto, using(crate::proofs::AppendLemmas::landed, crate::proofs::AppendLemmas::out_of_range))]
 fn ranged(appended: Result<(), LegFault>) -> Result<(), TableFault>
-    ensures { (due : Option (List FlowTerm)) (old new : List FlowTerm) → Appends due old new appended → Gives (λ _. new) result (behind old due) }
+    ensures flows { (due : Option (List FlowTerm)) (old new : List FlowTerm) → Appends due old new appended → Gives (λ _. new) result (behind old due) }
+    ensures fault { result ≡ ranged appended }
 {
     match appended {
         Ok(()) => Ok(()),
@@ -73,6 +75,7 @@ pub(crate) fn push_redemption(
 ) -> Result<(), TableFault>
     requires { IsNotional notional }
     ensures flows { Gives (λ _. out.new) result (redeemed out.old cal.now end notional) }
+    ensures told { Refuses result (redeemed out.old cal.now end notional) }
     ensures range { (index : Option ℕ) → StayWithin index out.old out.new }
 {
     ranged(redemption(cal, end, notional, out))
@@ -89,6 +92,7 @@ pub(crate) fn push_settlement(
     requires notional { IsNotional notional }
     requires strike { IsRate strike }
     ensures flows { Gives (λ _. out.new) result (settled out.old index.now start notional strike) }
+    ensures told { Refuses result (settled out.old index.now start notional strike) }
     ensures range { (object : ℕ) → StayWithin (Some object) out.old out.new }
 {
     ranged(forward_flow(index, start, notional, strike, out))

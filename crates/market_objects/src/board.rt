@@ -65,6 +65,7 @@ fn number_of(names: &mut Names, text: &[u8]) -> Result<NameId, TableFault>
 impl Board {
     ghost use Rattle.std.specs.Prelude.{◌≡◌, Ok};
     ghost use Rattle.market_tables.specs.Given.{Gives};
+    ghost use Rattle.market_tables.specs.Refusals.{Refuses};
     ghost use Rattle.market_fields.specs.Earlier.{seen};
     ghost use Rattle.flow_terms.specs.Fixings.{IsRate};
     ghost use Rattle.market_objects.specs.Board.{started, added, HasFlowsInRange, HaveFlowsInRange};
@@ -105,10 +106,12 @@ impl Board {
         }
     }
 
-    /// Puts an object behind the others, or refuses it with `Limit` where there are as many as there may be.
+    /// Puts an object behind the others, or refuses it with `Limit` where there are as many as there may be, whatever the
+    /// memory.
     pub(crate) fn add(&mut self, name: &NameText, terms: Terms) -> Result<(), TableFault>
         requires { HasFlowsInRange terms }
-        ensures { Gives (λ _. self.new) result (added self.old name.now terms) }
+        ensures board { Gives (λ _. self.new) result (added self.old name.now terms) }
+        ensures told { Refuses result (added self.old name.now terms) }
     {
         if self.kinds.len() >= MOST_OBJECTS {
             return Err(TableFault::Kind(MarketKind::Limit));
@@ -119,10 +122,12 @@ impl Board {
         Ok(())
     }
 
-    /// Stores a rate of a day for an object that is an index: `Kind` where it is none, `Exists` where its day has a rate.
+    /// Stores a rate of a day for an object that is an index: `Kind` where it is none, `Exists` where its day has a rate,
+    /// whatever the memory.
     pub(crate) fn fix(&mut self, index: ObjId, day: Day, rate: Rate) -> Result<(), TableFault>
         requires { IsRate rate }
-        ensures { Gives (λ _. self.new) result (with_fixing_of self.old index day rate) }
+        ensures board { Gives (λ _. self.new) result (with_fixing_of self.old index day rate) }
+        ensures told { Refuses result (with_fixing_of self.old index day rate) }
     {
         let at = index.place().saturating_sub(1);
         fix_at(&mut self.made, at, day, rate)?;

@@ -3,6 +3,7 @@ ghost use Rattle.std.specs.Prelude.{◌≡◌, false, slice_get};
 ghost use Rattle.csv.specs.Records.{fields_of};
 ghost use Rattle.csv.specs.Reading.{default_config, strip_bom, records};
 ghost use Rattle.market_tables.specs.Given.{Gives};
+ghost use Rattle.market_tables.specs.Refusals.{TakesNone, Refuses};
 ghost use Rattle.market_tables.specs.Entries.{GivesAt};
 ghost use Rattle.market_tables.specs.Values.{day_of};
 ghost use Rattle.market_records.specs.Records.{behind_records};
@@ -34,7 +35,8 @@ fn is_header(row: &ByteRecord) -> bool
 
 // The day of a text, or `Date`.
 fn day_of(text: &[u8]) -> Result<Day, TableFault>
-    ensures { Gives (λ day. day) result (day_of text.now) }
+    ensures day { Gives (λ day. day) result (day_of text.now) }
+    ensures memory { TakesNone result }
 {
     match read_day(text) {
         Some(day) => Ok(day),
@@ -45,7 +47,8 @@ fn day_of(text: &[u8]) -> Result<Day, TableFault>
 // Stores a rate, or `Exists` where the day has one.
 fn store(fixings: &mut Fixings, day: Day, rate: Rate) -> Result<(), TableFault>
     requires { IsRate rate }
-    ensures { Gives (λ _. fixings.new) result (stored fixings.old day rate (fixing_on fixings.old day)) }
+    ensures rates { Gives (λ _. fixings.new) result (stored fixings.old day rate (fixing_on fixings.old day)) }
+    ensures told { Refuses result (stored fixings.old day rate (fixing_on fixings.old day)) }
 {
     if fixings.get(day).is_some() {
         return Err(TableFault::Kind(MarketKind::Exists));
@@ -61,6 +64,7 @@ fn store(fixings: &mut Fixings, day: Day, rate: Rate) -> Result<(), TableFault>
 fn fix(terms: &mut Terms, day: Day, rate: Rate) -> Result<(), TableFault>
     requires { IsRate rate }
     ensures terms { Gives (λ _. terms.new) result (fixed terms.old day rate) }
+    ensures told { Refuses result (fixed terms.old day rate) }
     ensures range { HasFlowsInRange terms.old → HasFlowsInRange terms.new }
 {
     match terms {
@@ -86,6 +90,7 @@ pub(crate) fn fix_at(
 ) -> Result<(), TableFault>
     requires { IsRate rate }
     ensures made { Gives (λ _. made.new.items) result (fixed_in made.old.items at day rate (slice_get made.old.items at)) }
+    ensures told { Refuses result (fixed_in made.old.items at day rate (slice_get made.old.items at)) }
     ensures range { HaveFlowsInRange made.old.items → HaveFlowsInRange made.new.items }
 {
     if at < made.len() {
@@ -95,9 +100,11 @@ pub(crate) fn fix_at(
     }
 }
 
-// Stores the fixing that a record says: its fields are tested in their order, and then whether its day has a rate.
+// Stores the fixing that a record says: its fields are tested in their order, and then whether its day has a rate. A
+// record that is refused is refused whatever the memory.
 fn take_fixing(board: &mut Board, row: &ByteRecord) -> Result<(), TableFault>
-    ensures { Gives (λ _. board.new) result (behind board.old (fields_of row.now)) }
+    ensures board { Gives (λ _. board.new) result (behind board.old (fields_of row.now)) }
+    ensures told { Refuses result (behind board.old (fields_of row.now)) }
 {
     if row.len() != 3 {
         return Err(TableFault::Kind(MarketKind::Record));

@@ -1,6 +1,7 @@
 // What the fields of an object's table make.
 ghost use Rattle.std.specs.Prelude.{◌≡◌, Option, IfOk};
 ghost use Rattle.market_tables.specs.Given.{Gives};
+ghost use Rattle.market_tables.specs.Refusals.{TakesNone};
 ghost use Rattle.market_fields.specs.Earlier.{seen};
 ghost use Rattle.market_objects.specs.Board.{HasFlowsInRange};
 ghost use Rattle.market_objects.specs.Making.{derived_of, target_wanted, linked, handle_of, curve_of, implied_of, index_of, engine_of, stock_of, composite_of, parts_of, terms_of, entry_made};
@@ -138,6 +139,7 @@ fn stock_of(fields: &[Option<Field>]) -> Result<Terms, TableFault>
 // A composite, which names no member twice. One of more parts than there may be objects names one twice.
 fn composite_of(parts: PartList) -> Result<Terms, TableFault>
     ensures terms { Gives (λ terms. terms) result (composite_of parts) }
+    ensures memory { TakesNone result }
     ensures range { IfOk result HasFlowsInRange }
 {
     if parts.len() > MOST_PARTS {

@@ -1,5 +1,6 @@
 pub mod MarketKind
 pub mod Given
+pub mod Refusals
 pub mod Values
 pub mod Presence
 pub mod Table

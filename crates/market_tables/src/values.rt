@@ -2,6 +2,7 @@
 ghost use Rattle.std.specs.Prelude.{◌≡◌, ◌≤◌, unsigned_abs, IfOk};
 ghost use Rattle.toml.specs.View.{view, items_view, table_view};
 ghost use Rattle.market_tables.specs.Given.{Gives};
+ghost use Rattle.market_tables.specs.Refusals.{TakesNone};
 ghost use Rattle.market_tables.specs.Values.{text_in, integer_in, integer_of, day_in, day_of, items_in, table_in, are_tables, tables_in, decimal_of};
 
 use crate::{MarketKind, TableFault};
@@ -103,6 +104,7 @@ pub fn tables_in(value: &Value) -> Result<&[Value], TableFault>
 pub fn decimal_of(text: &[u8], places: u8, most: u64) -> Result<i64, TableFault>
     requires { places ≤ 18 }
     ensures value { Gives (λ units. units) result (decimal_of places most text.now) }
+    ensures memory { TakesNone result }
     ensures bound { IfOk result (λ units. unsigned_abs units ≤ most) }
 {
     match read_decimal(text, places) {

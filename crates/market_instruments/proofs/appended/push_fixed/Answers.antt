@@ -5,7 +5,7 @@ use Rattle.market_instruments.proofs.KnownLemmas.{fixed_known, each_known}
 use Rattle.market_instruments.proofs.appended.push_fixed.Goals as goal
 
 pub returns-clause-flows : goal.returns-clause-flows
-returns-clause-flows c = c.ranged.ensures _ _ _ c.fixed_leg.ensures.flows
+returns-clause-flows c = c.ranged.ensures.flows _ _ _ c.fixed_leg.ensures.flows
 
 pub returns-clause-range : goal.returns-clause-range
 returns-clause-range c =

@@ -2,7 +2,7 @@ use Rattle.market_instruments.proofs.AppendLemmas.{stay_on}
 use Rattle.market_instruments.proofs.appended.push_float.Goals as goal
 
 pub returns-clause-flows : goal.returns-clause-flows
-returns-clause-flows c = c.ranged.ensures _ _ _ c.float_leg.ensures.flows
+returns-clause-flows c = c.ranged.ensures.flows _ _ _ c.float_leg.ensures.flows
 
 pub returns-clause-range : goal.returns-clause-range
 returns-clause-range c = stay_on c.float_leg.ensures.range

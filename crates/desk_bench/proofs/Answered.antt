@@ -1,5 +1,5 @@
 -- What a bench answers where curves are built and seen.
-use Rattle.std.proofs.Common.{◌≡◌, ℕ, suc, ℤ, List, [], ◌∷◌, length, Result, Ok, Err, IfErr, refl, ap}
+use Rattle.std.proofs.Common.{◌≡◌, ℕ, suc, ℤ, List, [], ◌∷◌, length, Result, Ok, Err, IfErr, IsOk, refl, ap}
 use Rattle.curve_terms.specs.declared.terms.Helper.{Helper}
 use Rattle.curve_points.specs.declared.points.PointFault.{PointFault}
 use Rattle.curve_points.specs.declared.points.PointFault.TheVariants as point
@@ -10,7 +10,8 @@ use Rattle.curve_points.specs.declared.seen.ImpliedFault.TheVariants as implied
 use Rattle.curve_bootstrap.specs.Built as due
 use Rattle.curve_bootstrap.specs.declared.faults.BuildFault.{BuildFault}
 use Rattle.curve_bootstrap.specs.declared.faults.BuildFault.TheVariants as build
-use Rattle.desk_terms.specs.declared.bench.BenchFault.TheVariants.{Refused}
+use Rattle.desk_terms.specs.declared.bench.BenchFault.{BenchFault}
+use Rattle.desk_terms.specs.declared.bench.BenchFault.TheVariants.{Refused, NoMemory}
 use Rattle.desk_terms.specs.declared.value.Input as input
 use Rattle.desk_terms.specs.Bench.{Answers}
 use Rattle.desk_terms.specs.Point.{point_cause}
@@ -18,7 +19,7 @@ use Rattle.desk_terms.specs.Reading.{Outcome, AreRates}
 use Rattle.desk_terms.specs.declared.value.Value.{Value}
 use Rattle.discount_engines.specs.declared.faults.PriceFault.{PriceFault}
 use Rattle.discount_engines.specs.Price.{answer_of}
-use Rattle.desk_bench.specs.Pricing.{rates_of, built, built_answer, seen, seen_answer, priced_answer}
+use Rattle.desk_bench.specs.Pricing.{rates_of, built, built_answer, seen, seen_answer, priced_answer, WantsOnly}
 
 -- as many rates as helpers
 pub rates_long : (helpers : List Helper) (inputs : List input.Input) → AreRates helpers inputs → length (rates_of inputs) ≡ length helpers
@@ -59,3 +60,16 @@ is_outside o base day (Err point.Past) r is = ap (seen_answer o base day) is
 pub gives_priced : (is : Outcome) (r : Result Value PriceFault) → r ≡ answer_of is → Answers is (priced_answer r)
 gives_priced (Ok value) r gives = rw gives refl
 gives_priced (Err cause) r gives = rw gives refl
+
+-- want of memory comes only of a day on the base curve
+pub wants_inside : (base : ℕ) (day : ℤ) (d : Result ℤ PointFault) (r : Result Value BenchFault)
+    → IfErr d (λ fault. r ≡ Err (Refused (point_cause base day fault))) → WantsOnly (IsOk d) r
+wants_inside base day (Ok factor) (Ok value) is = tt
+wants_inside base day (Ok factor) (Err (Refused cause)) is = tt
+wants_inside base day (Ok factor) (Err NoMemory) is = refl
+wants_inside base day (Err fault) r is = rw is tt
+
+-- and never of an instrument
+pub wants_none : (is : Outcome) (r : Result Value PriceFault) → r ≡ answer_of is → WantsOnly ⊥ (priced_answer r)
+wants_none (Ok value) r gives = rw gives tt
+wants_none (Err cause) r gives = rw gives tt

@@ -1,6 +1,7 @@
 // The two benches. What they price is said in `pricing.rt` alone.
 ghost use Rattle.std.specs.Prelude.{◌≡◌, []};
-ghost use Rattle.desk_terms.specs.Bench.{counted};
+ghost use Rattle.desk_terms.specs.Bench.{Answers, counted};
+ghost use Rattle.desk_terms.specs.Reading.{reading_of, IsWellFormed};
 
 use crate::pricing::price_of;
 use desk_names::ObjId;
@@ -25,7 +26,7 @@ impl DeskBench {
 
 impl Bench for DeskBench {
     ghost use Rattle.std.specs.Prelude.{None};
-    ghost use Rattle.desk_bench.specs.Pricing.{desk_calc};
+    ghost use Rattle.desk_bench.specs.Pricing.{desk_calc, MayWant, WantsOnly};
     ghost use Rattle.desk_bench.specs.Fits.{desk_fits};
 
     ghost calc = { λ _. desk_calc };
@@ -36,7 +37,13 @@ impl Bench for DeskBench {
 
     ghost fits = { λ _ reading formed. desk_fits reading formed };
 
-    fn price(&mut self, alloc: Global, job: &Job<'_>) -> Result<Value, BenchFault> {
+    // The trait's clauses for this bench, and where it may want memory.
+    fn price(&mut self, alloc: Global, job: &Job<'_>) -> Result<Value, BenchFault>
+        requires { IsWellFormed (reading_of job.now) }
+        ensures answer { Answers (desk_calc (reading_of job.now)) result }
+        ensures count { self.new.calls ≡ counted self.old.calls 1 }
+        ensures memory { WantsOnly (MayWant job.now.terms.now job.now.inputs.now) result }
+    {
         self.calls = next_count(self.calls);
         price_of(alloc, job)
     }

@@ -6,7 +6,7 @@ ghost use Rattle.desk_terms.specs.Point.{point_cause};
 ghost use Rattle.desk_terms.specs.declared.bench.BenchFault.TheVariants.{Refused};
 ghost use Rattle.curve_points.specs.Point.{discount_at};
 ghost use Rattle.desk_terms.specs.Reading.{AreRates};
-ghost use Rattle.desk_bench.specs.Pricing.{rates_of, build_cause, implied_cause, fault_of, built_answer, seen_answer, seen, curve_price, implied_price};
+ghost use Rattle.desk_bench.specs.Pricing.{rates_of, build_cause, implied_cause, fault_of, built_answer, seen_answer, seen, curve_price, implied_price, MayWantSeen, WantsOnly};
 ghost use Rattle.curve_points.specs.Implied.{implied_curve};
 
 use curve_bootstrap::{BuildFault, build};
@@ -36,7 +36,9 @@ pub fn curve_price(
     built_answer(object, curve)
 }
 
-/// The curve of an object that sees another from its own reference day.
+/// The curve of an object that sees another from its own reference day. A day outside that curve is refused without
+/// memory.
+#[tactic(auto, using(crate::proofs::Answered::wants_inside))]
 pub fn implied_price(
     alloc: Global,
     object: ObjId,
@@ -44,6 +46,7 @@ pub fn implied_price(
     inputs: &[Input],
 ) -> Result<Value, BenchFault>
     ensures price { Answers (implied_price object reference inputs.now) result }
+    ensures memory { WantsOnly (MayWantSeen reference inputs.now) result }
 {
     match inputs {
         [Input::Curve(base)] => seen_from(alloc, object, base, reference),

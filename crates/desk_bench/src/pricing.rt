@@ -2,7 +2,7 @@
 ghost use Rattle.std.specs.Prelude.{◌≡◌};
 ghost use Rattle.desk_terms.specs.Bench.{Answers};
 ghost use Rattle.desk_terms.specs.Reading.{reading_of, IsWellFormed};
-ghost use Rattle.desk_bench.specs.Pricing.{priced_answer, desk_calc};
+ghost use Rattle.desk_bench.specs.Pricing.{priced_answer, desk_calc, MayWant, WantsOnly};
 ghost use Rattle.discount_engines.specs.Price.{instrument_price};
 
 use crate::curves::{curve_price, implied_price};
@@ -10,10 +10,11 @@ use desk_terms::{BenchFault, Job, Terms, Value};
 use discount_engines::{PriceFault, price};
 use std::alloc::Global;
 
-/// The price of a job.
+/// The price of a job. An instrument's takes no memory.
 pub fn price_of(alloc: Global, job: &Job<'_>) -> Result<Value, BenchFault>
     requires { IsWellFormed (reading_of job.now) }
-    ensures { Answers (desk_calc (reading_of job.now)) result }
+    ensures price { Answers (desk_calc (reading_of job.now)) result }
+    ensures memory { WantsOnly (MayWant job.now.terms.now job.now.inputs.now) result }
 {
     let inputs = job.inputs.items();
     match job.terms {
@@ -33,7 +34,8 @@ pub fn price_of(alloc: Global, job: &Job<'_>) -> Result<Value, BenchFault>
 // The price of an instrument.
 fn instrument_price(alloc: Global, job: &Job<'_>) -> Result<Value, BenchFault>
     requires { IsWellFormed (reading_of job.now) }
-    ensures { Answers (instrument_price (reading_of job.now)) result }
+    ensures price { Answers (instrument_price (reading_of job.now)) result }
+    ensures memory { WantsOnly ⊥ result }
 {
     priced_answer(price(alloc, job))
 }

@@ -48,6 +48,7 @@ abbrev pub notified_as : Bool → ℕ → State → State
 notified_as true x state = sourced x state
 notified_as false x state = tell (λ y. y == x) state
 
+-- x changed
 unfoldable pub notified : ℕ → State → State
 notified x state = notified_as state.deferring x state
 
@@ -75,6 +76,7 @@ value_set (HasParts parts) q value state = state
 value_set (HasEngine flows held) q value state = state
 value_set HasNone q value state = state
 
+-- `set` and `unset` of a quote
 unfoldable pub quote_set : ℕ → Option ℤ → State → State
 quote_set q value state = value_set (changeable (terms_at state.market q)) q value state
 
@@ -103,6 +105,7 @@ priced_by_engine (HasParts parts) i engine state = state
 priced_by_engine (HasEngine flows held) i engine state = revised i (Flows flows engine) state
 priced_by_engine HasNone i engine state = state
 
+-- `engine` of an instrument
 unfoldable pub engine_set : ℕ → Option ℕ → State → State
 engine_set i engine state = priced_by_engine (changeable (terms_at state.market i)) i engine state
 
@@ -117,6 +120,7 @@ weight_set (HasParts parts) k member weight state =
 weight_set (HasEngine flows held) k member weight state = state
 weight_set HasNone k member weight state = state
 
+-- `member` of a composite: a weight of 0 takes the member out
 unfoldable pub member_set : ℕ → ℕ → ℤ → State → State
 member_set k member weight state = weight_set (changeable (terms_at state.market k)) k member weight state
 
@@ -147,6 +151,7 @@ without_pairs x (pair ∷ pairs) =
     then without_pairs x pairs
     else pair ∷ without_pairs x pairs
 
+-- `drop`: nothing of x stays but its number
 unfoldable pub dropped : ℕ → State → State
 dropped x state = record state {
   market = record state.market { objects = slice_set state.market.objects x Free };
@@ -197,6 +202,7 @@ deferred state = record state { deferring = true }
 abbrev pub all_told : State → State
 all_told state = tell (is_source state) state
 
+-- `resume`: all sources tell at once, and none is one any more
 unfoldable pub resumed : State → State
 resumed state =
     if state.deferring

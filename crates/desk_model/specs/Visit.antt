@@ -10,11 +10,8 @@ use Rattle.desk_model.specs.declared.kept.Kept.{Kept}
 use Rattle.desk_model.specs.Uses.{uses}
 use Rattle.desk_model.specs.State.{State, kept_at, held, seen, now, each_kept}
 
--- the calls of the bench so far, in order, each object with what the bench answered
-abbrev pub Calls : Type 0
-Calls = List (ℕ × Outcome)
-
--- the same as a bench tells them: each object with whether it got a value
+-- the calls of the bench so far, in order, each object with what the bench answered, as a bench tells them: each object
+-- with whether it got a value
 abbrev pub log_of : List (ℕ × Outcome) → List (ℕ × Bool)
 log_of [] = []
 log_of (call ∷ calls) = (call.0, is_ok call.1) ∷ log_of calls

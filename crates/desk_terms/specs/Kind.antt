@@ -36,8 +36,9 @@ wanted_number wanted.TheVariants.Index = 6
 abbrev pub serves : Kind → wanted.Wanted → Bool
 serves kind wanted = list_any (λ offered. wanted_number offered == wanted_number wanted) (offers kind)
 
--- How an object takes a notice: a source gets none; a forwarder passes it on; a lazy object keeps its value and passes
--- it on where that value was current; a watcher is due (QuantLib's `Observer`, `LazyObject`).
+-- How an object takes a notice: a source gets none; a forwarder passes it on; a lazy object keeps its value and, where it
+-- is not frozen, passes it on if that value was current or it always forwards; a watcher is due (QuantLib's `Observer`,
+-- `LazyObject`).
 pub data Role : Type 0 where
   Source : Role
   Forwarder : Role

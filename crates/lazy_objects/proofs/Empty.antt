@@ -26,4 +26,4 @@ begun_empty slots kept scratch empty = record {
 }
 
 pub empty_again : (n : ℕ) (old new : ScratchView) → AreClear old new → length old.entries ≡ n → length old.positions ≡ n → IsEmpty n new
-empty_again n old new clear long as_long = record { entries = clear.entries; positions = clear.positions; long = clear.long ∙ long; as_long = clear.as_long ∙ as_long }
+empty_again n old new clear long as_long = record { entries = clear.entries; positions = clear.positions; long = clear.long ∙ long; as_long = clear.as_long ∙ as_long; touched = clear.touched }

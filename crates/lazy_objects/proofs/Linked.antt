@@ -59,6 +59,14 @@ role_there (Live terms) kind target is = ap (λ (u : Terms). slot_role (Live u))
 pub same_target : (held target : Option ℕ) (x : ℕ) → held ≡ Some x → target ≡ Some x → option_eq number_eq held target ≡ true
 same_target held target x is are = ap (λ (h : Option ℕ). option_eq number_eq h target) is ∙ ap (λ (t : Option ℕ). option_eq number_eq (Some x) t) are ∙ eq-eqb x x refl
 
+-- a target is the same as itself
+pub target_itself : (held target : Option ℕ) → held ≡ target → option_eq number_eq held target ≡ true
+target_itself None target same = ap (option_eq number_eq None) (sym same)
+target_itself (Some x) target same = same_target (Some x) target x refl (sym same)
+
+pub same_handle : (kind kind2 : HandleKind) (held held2 : Option ℕ) → Some (Handle kind held) ≡ Some (Handle kind2 held2) → held ≡ held2
+same_handle kind kind2 held held2 e = cc
+
 pub joins_pairs : (target : Option ℕ) (h : ℕ) (old new : StoreView) → JoinsAny target h old new → (x o : ℕ)
     → Among x (observed_by new.shape o) ↔ (Among x (observed_by old.shape o) ⊎ ((target ≡ Some x) × (o ≡ h)))
 joins_pairs None h old new same x o = (

@@ -1,5 +1,5 @@
 // An ask: what it uses and has no current value is computed, by an explicit stack.
-ghost use Rattle.std.specs.Prelude.{◌≡◌, ◌<◌, ◌^◌, true, false, length, None, Some, Ok, Err, IfOk, OnErr, slice_index_or};
+ghost use Rattle.std.specs.Prelude.{◌≡◌, ◌≢◌, ◌⊎◌, ◌<◌, ◌^◌, true, false, length, None, Some, Ok, Err, IsOk, IfOk, OnErr, slice_index_or};
 ghost use Rattle.std.specs.Option.{option_copied};
 ghost use Rattle.desk_terms.specs.declared.terms.Terms.{Terms};
 ghost use Rattle.desk_terms.specs.Bench.{counted};
@@ -46,6 +46,7 @@ pub fn ask<B: Bench>(
     ensures stops { OnErr result (Stops (B.calc bench.old) object (state_of today objects.now store.old.kept store.old.deferring) (state_of today objects.now store.new.kept store.old.deferring)
         (B.count bench.old) (B.count bench.new) (B.log bench.old) (B.log bench.new)) }
     ensures stays { Stays (B.calc bench.old) (state_of today objects.now store.new.kept store.old.deferring) }
+    ensures ready { (held (state_of today objects.now store.old.kept store.old.deferring) object ≢ None) ⊎ (is_now store.old.kept object ≡ true) → IsOk result }
     ensures empty { IsEmpty (length objects.now) scratch.new }
     ensures shape { store.new.shape ≡ store.old.shape }
     ensures switch { store.new.deferring ≡ store.old.deferring }

@@ -1,10 +1,10 @@
 // The objects of a session. A clause sees the desk as its state.
-ghost use Rattle.std.specs.Prelude.{◌≡◌, ◌≢◌, ◌↔◌, ℕ, ℤ, Option, Err, ◌⊎◌, ◌<◌, ◌^◌, ◌==◌, ◌||◌, true, false, pos, Some, None, length, IfOk, OnOk, OnErr};
+ghost use Rattle.std.specs.Prelude.{◌≡◌, ◌≢◌, ◌↔◌, ℕ, ℤ, Option, Err, ◌⊎◌, ◌<◌, ◌^◌, ◌==◌, ◌||◌, true, false, pos, Some, None, length, IsOk, IfOk, OnOk, OnErr};
 ghost use Rattle.std.specs.Option.{option_copied};
 ghost use Rattle.desk_terms.specs.Reading.{Calc, AreInRange};
 ghost use Rattle.desk_model.specs.Market.{kind_at, terms_at, slot_at, is_given, least_user};
 ghost use Rattle.desk_model.specs.Uses.{index_at, fixings_in};
-ghost use Rattle.desk_model.specs.State.{kept_at, least_source};
+ghost use Rattle.desk_model.specs.State.{kept_at, held, least_source};
 ghost use Rattle.desk_model.specs.Sound.{IsSound, KeepsCurrent};
 ghost use Rattle.desk_model.specs.Links.{AreOfKind, Serve, is_lazy_at, reaches, serves_as};
 ghost use Rattle.desk_model.specs.Effect.{start, made, quote_set, relinked, engine_set, member_set, fixing_added, today_set, dropped, frozen_set, thawed, forward_set, deferred, resumed};
@@ -16,7 +16,9 @@ ghost use Rattle.flow_terms.specs.declared.fixings.FixFault.TheVariants.{Exists}
 ghost use Rattle.desk_terms.specs.declared.terms.HandleKind.{HandleKind};
 ghost use Rattle.desk_terms.specs.declared.terms.Terms.TheVariants.{Handle};
 ghost use Rattle.desk_model.specs.Laws.{MayLink};
-ghost use Rattle.lazy_objects.specs.Slots.{is_handle};
+ghost use Rattle.lazy_objects.specs.Slots.{is_handle, engine_in};
+ghost use Rattle.lazy_objects.specs.Parts.{parts_in};
+ghost use Rattle.desk_model.specs.Held.{changeable, weight_of};
 ghost use Rattle.lazy_objects.specs.Asks.{Asks, Stops};
 ghost use Rattle.lazy_objects.specs.Recalcs.{RecalcEnds, RecalcStops};
 
@@ -127,6 +129,8 @@ impl Desk {
         requires open { MayLink self.old.market handle target }
         ensures set { OnOk result (self.new ≡ relinked handle target self.old) }
         ensures same { OnErr result (self.new ≡ self.old) }
+        // No memory is wanted for none, nor for the target held.
+        ensures ready { (kind : HandleKind) (held : Option ℕ) → terms_at self.old.market handle ≡ Some (Handle kind held) → (target ≡ None) ⊎ (held ≡ target) → IsOk result }
         ensures keeps { KeepsCurrent self.old self.new }
         ensures sound { (calc : Calc) → IsSound calc self.old → IsSound calc self.new }
     {
@@ -156,6 +160,8 @@ impl Desk {
         requires engine { Serve self.old.market (optional_reference Engine engine) }
         ensures set { OnOk result (self.new ≡ engine_set instrument engine self.old) }
         ensures same { OnErr result (self.new ≡ self.old) }
+        // No memory is wanted for none, nor for the engine held.
+        ensures ready { (engine ≡ None) ⊎ (engine_in (changeable (terms_at self.old.market instrument)) ≡ engine) → IsOk result }
         ensures keeps { KeepsCurrent self.old self.new }
         ensures sound { (calc : Calc) → IsSound calc self.old → IsSound calc self.new }
     {
@@ -210,6 +216,8 @@ impl Desk {
         requires open { (weight ≡ pos 0) ⊎ ((member ≢ composite) × (reaches self.old.market member composite ≡ false)) }
         ensures set { OnOk result (self.new ≡ member_set composite member weight self.old) }
         ensures same { OnErr result (self.new ≡ self.old) }
+        // No memory is wanted for the weight held.
+        ensures ready { weight_of (parts_in (slot_at self.old.market composite)) member ≡ weight → IsOk result }
         ensures keeps { KeepsCurrent self.old self.new }
         ensures sound { (calc : Calc) → IsSound calc self.old → IsSound calc self.new }
     {
@@ -307,6 +315,8 @@ impl Desk {
             (B.count bench.old) (B.count bench.new) (B.log bench.old) (B.log bench.new)) }
         ensures stops { OnErr result (Stops (B.calc bench.old) object self.old self.new
             (B.count bench.old) (B.count bench.new) (B.log bench.old) (B.log bench.new)) }
+        // No memory is wanted for an object that is frozen, late or current.
+        ensures ready { (held self.old object ≢ None) ⊎ ((kept_at self.old object).current ≡ true) → IsOk result }
         ensures sound { IsSound (B.calc bench.old) self.new }
     {
         ask(

@@ -1,5 +1,5 @@
 // The engine of an instrument, and the pair that goes with it.
-ghost use Rattle.std.specs.Prelude.{◌≡◌, ◌<◌, ℕ, Option, true, Some, IfSome, OnOk, OnErr, is_some, length, slice_index_or, slice_set};
+ghost use Rattle.std.specs.Prelude.{◌≡◌, ◌⊎◌, ◌<◌, ℕ, Option, true, Some, None, IfSome, IsOk, OnOk, OnErr, is_some, length, slice_index_or, slice_set};
 ghost use Rattle.walks.specs.Walk.{Among};
 ghost use Rattle.flow_terms.specs.declared.flows.FlowTerms.{FlowTerms};
 ghost use Rattle.desk_terms.specs.declared.terms.Terms.TheVariants.{Flows};
@@ -74,7 +74,8 @@ fn set_held(terms: &mut Terms, engine: Option<ObjId>)
     }
 }
 
-/// An object observes another engine in place of the one held. After want of memory nothing is changed.
+/// An object observes another engine in place of the one held. After want of memory nothing is changed. No
+/// memory is wanted for none, nor for the one held.
 pub fn watch_instead(
     store: &mut Store,
     held: &Option<ObjId>,
@@ -88,6 +89,7 @@ pub fn watch_instead(
     requires new { (x : ℕ) → engine.now ≡ Some x → Among x (observed_by store.old.shape observer) → held.now ≡ engine.now }
     ensures moves { OnOk result (Moves held.now engine.now observer store.old store.new) }
     ensures same { OnErr result (store.new ≡ store.old) }
+    ensures ready { (engine.now ≡ None) ⊎ (held.now ≡ engine.now) → IsOk result }
 {
     if *held == *engine {
         return Ok(());

@@ -1,5 +1,5 @@
 // What a handle stands for, and the pair that goes with it.
-ghost use Rattle.std.specs.Prelude.{◌≡◌, ℕ, true, Some, IfSome, OnOk, OnErr, is_some, slice_index_or};
+ghost use Rattle.std.specs.Prelude.{◌≡◌, ℕ, true, Some, None, IfSome, IsOk, OnOk, OnErr, is_some, slice_index_or};
 ghost use Rattle.walks.specs.Walk.{Among};
 ghost use Rattle.desk_terms.specs.declared.terms.Terms.TheVariants.{Handle};
 ghost use Rattle.desk_model.specs.Market.{terms_in};
@@ -46,7 +46,8 @@ pub fn link_of(objects: &Objects, handle: ObjId) -> Link
     }
 }
 
-/// An object observes this one too, if there is one. After want of memory nothing is changed.
+/// An object observes this one too, if there is one; no memory is wanted where there is none. After want of memory
+/// nothing is changed.
 pub fn watch_any(
     store: &mut Store,
     subject: Option<ObjId>,
@@ -57,6 +58,7 @@ pub fn watch_any(
     requires new { (x : ℕ) → subject ≡ Some x → Among x (observed_by store.old.shape observer) → ⊥ }
     ensures joins { OnOk result (JoinsAny subject observer store.old store.new) }
     ensures same { OnErr result (store.new ≡ store.old) }
+    ensures ready { subject ≡ None → IsOk result }
 {
     match subject {
         None => Ok(()),

@@ -27,6 +27,7 @@ impl Model for Scratch {
     ghost view = { λ s. record {
       entries = s.entries.items;
       positions = s.positions.items;
+      touched = s.touched.items;
       spare = min (vec_capacity s.entries) (vec_capacity s.positions) - length s.entries.items;
     } };
 
@@ -38,6 +39,7 @@ impl Scratch {
     pub fn new(alloc: Global) -> Scratch
         ensures entries { result.entries ≡ [] }
         ensures positions { result.positions ≡ [] }
+        ensures touched { result.touched ≡ [] }
     {
         Scratch {
             entries: Vec::new(alloc),
@@ -51,6 +53,7 @@ impl Scratch {
         ensures ok { OnOk result (0 < self.new.spare) }
         ensures entries { self.new.entries ≡ self.old.entries }
         ensures positions { self.new.positions ≡ self.old.positions }
+        ensures touched { self.new.touched ≡ self.old.touched }
     {
         let _rate: Option<Rate> = None;
         let _cause: Option<Cause> = None;
@@ -64,6 +67,7 @@ impl Scratch {
         requires { 0 < self.old.spare }
         ensures entries { self.new.entries ≡ self.old.entries ++ None ∷ [] }
         ensures positions { self.new.positions ≡ self.old.positions ++ 0 ∷ [] }
+        ensures touched { self.new.touched ≡ self.old.touched }
     {
         let _rate: Option<Rate> = None;
         let _cause: Option<Cause> = None;

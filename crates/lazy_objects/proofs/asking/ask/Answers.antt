@@ -1,5 +1,6 @@
-use Rattle.std.proofs.Common.{◌≡◌, true, None, refl, sym, ◌∙◌, ap, subst}
+use Rattle.std.proofs.Common.{◌≡◌, inl, inr, true, None, refl, sym, ◌∙◌, ap, subst}
 use Rattle.std.specs.Prelude.{◌↔◌, slice_index_or}
+use Rattle.std.proofs.lemmas.Bool.{false≢true}
 use Rattle.std.proofs.lemmas.Result.{IfOk-weaker}
 use Rattle.desk_terms.specs.declared.asked.Mark.TheVariants.{Late}
 use Rattle.desk_terms.specs.declared.asked.Asked.{Asked}
@@ -58,3 +59,15 @@ returns-clause-asks g c =
     (g.B.Bench.count c.args.bench.now) (g.B.Bench.log c.args.bench.now) (g.B.Bench.count c.compute_all-answer.new.bench) (g.B.Bench.log c.compute_all-answer.new.bench) c.requires.may.whole.links marks answer
     (subst (λ (v : StoreView). Walks (g.B.Bench.calc c.args.bench.now) c.args.object (state_of c.args.today c.args.objects.now v.kept v.deferring) (state_of c.args.today c.args.objects.now c.compute_all-answer.new.store.kept v.deferring) c.walk_mark-mark.result answer
     (g.B.Bench.count c.args.bench.now) (g.B.Bench.count c.compute_all-answer.new.bench) (g.B.Bench.log c.args.bench.now) (g.B.Bench.log c.compute_all-answer.new.bench)) same w)) c.compute_all-answer.ensures.walks
+
+pub returns-clause-ready : goal.returns-clause-ready
+returns-clause-ready g c = λ ready.
+    let s = state_of c.args.today c.args.objects.now c.args.store.now.kept c.args.store.now.deferring in
+    let thawed = sym c.is_frozen.ensures ∙ c.if-is_frozen.false in
+    let early = late_there s c.requires.may.whole c.args.store.now refl c.requires.joined c.args.object c.late.result c.late.ensures.answer ∙ sym c.is_some.ensures ∙ c.if-is_some.false in
+    let same = c.clear.ensures.same ∙ c.late.ensures.same in
+    let stale = ap (λ (v : StoreView). is_now v.kept c.args.object) (sym same) ∙ sym c.is_current.ensures ∙ c.if-is_current.false in
+    elim ready [
+      | inl is_held ↦ absurd (is_held (not_held s c.args.object thawed early))
+      | inr current ↦ absurd (false≢true (sym stale ∙ current))
+    ]

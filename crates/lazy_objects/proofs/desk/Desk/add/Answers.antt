@@ -25,7 +25,7 @@ invariant_of-self-2 c =
     let positions = c.grow.ensures.positions ∙ ap (λ (l : List ℕ). l ++ 0 ∷ []) c.in_ok-reserve.ensures.positions in (
       subst (λ (t : State). Stands t c.grow.new.self) (sym (added_state c.self.inside.today c.self.inside.objects c.add.new.self c.self.inside.store c.add.new.store c.args.terms slots c.in_ok-add.ensures.added))
           (add_stands s c.self.inside.scratch c.grow.new.self c.args.terms c.self.invariant.0 c.requires.ranged (subst (λ (t : State). AreOfKind t.market (Some c.args.terms)) (sym c.self.view_is) c.requires.kinds)
-          (subst (λ (t : State). length t.market.objects < 2 ^ 16) (sym c.self.view_is) c.requires.room) (empty_grown (length s.market.objects) c.self.inside.scratch c.grow.new.self c.self.invariant.0.empty entries positions)),
+          (subst (λ (t : State). length t.market.objects < 2 ^ 16) (sym c.self.view_is) c.requires.room) (empty_grown (length s.market.objects) c.self.inside.scratch c.grow.new.self c.self.invariant.0.empty entries positions (c.grow.ensures.touched ∙ c.in_ok-reserve.ensures.touched))),
       joined_added c.self.inside.today c.self.inside.objects c.add.new.self c.args.terms c.self.inside.store c.add.new.store c.self.invariant.1 c.self.invariant.0.whole.length
           (subst (λ (l : List ℕ). AddsObject (node_role (role_of (Some c.args.terms))) l c.self.inside.store c.add.new.store) (c.deref.ensures.value ∙ c.in_ok-watched.ensures) c.in_ok-add.ensures.added) slots,
     )

@@ -1,7 +1,7 @@
-use Rattle.std.proofs.Common.{Bool, sym, subst}
-use Rattle.std.specs.Prelude.{IfOk, OnErr}
+use Rattle.std.proofs.Common.{◌≡◌, ◌≢◌, ◌⊎◌, Bool, true, None, sym, subst}
+use Rattle.std.specs.Prelude.{IsOk, IfOk, OnErr}
 use Rattle.desk_terms.specs.declared.asked.Asked.{Asked}
-use Rattle.desk_model.specs.State.{State}
+use Rattle.desk_model.specs.State.{State, kept_at, held}
 use Rattle.desk_model.specs.Sound.{IsSound}
 use Rattle.lazy_objects.specs.Asks.{Asks, Stops}
 use Rattle.lazy_objects.specs.Shape.{Shape, IsJoined}
@@ -34,3 +34,6 @@ returns-clause-stops g c =
 
 pub returns-clause-sound : goal.returns-clause-sound
 returns-clause-sound g c = subst (λ (on : Bool). IsSound (g.B.Bench.calc c.args.bench.now) (state_of c.self.inside.today c.self.inside.objects c.ask.new.store.kept on)) (sym c.ask.ensures.switch) c.ask.ensures.stays.sound
+
+pub returns-clause-ready : goal.returns-clause-ready
+returns-clause-ready g c = subst (λ (t : State). (held t c.args.object ≢ None) ⊎ ((kept_at t c.args.object).current ≡ true) → IsOk c.ask.result) c.self.view_is c.ask.ensures.ready

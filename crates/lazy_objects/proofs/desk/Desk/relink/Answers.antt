@@ -1,5 +1,6 @@
-use Rattle.std.proofs.Common.{◌≡◌, ℕ, true, List, Option, None, Some, sym, ◌∙◌, ap, subst}
+use Rattle.std.proofs.Common.{◌≡◌, inl, inr, ℕ, true, List, Option, None, Some, sym, ◌∙◌, ap, subst}
 use Rattle.std.specs.Prelude.{slice_index_or, is_some}
+use Rattle.std.proofs.lemmas.Bool.{false≢true}
 use Rattle.desk_terms.specs.declared.terms.Terms.TheVariants.{Handle}
 use Rattle.desk_terms.specs.declared.terms.HandleKind.{HandleKind}
 use Rattle.desk_model.specs.Market.{Market, terms_at}
@@ -13,7 +14,7 @@ use Rattle.lazy_objects.specs.Slots.{market_of, state_of}
 use Rattle.lazy_objects.specs.Shape.{Shape, IsJoined}
 use Rattle.lazy_objects.proofs.Telling.{kept_state, kept_marks, no_marks}
 use Rattle.lazy_objects.proofs.Joined.{revised_market}
-use Rattle.lazy_objects.proofs.Linked.{handle_there, target_there, held_there, target_new, joined_linked, linked_kept, joins_roles, link_as, link_links, link_changed}
+use Rattle.lazy_objects.proofs.Linked.{target_itself, same_handle, handle_there, target_there, held_there, target_new, joined_linked, linked_kept, joins_roles, link_as, link_links, link_changed}
 use Rattle.lazy_objects.proofs.desk.Desk.relink.Goals as goal
 
 pub returns-then-eq-clause-set : goal.returns-then-eq-clause-set
@@ -114,3 +115,12 @@ returns-clause-sound c calc sound =
     ∙ ap (revised c.args.handle (Handle c.link_of-link.result.kind c.args.target)) (kept_state c.self.inside.today c.self.inside.objects c.self.inside.store c.unwatch_any.new.store (linked_kept c.link_of-link.result.target c.args.target c.args.handle c.self.inside.store c.watch_any.new.store c.unwatch_any.new.store c.in_ok-watch_any.ensures.joins c.unwatch_any.ensures)) in
     let d = link_changed c.self.inside.today c.self.inside.objects c.self.inside.store.kept c.self.inside.store.deferring c.self.inside.scratch c.self.invariant.0 c.args.handle c.link_of-link.result.kind c.link_of-link.result.target c.args.target is may differs kinds (state_of c.self.inside.today c.revise.new.objects c.revise.new.store.kept c.revise.new.store.deferring) e in
     d.sound calc (subst (IsSound calc) (sym c.self.view_is) sound)
+
+pub returns-in_err-watch_any-clause-ready : goal.returns-in_err-watch_any-clause-ready
+returns-in_err-watch_any-clause-ready c = λ kind held there ready.
+    let is = sym c.link_of-link.ensures ∙ subst (λ (t : State). terms_at t.market c.args.handle ≡ Some (Handle kind held)) (sym c.self.view_is) there in
+    let held_is = same_handle c.link_of-link.result.kind kind c.link_of-link.result.target held is in
+    elim ready [
+      | inl none ↦ absurd (false≢true (c.in_err-watch_any.ensures.ready none))
+      | inr same ↦ absurd (false≢true (sym c.if-eq.false ∙ c.eq.ensures ∙ target_itself c.link_of-link.result.target c.args.target (held_is ∙ same)))
+    ]

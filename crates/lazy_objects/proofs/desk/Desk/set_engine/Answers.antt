@@ -1,4 +1,5 @@
-use Rattle.std.proofs.Common.{arith, ◌≡◌, List, length, Some, sym, ◌∙◌, ap, subst}
+use Rattle.std.proofs.Common.{arith, ◌≡◌, inl, inr, List, length, Some, sym, ◌∙◌, ap, subst}
+use Rattle.std.proofs.lemmas.Bool.{false≢true}
 use Rattle.std.proofs.lemmas.List.{length-set}
 use Rattle.desk_terms.specs.declared.terms.Terms.TheVariants.{Flows}
 use Rattle.desk_terms.specs.declared.kind.Kind.TheVariants as kind
@@ -7,12 +8,13 @@ use Rattle.desk_terms.specs.Terms.{optional_reference}
 use Rattle.desk_model.specs.declared.kept.Kept.{Kept}
 use Rattle.desk_model.specs.declared.slot.Slot.{Slot}
 use Rattle.desk_model.specs.declared.slot.Slot.TheVariants.{Live}
-use Rattle.desk_model.specs.Market.{kind_at}
+use Rattle.desk_model.specs.Held.{changeable}
+use Rattle.desk_model.specs.Market.{kind_at, terms_at}
 use Rattle.desk_model.specs.State.{State}
 use Rattle.desk_model.specs.Links.{IsLinked, Serve}
 use Rattle.desk_model.specs.Sound.{IsSound, KeepsCurrent}
 use Rattle.desk_model.specs.Effect.{engine_set}
-use Rattle.lazy_objects.specs.Slots.{market_of, state_of, AreUnwatched}
+use Rattle.lazy_objects.specs.Slots.{market_of, state_of, engine_in, AreUnwatched}
 use Rattle.lazy_objects.specs.Shape.{IsJoined}
 use Rattle.lazy_objects.proofs.Telling.{given_set, unwatched_set, kept_marks, no_marks}
 use Rattle.lazy_objects.proofs.Revised.{kind_within}
@@ -127,3 +129,9 @@ returns-clause-sound c calc sound =
     c.self.invariant.0 c.self.invariant.1 f.1 instrument serve are c.in_ok-watch_instead.ensures.moves
     c.tell_changed.ensures.state c.tell_changed.ensures.shape in
     d.changed.sound calc (subst (IsSound calc) (sym c.self.view_is) sound)
+
+pub returns-in_err-watch_instead-clause-ready : goal.returns-in_err-watch_instead-clause-ready
+returns-in_err-watch_instead-clause-ready c = λ ready. absurd (false≢true (c.in_err-watch_instead.ensures.ready (elim ready [
+  | inl none ↦ inl none
+  | inr same ↦ inr (c.engine_of-held.ensures ∙ subst (λ (t : State). engine_in (changeable (terms_at t.market c.args.instrument)) ≡ c.args.engine) (sym c.self.view_is) same)
+])))

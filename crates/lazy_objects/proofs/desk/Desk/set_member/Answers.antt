@@ -3,9 +3,11 @@ use Rattle.std.specs.Prelude.{◌↔◌}
 use Rattle.walks.specs.Walk.{Among}
 use Rattle.desk_terms.specs.declared.kind.Kind.TheVariants.{Composite}
 use Rattle.desk_terms.specs.Terms.{part_references}
-use Rattle.desk_model.specs.Market.{Market, named}
+use Rattle.desk_model.specs.Market.{Market, slot_at, named}
 use Rattle.std.specs.Ordering.{int_eq}
 use Rattle.std.proofs.lemmas.Int.{to_z-of_z}
+use Rattle.std.proofs.lemmas.Bool.{false≢true}
+use Rattle.std.proofs.lemmas.Bool.Decides.{Decides-int_eq}
 use Rattle.desk_terms.specs.declared.terms.Terms.TheVariants as terms_of
 use Rattle.desk_terms.specs.declared.terms.Part.{Part}
 use Rattle.desk_model.specs.State.{State}
@@ -14,6 +16,7 @@ use Rattle.desk_model.specs.Sound.{IsSound, KeepsCurrent}
 use Rattle.desk_model.specs.Effect.{revised, member_set}
 use Rattle.lazy_objects.specs.Slots.{market_of, state_of}
 use Rattle.lazy_objects.specs.Shape.{Shape, IsJoined, observed_by}
+use Rattle.lazy_objects.specs.Parts.{parts_in}
 use Rattle.lazy_objects.specs.Store.{IsRewatched}
 use Rattle.lazy_objects.proofs.Joined.{joined_composite, composite_watches, revised_market}
 use Rattle.lazy_objects.proofs.Telling.{kept_state, kept_marks, no_marks}
@@ -113,3 +116,17 @@ returns-clause-sound c calc sound =
     let d = member_changed c.self.inside.today c.self.inside.objects c.self.inside.store.kept c.self.inside.store.deferring c.self.inside.scratch c.self.invariant.0 c.args.composite c.args.member c.args.weight is differs c.in_ok-changed.changed reweighed
     (state_of c.self.inside.today c.revise.new.objects c.revise.new.store.kept c.revise.new.store.deferring) e in
     d.sound calc (subst (IsSound calc) (sym c.self.view_is) sound)
+
+pub returns-in_err-changed-clause-ready : goal.returns-in_err-changed-clause-ready
+returns-in_err-changed-clause-ready c = λ held.
+    let bits = to_z-of_z w64 c.args.weight c.ranges.weight in
+    let parts = c.parts_of-parts.ensures in
+    let differs = ap (λ (p : List Part). int_eq (weight_of p c.args.member) c.args.weight) (sym parts) ∙ ap (int_eq (weight_of c.parts_of-parts.result.now c.args.member)) (sym bits) ∙ sym c.has_weight.ensures ∙ c.if-has_weight.false in
+    absurd (false≢true (sym differs ∙ (Decides-int_eq _ _).1 (subst (λ (t : State). weight_of (parts_in (slot_at t.market c.args.composite)) c.args.member ≡ c.args.weight) (sym c.self.view_is) held)))
+
+pub returns-in_err-rewatch-clause-ready : goal.returns-in_err-rewatch-clause-ready
+returns-in_err-rewatch-clause-ready c = λ held.
+    let bits = to_z-of_z w64 c.args.weight c.ranges.weight in
+    let parts = c.parts_of-parts.ensures in
+    let differs = ap (λ (p : List Part). int_eq (weight_of p c.args.member) c.args.weight) (sym parts) ∙ ap (int_eq (weight_of c.parts_of-parts.result.now c.args.member)) (sym bits) ∙ sym c.has_weight.ensures ∙ c.if-has_weight.false in
+    absurd (false≢true (sym differs ∙ (Decides-int_eq _ _).1 (subst (λ (t : State). weight_of (parts_in (slot_at t.market c.args.composite)) c.args.member ≡ c.args.weight) (sym c.self.view_is) held)))

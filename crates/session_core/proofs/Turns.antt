@@ -1,6 +1,7 @@
 -- What each act does to a session, as the definition says.
 use Rattle.std.proofs.Common.{◌≡◌, ◌≢◌, inl, inr, ℕ, suc, ◌+◌, ◌≤◌, Bool, ℤ, List, [], ◌∷◌, ◌++◌, length, Option, Some, None, Result, Ok, Err, refl, sym, ◌∙◌, ap, subst, arith}
-use Rattle.std.specs.Prelude.{codes, decimal, take, OnOk, OnErr}
+use Rattle.std.specs.Prelude.{codes, decimal, take, true, false, OnOk, OnErr}
+use Rattle.std.proofs.lemmas.Bool.{false≢true}
 use Rattle.std.proofs.lemmas.List.{append-nil, take_all}
 use Rattle.desk_terms.specs.declared.terms.Terms.{Terms}
 use Rattle.desk_terms.specs.declared.asked.Asked.{Asked}
@@ -23,7 +24,7 @@ use Rattle.session_model.specs.Standing.{Standing}
 use Rattle.session_model.specs.Resolve.{resolve}
 use Rattle.session_model.specs.Turn.{Turn, step, effect_of, done_as, turn}
 use Rattle.session_core.specs.Pricing.{Pricing, Prices, StopsShort}
-use Rattle.session_core.specs.Steps.{with_object, with_state, Does, Ends, Carries, BreaksOff, Steps, Stops, survivors_of}
+use Rattle.session_core.specs.Steps.{with_object, with_state, Does, Ends, Carries, BreaksOff, Steps, Stops, survivors_of, takes_no_memory}
 
 abbrev Log : Type 0
 Log = Option (List (ℕ × Bool))
@@ -63,12 +64,11 @@ pub ends_at_once : (t : Turn) (survivors : List (ℕ × Outcome)) (old new : Sta
 ends_at_once t survivors old new lines_old lines_new count log same none = record {
   begun = 0;
   ended = 0;
-  shown = 0;
   most = omega arith;
   last = (omega arith, omega arith);
   count = refl;
   log = logged_nothing log;
-  written = none ∙ sym (append-nil lines_old);
+  written = none;
   state = inl (ap (λ (p : Standing). p.state) same ∙ stored_nothing old.state);
   others = same ∙ ap (λ (p : Standing). record old { state = p.state; stopped = p.stopped }) (sym same);
 }
@@ -107,12 +107,11 @@ module _ (w : Pricing) (o : ℕ) (t : Turn) (old new : Standing) (lines_old line
   priced_stops s none = record {
     begun = s.begun;
     ended = s.ended;
-    shown = 0;
     most = subst (λ (n : ℕ). s.begun ≤ n) (sym calls_length) s.most;
     last = s.last;
     count = s.count;
     log = s.log ∙ ap (λ (log : List (ℕ × Bool)). logged log_old (take s.ended log)) (sym calls);
-    written = none ∙ sym (append-nil lines_old);
+    written = none;
     state = inl (ap (λ (p : Standing). p.state) s.next);
     others = others_as (stored old.state (take s.ended w.survivors)) s.next;
   }
@@ -124,15 +123,13 @@ module _ (w : Pricing) (o : ℕ) (t : Turn) (old new : Standing) (lines_old line
   priced_unwritten answer a next line none = record {
     begun = length t.calls;
     ended = length t.calls;
-    shown = 0;
     most = omega arith;
     last = (omega arith, omega arith);
     count = a.count ∙ ap (counted count_old) (sym calls_length);
     log = a.log ∙ ap (logged log_old) (sym calls ∙ sym (take_all (length t.calls) t.calls (omega arith)));
-    written = none ∙ sym (append-nil lines_old);
+    written = none;
     state = inr (record {
       line = line;
-      unshown = refl;
       all = refl;
       done = ap (λ (p : Standing). p.state) (a.next ∙ sym next);
     });
@@ -284,6 +281,10 @@ on_ok (Err e) f p = tt
 pub on_err_of : {A E P Q : Type 0} (result : Result A E) → (P → Q) → OnErr result P → OnErr result Q
 on_err_of (Ok x) f p = tt
 on_err_of (Err e) f p = f p
+
+-- an act that may take memory
+pub loud : {P : Type 0} (a b : Act) → a ≡ b → takes_no_memory b ≡ false → takes_no_memory a ≡ true → P
+loud a b same may never = absurd (false≢true (sym may ∙ ap takes_no_memory (sym same) ∙ never))
 
 -- A command does what it resolves to: the turn is the effect of the act.
 pub steps_of : {E : Type 0} (calc : Calc) (c : Command) (a : Act) (p q new : Standing) (lines_old lines_new : List ℕ)

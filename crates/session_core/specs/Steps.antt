@@ -1,5 +1,5 @@
 -- What one command does, whether it ends or memory runs out in it.
-use Rattle.std.specs.Prelude.{◌≡◌, ◌≢◌, ◌⊎◌, ◌++◌, ◌+◌, ◌≤◌, ℕ, Bool, List, [], ◌∷◌, length, take, Option, Result, Ok, Err, IsOk}
+use Rattle.std.specs.Prelude.{◌≡◌, ◌≢◌, ◌⊎◌, ◌++◌, ◌+◌, ◌≤◌, ℕ, Bool, true, false, List, [], ◌∷◌, length, take, Option, Result, Ok, Err, IsOk}
 use Rattle.desk_terms.specs.declared.terms.Terms.{Terms}
 use Rattle.desk_terms.specs.Reading.{Outcome, Calc}
 use Rattle.desk_terms.specs.Bench.{counted, logged}
@@ -37,27 +37,25 @@ pub record Does (t : Turn) (new : Standing) (lines_old lines_new : List ℕ) (co
   pub count : count_new ≡ counted count_old (length t.calls)
   pub log : log_new ≡ logged log_old t.calls
 
--- The turn was done but for its line, of which no byte found memory: the state is the next one.
-pub record LacksLine (t : Turn) (ended shown : ℕ) (state : State) : Type 0 where
+-- The turn was done but for its line, which found no memory: the state is the next one.
+pub record LacksLine (t : Turn) (ended : ℕ) (state : State) : Type 0 where
   pub line : t.lines ≢ []
-  pub unshown : shown ≡ 0
   pub all : ended ≡ length t.calls
   pub done : state ≡ t.next.state
 
--- Memory ran out in a turn: a front of its computations was begun, and all of these ended but the last one at most; a
--- front of its lines was appended. The stored values are those that the ended ones left, of those that may stay, or its
+-- Memory ran out in a turn: a front of its computations was begun, and all of these ended but the last one at most; no
+-- byte of its line was appended. The stored values are those that the ended ones left, of those that may stay, or its
 -- line alone is lacking; and all else is as it was.
 pub record Ends (t : Turn) (survivors : List (ℕ × Outcome)) (old new : Standing) (lines_old lines_new : List ℕ)
     (count_old count_new : ℕ) (log_old log_new : Option (List (ℕ × Bool))) : Type 0 where
   pub begun : ℕ
   pub ended : ℕ
-  pub shown : ℕ
   pub most : begun ≤ length t.calls
   pub last : (ended ≤ begun) × (begun ≤ ended + 1)
   pub count : count_new ≡ counted count_old begun
   pub log : log_new ≡ logged log_old (take ended t.calls)
-  pub written : lines_new ≡ lines_old ++ take shown t.lines
-  pub state : (new.state ≡ stored old.state (take ended survivors)) ⊎ LacksLine t ended shown new.state
+  pub written : lines_new ≡ lines_old
+  pub state : (new.state ≡ stored old.state (take ended survivors)) ⊎ LacksLine t ended new.state
   pub others : new ≡ record old { state = new.state; stopped = new.stopped }
 
 -- The computations of an act, each with its outcome, of which the values stay where memory runs out in it. Of a
@@ -79,6 +77,30 @@ act_survivors calc s act.Resume = []
 act_survivors calc s (act.Drop object) = []
 act_survivors calc s (act.Ask name object) = runs calc s object
 act_survivors calc s (act.Df name object day) = runs calc s object
+
+-- acts that take no memory and write no line: memory never runs out in them
+abbrev pub takes_no_memory : Act → Bool
+takes_no_memory (act.Make name terms) = false
+takes_no_memory (act.Set quote value) = true
+takes_no_memory (act.Member composite member weight) = false
+takes_no_memory (act.Link handle target) = false
+takes_no_memory (act.Engine instrument engine) = false
+takes_no_memory (act.Today day) = true
+takes_no_memory (act.Fixing index day rate) = false
+takes_no_memory (act.Freeze object) = true
+takes_no_memory (act.Thaw object) = true
+takes_no_memory (act.Recalc name object) = false
+takes_no_memory (act.Forward object is_on) = true
+takes_no_memory act.Defer = true
+takes_no_memory act.Resume = true
+takes_no_memory (act.Drop object) = true
+takes_no_memory (act.Ask name object) = false
+takes_no_memory (act.Df name object day) = false
+
+-- the same of what a command resolves to: a refused one writes a line
+abbrev pub is_without_memory : Result Act Refusal → Bool
+is_without_memory (Err refusal) = false
+is_without_memory (Ok a) = takes_no_memory a
 
 abbrev pub survivors_of : Calc → State → Result Act Refusal → List (ℕ × Outcome)
 survivors_of calc s (Err refusal) = []

@@ -1,12 +1,12 @@
 // What a command does: its turn, and want of memory in it.
-ghost use Rattle.std.specs.Prelude.{◌≡◌, ◌<◌, true, false, length, Some, is_err, IfOk, OnOk, OnErr};
+ghost use Rattle.std.specs.Prelude.{◌≡◌, ◌<◌, true, false, length, Some, is_err, is_ok, IfOk, OnOk, OnErr};
 ghost use Rattle.desk_terms.specs.Reading.{Calc, AreInRange};
 ghost use Rattle.desk_model.specs.Links.{AreOfKind};
 ghost use Rattle.desk_model.specs.Sound.{IsSound, KeepsCurrent};
 ghost use Rattle.session_model.specs.Standing.{IsKnown};
-ghost use Rattle.session_model.specs.Resolve.{made, unless_taken};
+ghost use Rattle.session_model.specs.Resolve.{made, unless_taken, resolve};
 ghost use Rattle.session_core.specs.Allowed.{IsAllowed};
-ghost use Rattle.session_core.specs.Steps.{with_object, AnswersMake, Carries, BreaksOff, Steps, Stops};
+ghost use Rattle.session_core.specs.Steps.{with_object, AnswersMake, Carries, BreaksOff, Steps, Stops, takes_no_memory, is_without_memory};
 
 use crate::{MakeFault, Session};
 use desk_names::{NameId, ObjId};
@@ -34,10 +34,12 @@ impl Session {
         ensures steps { OnOk result (Steps (B.calc bench.old) command.now self.old self.new
             lines.old.items lines.new.items (B.count bench.old) (B.count bench.new)
             (B.log bench.old) (B.log bench.new)) }
-        // Memory ran out in it: a front of its computations and of its lines, and nothing else.
+        // Memory ran out in it: a front of its computations, no byte of its line, and nothing else.
         ensures stops { OnErr result (Stops (B.calc bench.old) command.now self.old self.new
             lines.old.items lines.new.items (B.count bench.old) (B.count bench.new)
             (B.log bench.old) (B.log bench.new)) }
+        // A change of a value, a day or a flag, a deferral, a resume and a drop, not refused, never want memory.
+        ensures ends { is_without_memory (resolve self.old command.now) ≡ true → is_ok result ≡ true }
         ensures names { self.new.names ≡ self.old.names }
         ensures actions { self.new.actions ≡ self.old.actions }
         ensures sound { IsSound (B.calc bench.old) self.new.state }
@@ -88,6 +90,7 @@ impl Session {
         ensures stops { OnErr result (Stops (B.calc bench.old) command.now self.old self.new
             lines.old.items lines.new.items (B.count bench.old) (B.count bench.new)
             (B.log bench.old) (B.log bench.new)) }
+        ensures ends { is_without_memory (resolve self.old command.now) ≡ true → is_ok result ≡ true }
         ensures sound { IsSound (B.calc bench.old) self.new.state }
     {
         match self.resolve(command) {
@@ -112,6 +115,7 @@ impl Session {
         ensures stops { OnErr result (BreaksOff (B.calc bench.old) act self.old self.new lines.old.items lines.new.items
             (B.count bench.old) (B.count bench.new)
             (B.log bench.old) (B.log bench.new)) }
+        ensures ends { takes_no_memory act ≡ true → is_ok result ≡ true }
         ensures sound { IsSound (B.calc bench.old) self.new.state }
     {
         match act {

@@ -1,4 +1,4 @@
-use Rattle.session_core.proofs.Turns.{make_carries, set_carries, weigh_carries, link_carries, engine_carries, today_carries, fixing_carries, freeze_carries, thaw_carries, forward_carries, defer_carries, resume_carries, drop_carries, ends_at_once, on_ok, on_err_of}
+use Rattle.session_core.proofs.Turns.{make_carries, set_carries, weigh_carries, link_carries, engine_carries, today_carries, fixing_carries, freeze_carries, thaw_carries, forward_carries, defer_carries, resume_carries, drop_carries, ends_at_once, on_ok, on_err_of, loud}
 use Rattle.std.proofs.Common.{refl, ℤ, ◌∙◌, ap, subst, arith, FitsSigned, w64}
 use Rattle.std.proofs.lemmas.Int.{to_z-of_z, fits_signed_from_abs}
 use Rattle.desk_model.specs.Effect.{member_set}
@@ -164,3 +164,27 @@ returns-in-Resume-clause-steps g c =
 
 pub returns-in-Resume-clause-sound : goal.returns-in-Resume-clause-sound
 returns-in-Resume-clause-sound g c = c.resume.ensures.sound (g.B.Bench.calc c.args.bench.now) c.requires.sound
+
+pub returns-in-Err-clause-ends : goal.returns-in-Err-clause-ends
+returns-in-Err-clause-ends g c = loud _ _ c.in-Make.is refl
+
+pub returns-in-Member-clause-ends : goal.returns-in-Member-clause-ends
+returns-in-Member-clause-ends g c = loud _ _ c.in-Member.is refl
+
+pub returns-in-Link-clause-ends : goal.returns-in-Link-clause-ends
+returns-in-Link-clause-ends g c = loud _ _ c.in-Link.is refl
+
+pub returns-in-Engine-clause-ends : goal.returns-in-Engine-clause-ends
+returns-in-Engine-clause-ends g c = loud _ _ c.in-Engine.is refl
+
+pub returns-in-Fixing-clause-ends : goal.returns-in-Fixing-clause-ends
+returns-in-Fixing-clause-ends g c = loud _ _ c.in-Fixing.is refl
+
+pub returns-in-Recalc-clause-ends : goal.returns-in-Recalc-clause-ends
+returns-in-Recalc-clause-ends g c = loud _ _ c.in-Recalc.is refl
+
+pub returns-in-Ask-clause-ends : goal.returns-in-Ask-clause-ends
+returns-in-Ask-clause-ends g c = loud _ _ c.in-Ask.is refl
+
+pub returns-in-Df-clause-ends : goal.returns-in-Df-clause-ends
+returns-in-Df-clause-ends g c = loud _ _ c.in-Df.is refl

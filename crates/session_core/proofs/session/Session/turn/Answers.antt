@@ -1,4 +1,9 @@
-use Rattle.std.proofs.Common.{sym, subst}
+use Rattle.std.proofs.Common.{◌≡◌, Result, sym, subst}
+use Rattle.std.specs.Prelude.{true}
+use Rattle.std.proofs.lemmas.Bool.{false≢true}
+use Rattle.session_commands.specs.declared.refusal.Refusal.{Refusal}
+use Rattle.session_model.specs.declared.act.Act.{Act}
+use Rattle.session_core.specs.Steps.{is_without_memory}
 use Rattle.session_model.specs.Standing.{Standing}
 use Rattle.session_core.specs.Allowed.{IsAllowed}
 use Rattle.session_core.proofs.Resolved.{allowed_act}
@@ -31,3 +36,13 @@ returns-in-Err-clause-stops g c =
     (λ none. ends_at_once _ _ c.args.self.now c.resolve.new.self c.args.lines.now.items c.refuse.new.lines.items
     (g.B.Bench.count c.args.bench.now) (g.B.Bench.log c.args.bench.now) c.resolve.ensures.same none)
     c.refuse.ensures.err
+
+pub returns-in-Ok-clause-ends : goal.returns-in-Ok-clause-ends
+returns-in-Ok-clause-ends g c = λ yes.
+    c.carry_out.ensures.ends
+    (subst (λ (r : Result Act Refusal). is_without_memory r ≡ true) (sym c.in-Ok.ensures.act) yes)
+
+pub returns-in-Err-clause-ends : goal.returns-in-Err-clause-ends
+returns-in-Err-clause-ends g c = λ yes.
+    absurd (false≢true
+    (subst (λ (r : Result Act Refusal). is_without_memory r ≡ true) (sym c.in-Err.ensures.act) yes))

@@ -42,7 +42,6 @@ pub record MayTake (p : Standing) (rest : List (ℕ × Terms)) : Type 0 where
   pub kinds : List Kind
   pub standing : AreStanding kinds p.state.market.objects
   pub order : AreInOrder kinds rest
-  pub ranged : All (λ entry. AreInRange entry.1) rest
   pub room : length kinds + length rest ≤ 4096
   pub named : length kinds + length rest ≤ length p.names
   pub numbered : All (λ name. name < length kinds) p.of_object
@@ -150,7 +149,7 @@ module _ (p : Standing) (items rest : List (ℕ × Terms)) (name : ℕ) (terms :
       (omega arith)
 
   pub in_range : AreInRange terms
-  in_range = All-head (λ entry. AreInRange entry.1) (name, terms) rest h.ranged
+  in_range = h.order.0.ranged
 
   pub are_of_kind : AreOfKind p.state.market (Some terms)
   are_of_kind = serve h.kinds p.state.market h.standing (inputs_of terms) h.order.0.inputs
@@ -170,7 +169,6 @@ may_rest p name terms rest h = record {
   kinds = h.kinds ++ kind_of terms ∷ [];
   standing = more_standing h.kinds p.state.market.objects terms h.standing;
   order = h.order.1;
-  ranged = All-tail (λ entry. AreInRange entry.1) (name, terms) rest h.ranged;
   room = let few = h.room in omega (arith, longer);
   named = let few = h.named in omega (arith, longer);
   numbered = All-push (λ n. n < length (h.kinds ++ kind_of terms ∷ [])) p.of_object name
@@ -221,12 +219,11 @@ first_place (name ∷ names) text e =
     let same : text ≡ name = cc in rw ((bytes_eq-Decides text name).1 same) refl
 
 begins : (names : List (List ℕ)) (today : ℤ) (entries : List (ℕ × Terms)) (actions : List (List Command))
-    → IsReady names entries → All (λ entry. AreInRange entry.1) entries → MayTake (start_of today names actions) entries
-begins names today entries actions ready ranged = record {
+    → IsReady names entries → MayTake (start_of today names actions) entries
+begins names today entries actions ready = record {
   kinds = kind.Today ∷ [];
   standing = (refl, tt);
   order = ready.order;
-  ranged = ranged;
   room = let few = ready.room in omega arith;
   named = let few = ready.named in omega arith;
   numbered = All-cons (λ n. n < 1) (place_of names (codes "today")) []
@@ -235,7 +232,6 @@ begins names today entries actions ready ranged = record {
 }
 
 pub may_begin : (names : List (List ℕ)) (today : ℤ) (entries items : List (ℕ × Terms)) (actions : List (List Command))
-    (p : Standing) → IsReady names entries → All (λ entry. AreInRange entry.1) entries
-    → p ≡ start_of today names actions → items ≡ entries → MayTake p items
-may_begin names today entries items actions p ready ranged start gives =
-    rw (start, gives) (begins names today entries actions ready ranged)
+    (p : Standing) → IsReady names entries → p ≡ start_of today names actions → items ≡ entries → MayTake p items
+may_begin names today entries items actions p ready start gives =
+    rw (start, gives) (begins names today entries actions ready)

@@ -1,5 +1,5 @@
 // A market's objects, made in a new session.
-ghost use Rattle.std.specs.Prelude.{◌≡◌, ◌<◌, false, length, None, Some, All, IfOk, OnOk};
+ghost use Rattle.std.specs.Prelude.{◌≡◌, ◌<◌, false, length, None, Some, IfOk, OnOk};
 ghost use Rattle.desk_terms.specs.Reading.{Calc, AreInRange};
 ghost use Rattle.desk_model.specs.Links.{AreOfKind};
 ghost use Rattle.desk_model.specs.Sound.{IsSound};
@@ -25,7 +25,6 @@ pub fn session_of(
     actions: Actions,
 ) -> Result<Session, AllocError>
     requires ready { IsReady names made.items }
-    requires ranged { All (λ entry. AreInRange entry.1) made.items }
     ensures start { IfOk result (λ session. session ≡ start_with today names made.items actions) }
     ensures sound { IfOk result (λ session. (calc : Calc) → IsSound calc session.state) }
 {

@@ -10,7 +10,7 @@ new-requires c = has_text-at c.args.names (codes "today") 0 c.requires.ready.fir
 pub loop-name-init : goal.loop-name-init
 loop-name-init c = record {
   left = refl;
-  may = may_begin _ _ _ _ _ _ c.requires.ready c.requires.ranged c.in_ok-session.ensures.start
+  may = may_begin _ _ _ _ _ _ c.requires.ready c.in_ok-session.ensures.start
       c.into_iter-name-iterator.ensures.into_iter_gives.0;
   sound = c.in_ok-session.ensures.sound;
 }

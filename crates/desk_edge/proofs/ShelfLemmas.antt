@@ -80,7 +80,25 @@ passed_back out count None start new is moved = moved ∙ ap (option_map (passed
 passed_back out count (Some c) start new is moved =
     moved ∙ ap (λ (l : List ℕ). Some (record c { rest = l })) (sym (drop-append-add out c.rest count)) ∙ ap (option_map (passed (length out + count))) is
 
+-- the file has them, where what is left of it has so many
+pub left_back : (out : List ℕ) (count : ℕ) (mid start : Option Contents) → put_back out mid ≡ start → IfSome mid (λ c. count ≤ length c.rest)
+    → IfSome start (λ c. length out + count ≤ length c.rest)
+left_back out count mid start is left = subst Has is (at_mid mid left)
+  where
+    Has : Option Contents → Type 0
+    Has o = IfSome o (λ c. length out + count ≤ length c.rest)
+
+    at_mid : (m : Option Contents) → IfSome m (λ c. count ≤ length c.rest) → Has (put_back out m)
+    at_mid None left = tt
+    at_mid (Some c) left = omega (arith, left, length-append out c.rest)
+
 -- of the file that was begun
 pub took : (count : ℕ) (path : List ℕ) (told mid new : Option Contents) → mid ≡ option_map (begun path) told → new ≡ option_map (passed count) mid → Took count path told new
 took count path None mid new is moved = moved ∙ ap (option_map (passed count)) is
 took count path (Some c) mid new is moved = moved ∙ ap (option_map (passed count)) is
+
+-- and which has so many
+pub left_begun : (count : ℕ) (path : List ℕ) (told mid : Option Contents) → mid ≡ option_map (begun path) told → IfSome mid (λ c. count ≤ length c.rest)
+    → IfSome told (λ c. count ≤ length (bytes_at c.files path))
+left_begun count path None mid is left = tt
+left_begun count path (Some c) mid is left = let l = subst (λ (o : Option Contents). IfSome o (λ d. count ≤ length d.rest)) is left in l

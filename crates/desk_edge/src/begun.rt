@@ -1,5 +1,5 @@
 // The file that is begun.
-ghost use Rattle.std.specs.Prelude.{◌≡◌, ◌≤◌, length, None, Some, Ok, IfOk, IfSome, option_map};
+ghost use Rattle.std.specs.Prelude.{◌≡◌, ◌≤◌, length, is_some, None, Some, Ok, IfOk, IfSome, option_map};
 ghost use Rattle.std.specs.Io.KnownBytes.{ReadConsumes};
 
 use std::io;
@@ -41,6 +41,7 @@ impl<F: Read + Drop> Begun<F> {
     // The next bytes of the file begun: none where none is.
     pub(crate) fn read(&mut self, buf: &mut [u8]) -> io::Result<usize>
         ensures within { IfOk result (λ count. count ≤ length buf.old) }
+        ensures kept { is_some self.new ≡ is_some self.old }
         ensures none { self.old ≡ None → (result ≡ Ok 0) × (self.new ≡ None) }
         ensures bytes { IfSome self.old (λ old. IfSome self.new (λ new. ReadConsumes old new result buf.new)) }
     {

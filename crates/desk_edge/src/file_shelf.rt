@@ -1,16 +1,16 @@
 // A shelf of the system's files.
-ghost use Rattle.std.specs.Prelude.{◌≡◌, ◌≤◌, ◌<◌, false, None, Ok, length, IfOk, IfSome, OnErr};
+ghost use Rattle.std.specs.Prelude.{◌≡◌, ◌≤◌, ◌<◌, false, is_some, None, Ok, length, IfOk, IfSome, OnErr};
 ghost use Rattle.std.specs.Io.KnownBytes.{Keeps, ReadConsumes};
 ghost use Rattle.desk_edge.specs.Count.{Rose, raised};
-ghost use Rattle.desk_edge.specs.FileShelf.{IsFound};
+ghost use Rattle.desk_edge.specs.FileShelf.{IsFound, Opens};
 
 use crate::begun::Begun;
 use crate::count::one_more;
 use crate::{Failed, Shelf};
-use std::fs;
 use std::io::ErrorKind;
 use std::marker::Model;
 use std::rt::Files;
+use std::{fs, io};
 
 /// The system's files, each read from its first byte on. Contracts see its counts of faults and of
 /// misses, whether a file is begun, and what its reader has left, where it tells that; and no bytes by
@@ -60,28 +60,31 @@ impl<R: Files + Drop> FileShelf<R> {
         ensures misses { self.old.misses ≤ self.new.misses }
     {
         self.begun = Begun::none();
-        match fs::open(&self.files, path) {
-            Ok(file) => {
+        match opening(fs::open(&self.files, path)) {
+            Ok(Some(file)) => {
                 self.begun = Begun::of(file);
                 Ok(true)
             }
-            Err(error) if error.kind() == ErrorKind::NotFound => {
+            Ok(None) => {
                 self.misses = one_more(self.misses);
                 Ok(false)
             }
-            Err(_) => {
+            Err(failed) => {
                 self.faults = one_more(self.faults);
-                Err(Failed)
+                Err(failed)
             }
         }
     }
 
     /// As `Shelf::take`. Where the reader of the file begun tells what it has left, the bytes are those
-    /// that it loses, 0 means that none is left, and after a fault it has what it had.
+    /// that it loses, 0 means that none is left, and after a fault it has what it had. However it ends, the
+    /// file stays begun.
     pub fn take(&mut self, buf: &mut [u8]) -> Result<usize, Failed>
         ensures within { IfOk result (λ count. count ≤ length buf.old) }
+        ensures begun { is_some self.new.begun ≡ is_some self.old.begun }
         ensures none { self.old.begun ≡ None → (result ≡ Ok 0) × (self.new ≡ self.old) }
         ensures bytes { IfSome self.old.begun (λ old. IfSome self.new.begun (λ new. ReadConsumes old new result buf.new)) }
+        ensures quiet { IfOk result (λ _. self.new.faults ≡ self.old.faults) }
         ensures failed { OnErr result (self.new.faults ≡ raised self.old.faults) }
         ensures faults { self.old.faults ≤ self.new.faults }
         ensures misses { self.new.misses ≡ self.old.misses }
@@ -119,12 +122,25 @@ impl<R: Files + Drop> Shelf for FileShelf<R> {
     fn take(&mut self, buf: &mut [u8]) -> Result<usize, Failed>
         requires { 0 < length buf.old }
         ensures within { IfOk result (λ count. count ≤ length buf.old) }
+        ensures begun { is_some self.new.begun ≡ is_some self.old.begun }
         ensures none { self.old.begun ≡ None → (result ≡ Ok 0) × (self.new ≡ self.old) }
         ensures bytes { IfSome self.old.begun (λ old. IfSome self.new.begun (λ new. ReadConsumes old new result buf.new)) }
+        ensures quiet { IfOk result (λ _. self.new.faults ≡ self.old.faults) }
         ensures failed { OnErr result (Rose self.old.faults self.new.faults) }
         ensures faults { self.old.faults ≤ self.new.faults }
         ensures misses { self.old.misses ≤ self.new.misses }
     {
         FileShelf::take(self, buf)
+    }
+}
+
+// What the system's answer to an open says of the path: NotFound alone means that no file has it.
+fn opening<F: Drop>(opened: io::Result<F>) -> Result<Option<F>, Failed>
+    ensures { Opens opened result }
+{
+    match opened {
+        Ok(file) => Ok(Some(file)),
+        Err(error) if error.kind() == ErrorKind::NotFound => Ok(None),
+        Err(_) => Err(Failed),
     }
 }

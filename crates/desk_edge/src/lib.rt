@@ -26,6 +26,3 @@ pub use reading::{MOST, ReadFault, read_whole};
 pub use shelf::{Failed, Shelf};
 pub use sink::Sink;
 pub use writing::write_whole;
-
-#[cfg(test)]
-mod tests;

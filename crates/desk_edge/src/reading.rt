@@ -3,7 +3,7 @@ ghost use Rattle.std.specs.Prelude.{◌≡◌, ◌⊎◌, ◌+◌, ◌-◌, ◌<
 ghost use Rattle.std.specs.Option.{option_map};
 ghost use Rattle.desk_edge.specs.Count.{Rose};
 ghost use Rattle.desk_edge.specs.declared.reading.ReadFault.TheVariants.{Failed as ReadFailed, NoMemory};
-ghost use Rattle.desk_edge.specs.Shelf.{files_of, passed, put_back, Took, IsFront, Reads, Leaves};
+ghost use Rattle.desk_edge.specs.Shelf.{bytes_at, files_of, passed, put_back, Took, IsFront, Reads, Leaves};
 
 use crate::{Failed, Shelf};
 use std::alloc::AllocError;
@@ -62,7 +62,10 @@ pub fn read_whole<H: Shelf>(shelf: &mut H, path: &str, out: &mut Vec<u8>) -> Res
     ensures once { result ≡ Ok false → H.calls shelf.new ≤ H.calls shelf.old + 1 }
     ensures stops { IsErrOf result ReadFault.Failed → (H.contents shelf.new ≡ H.contents shelf.old)
         ⊎ Took (length out.new.items) path.now (H.contents shelf.old) (H.contents shelf.new) }
-    ensures halts { IsErrOf result ReadFault.NoMemory → (count : ℕ) × (count ≤ PIECE)
+    // Want of memory is answered only where bytes were taken that found no room, at most MOST in all.
+    ensures halts { IsErrOf result ReadFault.NoMemory → (count : ℕ) × (0 < count) × (count ≤ PIECE)
+        × (length out.new.items + count ≤ MOST)
+        × IfSome (H.contents shelf.old) (λ c. length out.new.items + count ≤ length (bytes_at c.files path.now))
         × Took (length out.new.items + count) path.now (H.contents shelf.old) (H.contents shelf.new) }
     ensures most { length out.new.items ≤ MOST }
     ensures nothing { result ≡ Ok false → out.new.items ≡ [] }
@@ -91,7 +94,10 @@ fn read_begun<H: Shelf>(shelf: &mut H, out: &mut Vec<u8>) -> Result<(), ReadFaul
         × (H.contents shelf.new ≡ option_map (passed count) (H.contents shelf.old)) }
     ensures stops { IsErrOf result ReadFault.Failed
         → H.contents shelf.new ≡ option_map (passed (length out.new.items)) (H.contents shelf.old) }
-    ensures halts { IsErrOf result ReadFault.NoMemory → (count : ℕ) × (count ≤ PIECE)
+    // Bytes were taken that found no room, at most MOST in all.
+    ensures halts { IsErrOf result ReadFault.NoMemory → (count : ℕ) × (0 < count) × (count ≤ PIECE)
+        × (length out.new.items + count ≤ MOST)
+        × IfSome (H.contents shelf.old) (λ c. length out.new.items + count ≤ length c.rest)
         × (H.contents shelf.new ≡ option_map (passed (length out.new.items + count)) (H.contents shelf.old)) }
     ensures most { length out.new.items ≤ MOST }
     ensures calls { H.calls shelf.new ≤ H.calls shelf.old + length out.new.items + 1 }
@@ -121,6 +127,11 @@ fn take_more<H: Shelf>(shelf: &mut H, buf: &mut [u8], out: &mut Vec<u8>) -> Resu
     ensures few { (count : ℕ) × (count ≤ length buf.old) × (length out.old.items + count ≤ MOST + 1)
         × (H.contents shelf.new ≡ option_map (passed count) (H.contents shelf.old)) }
     ensures stops { IsErrOf result ReadFault.Failed → H.contents shelf.new ≡ H.contents shelf.old }
+    // Bytes were taken that found no room, at most MOST in all.
+    ensures halts { IsErrOf result ReadFault.NoMemory → (count : ℕ) × (0 < count) × (count ≤ length buf.old)
+        × (length out.old.items + count ≤ MOST)
+        × IfSome (H.contents shelf.old) (λ c. count ≤ length c.rest)
+        × (H.contents shelf.new ≡ option_map (passed count) (H.contents shelf.old)) }
     ensures most { length out.new.items ≤ MOST }
     ensures grows { length out.old.items ≤ length out.new.items }
     ensures calls { H.calls shelf.new ≤ H.calls shelf.old + 1 }

@@ -20,6 +20,7 @@ pub trait Sink {
         ensures taken { IfOk result (λ count.
             bytes self.new ≡ appended (take count piece.now) (bytes self.old)) }
         ensures same { OnErr result (bytes self.new ≡ bytes self.old) }
+        ensures quiet { IfOk result (λ _. faults self.new ≡ faults self.old) }
         ensures failed { OnErr result (Rose (faults self.old) (faults self.new)) }
         ensures faults { faults self.old ≤ faults self.new };
 }

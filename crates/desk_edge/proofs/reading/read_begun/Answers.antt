@@ -1,7 +1,7 @@
 use Rattle.std.proofs.Common.{ap, refl, Err, ◌+◌, length, arith}
 use Rattle.std.proofs.lemmas.Result.{err_from_is_err_and}
 use Rattle.desk_edge.specs.declared.reading.ReadFault.{ReadFault}
-use Rattle.desk_edge.proofs.ShelfLemmas.{too_long, same_fault, passed_back}
+use Rattle.desk_edge.proofs.ShelfLemmas.{too_long, same_fault, passed_back, left_back}
 use Rattle.desk_edge.proofs.reading.read_begun.Goals as goal
 
 pub returns-in_err-take_more-clause-long : goal.returns-in_err-take_more-clause-long
@@ -18,6 +18,10 @@ returns-in_err-take_more-clause-few g c =
 
 pub returns-in_err-take_more-clause-halts : goal.returns-in_err-take_more-clause-halts
 returns-in_err-take_more-clause-halts g c =
+    let p = err_from_is_err_and c.from_residual.result c.from_residual.ensures.1 in
     let before = c.loop.invariant in
-    let few = c.in_err-take_more.ensures.few in
-    λ is. rw c.in_err-take_more.ensures.same (few.0, omega (arith, few.1, c.loop.invariant.piece), passed_back c.loop.out.items few.0 _ _ _ before.kept few.3)
+    rw (p.1, p.2) (λ is.
+    let halts = c.in_err-take_more.ensures.halts (ap (λ (f : ReadFault). Err f) (same_fault _ _ _ refl is)) in
+    let left = left_back c.loop.out.items halts.0 _ _ before.kept halts.4 in
+    let moved = passed_back c.loop.out.items halts.0 _ _ _ before.kept halts.5 in
+    rw c.in_err-take_more.ensures.same (halts.0, halts.1, omega (arith, halts.2, before.piece), halts.3, left, moved))

@@ -1,4 +1,4 @@
-use Rattle.std.proofs.Common.{arith, ap, length}
+use Rattle.std.proofs.Common.{arith, ◌∙◌, ap, length}
 use Rattle.std.proofs.lemmas.Grind.{common_steps}
 use Rattle.desk_edge.proofs.SinkLemmas.{appended-take}
 use Rattle.desk_edge.proofs.writing.write_whole.Goals as goal
@@ -10,6 +10,6 @@ loop-at-preserved g c =
     record {
       within = grind (arith, common_steps, piece.within);
       put = appended-take c.loop-at.at c.in_ok-at.field-0 c.args.bytes.now _ _ _ before.put piece.taken;
-      faults = omega (arith, before.faults, c.put.ensures.faults);
+      faults = piece.quiet ∙ before.faults;
       nothing = λ none. absurd (omega (arith, ap length none, c.loop-at-test.true));
     }

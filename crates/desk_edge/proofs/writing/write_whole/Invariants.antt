@@ -6,7 +6,7 @@ abbrev pub invariant-loop-at : goal.invariant-loop-at
 invariant-loop-at g l = record {
   within : l.at ≤ length l.bytes;
   put : g.K.Sink.bytes l.sink ≡ appended (take l.at l.bytes) (g.K.Sink.bytes l.initial.sink);
-  faults : g.K.Sink.faults l.initial.sink ≤ g.K.Sink.faults l.sink;
+  faults : g.K.Sink.faults l.sink ≡ g.K.Sink.faults l.initial.sink;
   nothing : l.bytes ≡ [] → l.sink ≡ l.initial.sink;
 }
 

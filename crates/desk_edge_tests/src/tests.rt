@@ -1,5 +1,8 @@
 // What no clause says: the system's files and writers, and that ample memory is found.
-use crate::*;
+use desk_edge::{
+    CallList, Failed, FileList, FileShelf, MOST, MemoryFile, MemoryShelf, OutSink, ReadFault,
+    Shelf, Sink, read_whole, write_whole,
+};
 use std::io::{ErrorKind, Write};
 use std::test::Fail;
 use std::{fs, io};
@@ -23,11 +26,19 @@ fn a_file_of_8_mib_is_read(rt: HostRuntime) -> Result<(), Fail> {
 #[test]
 fn the_systems_files_are_read(rt: HostRuntime) -> Result<(), Fail> {
     const PATH: &str = "desk_edge_file_shelf_test";
+    const LONG_PATH: &str = "desk_edge_file_shelf_long";
     let alloc = rt.alloc();
     fs::write(&rt, PATH, TEXT)?;
+    // A file of three pieces, none of them like another.
+    let mut long = Vec::new(alloc);
+    for at in 0u16..10_000 {
+        long.push((at % 251) as u8)?;
+    }
+    fs::write(&rt, LONG_PATH, long.as_slice())?;
     let mut shelf = FileShelf::new(rt.clone()?);
     for (path, wanted, bytes) in [
         (PATH, Ok(true), TEXT),
+        (LONG_PATH, Ok(true), long.as_slice()),
         ("desk_edge_no_such_file", Ok(false), b""),
         ("", Ok(false), b""),
         (".", Err(ReadFault::Failed), b""),
@@ -39,6 +50,7 @@ fn the_systems_files_are_read(rt: HostRuntime) -> Result<(), Fail> {
         assert_eq!(rt; out.as_slice(), bytes, "{path}");
     }
     fs::remove_file(&rt, PATH)?;
+    fs::remove_file(&rt, LONG_PATH)?;
     Ok(())
 }
 

@@ -1,5 +1,5 @@
 -- The plan that words and files give, against the verdict of the definition.
-use Rattle.std.proofs.Common.{◌≡◌, inr, ℕ, List, Option, Some, None, Result, Ok, Err, refl, sym, ap, subst}
+use Rattle.std.proofs.Common.{◌≡◌, inr, ℕ, ◌+◌, ◌≤◌, arith, List, Option, Some, None, Result, Ok, Err, refl, sym, ap, subst}
 use Rattle.std.specs.Prelude.{IfSome}
 use Rattle.desk_words.specs.Answers.{Answers, request_in}
 use Rattle.desk_words.specs.Words.{Request, request_of}
@@ -10,8 +10,8 @@ use Rattle.desk_top.specs.declared.status.Status.{Status}
 use Rattle.desk_top.specs.declared.status.Status as status
 use Rattle.desk_top.specs.Found.{Tells, plan_in}
 use Rattle.desk_top.specs.Reading.{Files}
-use Rattle.desk_top.specs.Verdict.{plan_of, with_request, verdict_of}
-use Rattle.desk_top.proofs.Steps.{told_map}
+use Rattle.desk_top.specs.Verdict.{plan_of, plan_calls, with_request, calls_for, verdict_of, reading_calls, IsCheck}
+use Rattle.desk_top.proofs.Steps.{told_any, told_map}
 
 -- what words ask for, where they are a request, and where they are none
 pub asked_some : (request : code.Request) (asked : Option Request) → Answers (Ok request) asked
@@ -41,3 +41,24 @@ pub told_usage : (told : Option Files) (words : List (List ℕ)) → request_of 
 unfolding verdict_of
 told_usage None words none = tt
 told_usage (Some files) words none = inr (ap (λ (o : Option Request). with_request o files) none)
+
+-- the calls for a request are those for its words
+calls_with : (files : Files) (words : List (List ℕ)) (request : Request) → request_of words ≡ Some request
+    → reading_calls files words ≡ plan_calls request files
+unfolding reading_calls
+calls_with files words request is = ap (λ (o : Option Request). calls_for o files) is
+
+pub told_calls : (told : Option Files) (words : List (List ℕ)) (request : Request) (old new : ℕ)
+    → request_of words ≡ Some request → IfSome told (λ files. new ≤ old + plan_calls request files)
+    → IfSome told (λ files. new ≤ old + reading_calls files words)
+told_calls told words request old new is h =
+    told_map told (λ files less. omega (arith, less, calls_with files words request is)) h
+
+-- where nothing was called
+pub told_uncalled : (told : Option Files) (words : List (List ℕ)) (calls : ℕ)
+    → IfSome told (λ files. calls ≤ calls + reading_calls files words)
+told_uncalled told words calls = told_any told (λ files. omega arith)
+
+-- a check is asked for by its words
+pub asked_check : (request : Request) (asked : Option Request) → asked ≡ Some request → IsCheck asked → IsCheck (Some request)
+asked_check request asked is check = subst (λ (o : Option Request). IsCheck o) is check

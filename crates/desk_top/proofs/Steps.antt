@@ -1,11 +1,11 @@
 -- Steps of reading, one after another.
-use Rattle.std.proofs.Common.{◌≡◌, inl, inr, ⊎_elim, ℕ, ◌<◌, ◌≤◌, Option, Some, None, Result, Ok, Err, refl, sym, ◌∙◌, ap, subst, arith}
+use Rattle.std.proofs.Common.{◌≡◌, inl, inr, ⊎_elim, ℕ, ◌+◌, ◌<◌, ◌≤◌, Option, Some, None, Result, Ok, Err, refl, sym, ◌∙◌, ap, subst, arith}
 use Rattle.std.specs.Prelude.{IfSome}
 use Rattle.desk_edge.specs.Count.{Rose}
 use Rattle.market_tables.specs.Given.{◌>>=◌}
 use Rattle.desk_top.specs.declared.status.Status.{Status}
 use Rattle.desk_top.specs.declared.status.Status.TheVariants as status
-use Rattle.desk_top.specs.Reading.{Files}
+use Rattle.desk_top.specs.Reading.{Files, and_then}
 use Rattle.desk_top.specs.Found.{Seen, IsRefusal, Tells, Reads, Says}
 
 -- what follows for each list of files
@@ -38,19 +38,47 @@ told_on other step y go result (Some files) mid same first second =
     tells_on other (step files) y (go files) result first
     (subst (λ (m : Option Files). IfSome m (λ files. Tells other result (go files y))) same second)
 
+calls_on : {Y : Type 0} (step : Files → Result Y Status) (y : Y) (first : Files → ℕ) (rest : Files → Y → ℕ)
+    (told mid : Option Files) (old now new : ℕ) → mid ≡ told → IfSome told (λ files. step files ≡ Ok y)
+    → IfSome told (λ files. now ≤ old + first files) → IfSome mid (λ files. new ≤ now + rest files y)
+    → IfSome told (λ files. new ≤ old + and_then (first files) (step files) (rest files))
+calls_on step y first rest None mid old now new same is a b = tt
+calls_on {Y} step y first rest (Some files) mid old now new same is a b =
+    let after : new ≤ now + rest files y = subst (λ (m : Option Files). IfSome m (λ files. new ≤ now + rest files y)) same b in
+    let sum : new ≤ old + (first files + rest files y) = omega (arith, a, after) in
+    subst (λ (r : Result Y Status). new ≤ old + and_then (first files) r (rest files)) (sym is) sum
+
 -- a step that gives a value goes on with it
 pub reads_on : {X Y Z W : Type 0} (view : X → Y) (other : Z → W) (step : Files → Result Y Status)
-    (go : Files → Y → Result W Status) (old mid new : Seen) (x : X) (result : Result Z Status)
-    → Reads view step old mid (Ok x) → Reads other (λ files. go files (view x)) mid new result
-    → Reads other (λ files. step files >>= go files) old new result
-reads_on view other step go old mid new x result a b = record {
+    (go : Files → Y → Result W Status) (first : Files → ℕ) (rest : Files → Y → ℕ) (old mid new : Seen) (x : X)
+    (result : Result Z Status) → Reads view step first old mid (Ok x)
+    → Reads other (λ files. go files (view x)) (λ files. rest files (view x)) mid new result
+    → Reads other (λ files. step files >>= go files) (λ files. and_then (first files) (step files) (rest files)) old new
+    result
+reads_on view other step go first rest old mid new x result a b = record {
   tells = told_on other step (view x) go result old.files mid.files a.files a.tells b.tells;
+  calls = calls_on step (view x) first rest old.files mid.files old.calls mid.calls new.calls a.files a.tells a.calls b.calls;
   files = b.files ∙ a.files;
   refused = b.refused;
   read = λ e. rose_since old.faults mid.faults new.faults a.faults (b.read e);
   absent = λ role e. rose_since old.misses mid.misses new.misses a.misses (b.absent role e);
   faults = omega (arith, a.faults, b.faults);
   misses = omega (arith, a.misses, b.misses);
+}
+
+-- a bound that is no less is one too
+pub reads_within : {X Y : Type 0} (view : X → Y) (meaning : Files → Result Y Status) (most more : Files → ℕ)
+    (old new : Seen) (result : Result X Status) → ((files : Files) → most files ≤ more files)
+    → Reads view meaning most old new result → Reads view meaning more old new result
+reads_within view meaning most more old new result le r = record {
+  tells = r.tells;
+  calls = told_map old.files (λ files h. omega (arith, h, le files)) r.calls;
+  files = r.files;
+  refused = r.refused;
+  read = r.read;
+  absent = r.absent;
+  faults = r.faults;
+  misses = r.misses;
 }
 
 says_tells : {X Y : Type 0} (view : X → Y) (result : Result X Status) (told : Result Y Status) → Says view result told
@@ -77,9 +105,10 @@ says_refused view (status.Absent role) told says = tt
 
 -- a text that is read leaves the shelf alone
 pub reads_text : {X Y : Type 0} (view : X → Y) (told : Result Y Status) (s : Seen) (result : Result X Status)
-    → Says view result told → Reads view (λ files. told) s s result
+    → Says view result told → Reads view (λ files. told) (λ files. 0) s s result
 reads_text view told s (Ok x) says = record {
   tells = told_any s.files (λ files. says);
+  calls = told_any s.files (λ files. omega arith);
   files = refl;
   refused = tt;
   read = λ e. absurd (cc);
@@ -89,6 +118,7 @@ reads_text view told s (Ok x) says = record {
 }
 reads_text {X} view told s (Err fault) says = record {
   tells = told_any s.files (λ files. says_tells view (Err fault) told says);
+  calls = told_any s.files (λ files. omega arith);
   files = refl;
   refused = says_refused view fault told says;
   read = λ e. absurd (subst (λ (r : Result X Status). Says view r told) e says);

@@ -1,10 +1,8 @@
 -- What the reading of words and files gives, and what it leaves of the shelf.
-use Rattle.std.specs.Prelude.{◌≡◌, ◌⊎◌, ◌≤◌, ℕ, List, All, Option, Result, Ok, Err, IfSome, IfErr, IsErrOf}
+use Rattle.std.specs.Prelude.{◌≡◌, ◌⊎◌, ◌≤◌, ◌+◌, ℕ, List, Option, Result, Ok, Err, IfSome, IfErr, IsErrOf}
 use Rattle.desk_edge.specs.Count.{Rose}
 use Rattle.desk_edge.specs.Shelf.{Contents, files_of}
 use Rattle.desk_edge.specs.declared.reading.ReadFault as fault
-use Rattle.desk_terms.specs.Reading.{AreInRange}
-use Rattle.desk_terms.specs.declared.terms.Terms.{Terms}
 use Rattle.market_file.specs.Market.{Market}
 use Rattle.market_file.specs.Standing.{IsReady}
 use Rattle.market_file.specs.declared.fault.MarketFault as untaken
@@ -41,9 +39,11 @@ pub record Seen : Type 0 where
   pub files : Option Files
   pub faults : ℕ
   pub misses : ℕ
+  pub calls : ℕ
 
-abbrev pub seen : Option Contents → ℕ → ℕ → Seen
-seen contents faults misses = record { files = files_of contents; faults = faults; misses = misses }
+abbrev pub seen : Option Contents → ℕ → ℕ → ℕ → Seen
+seen contents faults misses calls =
+    record { files = files_of contents; faults = faults; misses = misses; calls = calls }
 
 -- the answer, seen by view, is this, but for a fault of reading or want of memory
 abbrev pub Tells : {X Y : Type 0} → (X → Y) → Result X Status → Result Y Status → Type 0
@@ -61,10 +61,11 @@ IsRefusal ReadFault = Unit {0}
 IsRefusal NoMemory = Unit {0}
 IsRefusal (Absent role) = Unit {0}
 
--- Files were read: the answer, seen by view, is what the definition tells of them. The files stay, and a fault of
--- reading and an absent file were counted.
-pub record Reads {X Y : Type 0} (view : X → Y) (meaning : Files → Result Y Status) (old new : Seen) (result : Result X Status) : Type 0 where
+-- Files were read: the answer, seen by view, is what the definition tells of them, and the shelf was called no more than
+-- so many times. The files stay, and a fault of reading and an absent file were counted.
+pub record Reads {X Y : Type 0} (view : X → Y) (meaning : Files → Result Y Status) (most : Files → ℕ) (old new : Seen) (result : Result X Status) : Type 0 where
   pub tells : IfSome old.files (λ files. Tells view result (meaning files))
+  pub calls : IfSome old.files (λ files. new.calls ≤ old.calls + most files)
   pub files : new.files ≡ old.files
   pub refused : IfErr result IsRefusal
   pub read : IsErrOf result ReadFault → Rose old.faults new.faults
@@ -88,11 +89,6 @@ Says view (Err (Absent role)) told = ⊥
 abbrev pub market_in : opened.Opened → Market
 market_in opened = record { today = opened.today; made = opened.made.items; names = opened.names }
 
--- objects of which a session can be made
-pub record AreWhole (names : List (List ℕ)) (made : List (ℕ × Terms)) : Type 0 where
-  pub ready : IsReady names made
-  pub ranged : All (λ entry. AreInRange entry.1) made
-
 -- a script to be run, as the definition sees it
 abbrev pub run_in : scripted.ScriptRun → ScriptRun
 run_in run =
@@ -105,7 +101,7 @@ plan_in (planned.TheVariants.Check objects fixings) = Check objects fixings
 
 -- a session can be made of the objects, and the script is whole
 abbrev pub CanRun : scripted.ScriptRun → Type 0
-CanRun run = AreWhole run.market.names run.market.made.items × IsScript run.market.names run.script
+CanRun run = IsReady run.market.names run.market.made.items × IsScript run.market.names run.script
 
 -- the same of a plan: a report needs nothing
 abbrev pub CanDo : planned.Plan → Type 0
@@ -116,4 +112,9 @@ CanDo (planned.TheVariants.Check objects fixings) = Unit {0}
 abbrev pub IsBefore : Status → Type 0
 IsBefore Done = ⊥
 IsBefore WriteFault = ⊥
-IsBefore status = Unit {0}
+IsBefore Usage = Unit {0}
+IsBefore (OfMarket section entry why) = Unit {0}
+IsBefore (Script line why) = Unit {0}
+IsBefore ReadFault = Unit {0}
+IsBefore NoMemory = Unit {0}
+IsBefore (Absent role) = Unit {0}

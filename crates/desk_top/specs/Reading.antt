@@ -1,6 +1,6 @@
 -- What is read of the files, in the order in which they are read: the first failure is the answer (this project's profile).
-use Rattle.std.specs.Prelude.{ℕ, nat_lt, length, List, [], if◌then◌else◌, Option, None, Some, Result, Ok, Err}
-use Rattle.desk_edge.specs.Shelf.{most_bytes, file_at}
+use Rattle.std.specs.Prelude.{ℕ, ◌+◌, nat_lt, length, List, [], if◌then◌else◌, Option, None, Some, Result, Ok, Err}
+use Rattle.desk_edge.specs.Shelf.{most_bytes, file_at, bytes_at}
 use Rattle.market_file.specs.Fault.{Fault}
 use Rattle.market_file.specs.Market.{Market, read_market}
 use Rattle.market_file.specs.Paths.{market_paths}
@@ -30,6 +30,20 @@ too_long_of role.Script = status.Script 0 script.TooLong
 abbrev pub file_in : FileRole → Option (List ℕ) → Result (List ℕ) Status
 file_in role None = Err (status.Absent role)
 file_in role (Some text) = if nat_lt most_bytes (length text) then Err (too_long_of role) else Ok text
+
+-- the most calls of a shelf for the whole of a file: one to find it, one for each of its bytes, and one for its end
+abbrev pub file_calls : List ℕ → Files → ℕ
+file_calls path files = length (bytes_at files path) + 2
+
+-- the same of a table beside the market, where the market names it
+abbrev pub table_calls : Option (List ℕ) → Files → ℕ
+table_calls None files = 0
+table_calls (Some path) files = file_calls path files
+
+-- the calls of a step, and of what follows where the step gives a value: none behind a failure
+abbrev pub and_then : {X : Type 0} → ℕ → Result X Status → (X → ℕ) → ℕ
+and_then calls (Ok x) others = calls + others x
+and_then calls (Err status) others = calls
 
 -- the file at a path
 abbrev pub file_of : FileRole → List ℕ → Files → Result (List ℕ) Status
@@ -64,6 +78,21 @@ with_quotes text paths files =
 abbrev pub with_text : List ℕ → Files → Result Market Status
 with_text text files = or_market (market_paths text) >>= (λ paths. with_quotes text paths files)
 
+-- the most calls for the quotes, and then for the fixings
+abbrev pub tables_calls : Paths → Files → ℕ
+tables_calls paths files =
+    and_then (table_calls paths.quotes files) (table_of role.Quotes paths.quotes files)
+    (λ quotes. table_calls paths.fixings files)
+
+-- for the tables that a text names
+abbrev pub text_calls : List ℕ → Files → ℕ
+text_calls text files = and_then 0 (or_market (market_paths text)) (λ paths. tables_calls paths files)
+
 -- THE READING ORDER of a market: its own text, the tables that it names, the quotes, the fixings, the market
 abbrev pub market_of : List ℕ → Files → Result Market Status
 market_of path files = file_of role.Market path files >>= (λ text. with_text text files)
+
+-- the most calls for a market and the tables that it names
+abbrev pub market_calls : List ℕ → Files → ℕ
+market_calls path files =
+    and_then (file_calls path files) (file_of role.Market path files) (λ text. text_calls text files)

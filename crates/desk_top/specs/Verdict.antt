@@ -14,7 +14,7 @@ use Rattle.session_model.specs.Turn.{Turn}
 use Rattle.desk_top.specs.declared.status.Status.{Status}
 use Rattle.desk_top.specs.declared.status.Status as status
 use Rattle.desk_top.specs.declared.status.FileRole.TheVariants as role
-use Rattle.desk_top.specs.Reading.{Files, file_of, or_script, market_of}
+use Rattle.desk_top.specs.Reading.{Files, file_of, or_script, market_of, file_calls, market_calls, and_then}
 use Rattle.desk_top.specs.Report.{fixings_in, check_line}
 
 -- a script to be run: the names of its session, the evaluation date and the objects of its market, and the script
@@ -59,6 +59,32 @@ with_request (Some request) files = plan_of request files
 -- what is to be done, or the status with which it is refused
 unfoldable pub verdict_of : Files → List (List ℕ) → Result Plan Status
 verdict_of files words = with_request (request_of words) files
+
+-- the most calls of a shelf for a request: the script's file is not looked at where the market is refused
+abbrev pub plan_calls : Request → Files → ℕ
+plan_calls (RunOf market script) files =
+    and_then (market_calls market files) (market_of market files) (λ m. file_calls script files)
+plan_calls (CheckOf market) files = market_calls market files
+
+-- for a request that may be none
+abbrev pub calls_for : Option Request → Files → ℕ
+calls_for None files = 0
+calls_for (Some request) files = plan_calls request files
+
+-- the most calls of a shelf for what words ask for: none where they are no request
+unfoldable pub reading_calls : Files → List (List ℕ) → ℕ
+reading_calls files words = calls_for (request_of words) files
+
+-- the words ask for a check
+abbrev pub IsCheck : Option Request → Type 0
+IsCheck None = ⊥
+IsCheck (Some (RunOf market script)) = ⊥
+IsCheck (Some (CheckOf market)) = Unit {0}
+
+-- the report of a market is to be done
+abbrev pub IsReport : Plan → Type 0
+IsReport (Run run) = ⊥
+IsReport (Check objects fixings) = Unit {0}
 
 abbrev pub status_of : Result Plan Status → Status
 status_of (Ok plan) = status.TheVariants.Done

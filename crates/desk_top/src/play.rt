@@ -1,5 +1,5 @@
 // All commands of a script, in order.
-ghost use Rattle.std.specs.Prelude.{◌≡◌, ◌≤◌, ℕ, false, length, take, All, IfErr, OnOk, IsErrOf};
+ghost use Rattle.std.specs.Prelude.{◌≡◌, ◌≤◌, ℕ, true, false, length, take, All, IfErr, OnOk, IsErrOf};
 ghost use Rattle.desk_edge.specs.Count.{Rose};
 ghost use Rattle.desk_edge.specs.Sink.{appended};
 ghost use Rattle.desk_terms.specs.Bench.{counted, logged};
@@ -73,6 +73,9 @@ fn play_round<K: Sink, B: Bench>(
     ensures next { OnOk result (session.new ≡ (turn (B.calc bench.old) session.old command.now).next) }
     ensures sound { IsSound (B.calc bench.old) session.new.state }
     ensures running { OnOk result (session.new.stopped ≡ false) }
+    // Want of memory is answered only where the session is stopped; a failed write leaves it running.
+    ensures stopped { IsErrOf result Status.NoMemory → session.new.stopped ≡ true }
+    ensures goes_on { IsErrOf result Status.WriteFault → session.new.stopped ≡ false }
     ensures names { OnOk result (session.new.names ≡ session.old.names) }
     ensures actions { OnOk result (session.new.actions ≡ session.old.actions) }
     ensures late { IfErr result IsLate }

@@ -3,8 +3,9 @@ ghost use Rattle.std.specs.Prelude.{◌≡◌, IfOk};
 ghost use Rattle.desk_names.specs.Names.{IsNames};
 ghost use Rattle.market_file.specs.Market.{read_market};
 ghost use Rattle.market_file.specs.Paths.{market_paths};
-ghost use Rattle.desk_top.specs.Found.{read_status, market_status, script_status, seen, Reads, Says, AreWhole, CanRun, market_in, run_in};
-ghost use Rattle.desk_top.specs.Reading.{too_long_of, file_of, table_of, or_market, market_of};
+ghost use Rattle.market_file.specs.Standing.{IsReady};
+ghost use Rattle.desk_top.specs.Found.{read_status, market_status, script_status, seen, Reads, Says, CanRun, market_in, run_in};
+ghost use Rattle.desk_top.specs.Reading.{too_long_of, file_of, file_calls, table_of, table_calls, or_market, market_of, market_calls};
 ghost use Rattle.desk_top.specs.Verdict.{scripted, run_over};
 
 use crate::plan::{Opened, ScriptRun};
@@ -22,10 +23,10 @@ pub(crate) fn open_market<H: Shelf>(
     shelf: &mut H,
     path: &str,
 ) -> Result<Opened, Status>
-    ensures reads { Reads market_in (market_of path.now)
-        (seen (H.contents shelf.old) (H.faults shelf.old) (H.misses shelf.old))
-        (seen (H.contents shelf.new) (H.faults shelf.new) (H.misses shelf.new)) result }
-    ensures whole { IfOk result (λ market. AreWhole market.names market.made.items) }
+    ensures reads { Reads market_in (market_of path.now) (market_calls path.now)
+        (seen (H.contents shelf.old) (H.faults shelf.old) (H.misses shelf.old) (H.calls shelf.old))
+        (seen (H.contents shelf.new) (H.faults shelf.new) (H.misses shelf.new) (H.calls shelf.new)) result }
+    ensures ready { IfOk result (λ market. IsReady market.names market.made.items) }
 {
     let text = read_file(alloc, shelf, path, FileRole::Market)?;
     let paths = paths_of(alloc, &text)?;
@@ -41,10 +42,10 @@ pub(crate) fn open_script<H: Shelf>(
     market: Opened,
     path: &str,
 ) -> Result<ScriptRun, Status>
-    requires whole { AreWhole market.names market.made.items }
-    ensures reads { Reads run_in (run_over (market_in market) path.now)
-        (seen (H.contents shelf.old) (H.faults shelf.old) (H.misses shelf.old))
-        (seen (H.contents shelf.new) (H.faults shelf.new) (H.misses shelf.new)) result }
+    requires ready { IsReady market.names market.made.items }
+    ensures reads { Reads run_in (run_over (market_in market) path.now) (file_calls path.now)
+        (seen (H.contents shelf.old) (H.faults shelf.old) (H.misses shelf.old) (H.calls shelf.old))
+        (seen (H.contents shelf.new) (H.faults shelf.new) (H.misses shelf.new) (H.calls shelf.new)) result }
     ensures whole { IfOk result CanRun }
 {
     let text = read_file(alloc, shelf, path, FileRole::Script)?;
@@ -58,9 +59,9 @@ fn read_file<H: Shelf>(
     path: &str,
     role: FileRole,
 ) -> Result<Vec<u8>, Status>
-    ensures { Reads (λ text. text.items) (file_of role path.now)
-        (seen (H.contents shelf.old) (H.faults shelf.old) (H.misses shelf.old))
-        (seen (H.contents shelf.new) (H.faults shelf.new) (H.misses shelf.new)) result }
+    ensures { Reads (λ text. text.items) (file_of role path.now) (file_calls path.now)
+        (seen (H.contents shelf.old) (H.faults shelf.old) (H.misses shelf.old) (H.calls shelf.old))
+        (seen (H.contents shelf.new) (H.faults shelf.new) (H.misses shelf.new) (H.calls shelf.new)) result }
 {
     let mut text = Vec::new(alloc);
     match read_whole(shelf, path, &mut text) {
@@ -77,9 +78,9 @@ fn read_table<H: Shelf>(
     path: &Option<PathText>,
     role: FileRole,
 ) -> Result<Vec<u8>, Status>
-    ensures { Reads (λ text. text.items) (table_of role path.now)
-        (seen (H.contents shelf.old) (H.faults shelf.old) (H.misses shelf.old))
-        (seen (H.contents shelf.new) (H.faults shelf.new) (H.misses shelf.new)) result }
+    ensures { Reads (λ text. text.items) (table_of role path.now) (table_calls path.now)
+        (seen (H.contents shelf.old) (H.faults shelf.old) (H.misses shelf.old) (H.calls shelf.old))
+        (seen (H.contents shelf.new) (H.faults shelf.new) (H.misses shelf.new) (H.calls shelf.new)) result }
 {
     match path {
         Some(path) => read_file(alloc, shelf, path.text(), role),
@@ -123,7 +124,7 @@ fn paths_of(alloc: Global, text: &[u8]) -> Result<Paths, Status>
 // The market of a text and of the tables that it names.
 fn opened(alloc: Global, text: &[u8], quotes: &[u8], fixings: &[u8]) -> Result<Opened, Status>
     ensures says { Says market_in result (or_market (read_market text.now quotes.now fixings.now)) }
-    ensures whole { IfOk result (λ market. AreWhole market.names market.made.items) }
+    ensures ready { IfOk result (λ market. IsReady market.names market.made.items) }
 {
     let mut names = Names::new(alloc);
     match read_market(alloc, text, quotes, fixings, &mut names) {
@@ -152,7 +153,7 @@ fn market_status(fault: MarketFault) -> Status
 
 // The script of a text, over a market.
 fn scripted(alloc: Global, mut market: Opened, text: &[u8]) -> Result<ScriptRun, Status>
-    requires whole { AreWhole market.names market.made.items }
+    requires ready { IsReady market.names market.made.items }
     ensures says { Says run_in result (scripted (market_in market) text.now) }
     ensures whole { IfOk result CanRun }
 {

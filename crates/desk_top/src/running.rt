@@ -1,5 +1,5 @@
 // The top call.
-ghost use Rattle.std.specs.Prelude.{◌≡◌, ◌⊎◌, ◌↔◌, Ok, length, map, None, IfSome, IfOk, IfErr, IsErrOf, OnOk};
+ghost use Rattle.std.specs.Prelude.{◌≡◌, ◌⊎◌, ◌↔◌, ◌+◌, ◌≤◌, Ok, length, map, Some, None, IfSome, IfOk, IfErr, IsErrOf, OnOk};
 ghost use Rattle.std.specs.String.{string_bytes};
 ghost use Rattle.desk_edge.specs.Count.{Rose};
 ghost use Rattle.desk_edge.specs.Shelf.{files_of};
@@ -8,7 +8,7 @@ ghost use Rattle.desk_top.specs.declared.status.FileRole.{FileRole};
 ghost use Rattle.desk_top.specs.Found.{IsBefore, CanRun, CanDo, Tells, Reads, seen, run_in, plan_in};
 ghost use Rattle.desk_top.specs.Early.{outside, IsCut, IsHalted};
 ghost use Rattle.desk_top.specs.Run.{IsOutside, IsEarly, IsLate, IsAccepted, IsQuiet, Writes, ended};
-ghost use Rattle.desk_top.specs.Verdict.{Plan as Wanted, Run as RunWanted, plan_of, verdict_of, status_of, output_in, output_of, computed_in, computed_by, rounds_in, rounds_of};
+ghost use Rattle.desk_top.specs.Verdict.{Plan as Wanted, Run as RunWanted, IsCheck, IsReport, plan_of, plan_calls, reading_calls, verdict_of, status_of, output_in, output_of, computed_in, computed_by, rounds_in, rounds_of};
 ghost use Rattle.desk_words.specs.Answers.{request_in};
 ghost use Rattle.desk_words.specs.Words.{request_of};
 
@@ -54,7 +54,8 @@ pub fn run<H: Shelf, K: Sink, B: Bench>(
     ensures accepted { IfSome (files_of (H.contents shelf.old)) (λ files.
         result ≡ Status.WriteFault → IsAccepted (verdict_of files (map string_bytes words.now))) }
 
-    // Where it ends early the lines of whole rounds were written and a part of the next one's, for files told or not.
+    // Where it ends early the lines of whole rounds were written and a part of the next one's: of a failed write this is
+    // said for files told or not.
     ensures cut { IfSome (files_of (H.contents shelf.old)) (λ files. result ≡ Status.WriteFault
         → IsCut (rounds_of (B.calc bench.old) (verdict_of files (map string_bytes words.now)))
         (outside (K.bytes out.old) (B.count bench.old) (B.log bench.old)) (outside (K.bytes out.new) (B.count bench.new) (B.log bench.new))) }
@@ -64,7 +65,7 @@ pub fn run<H: Shelf, K: Sink, B: Bench>(
     ensures untold { result ≡ Status.WriteFault → (plan : Wanted)
         × IsCut (rounds_of (B.calc bench.old) (Ok plan))
         (outside (K.bytes out.old) (B.count bench.old) (B.log bench.old)) (outside (K.bytes out.new) (B.count bench.new) (B.log bench.new)) }
-    ensures nothing { IsEarly result → K.bytes out.new ≡ K.bytes out.old }
+    ensures nothing { IsEarly result → out.new ≡ out.old }
 
     // At Done the bench was called for the computations of the transcript, in their order, and for no other.
     ensures count { IfSome (files_of (H.contents shelf.old)) (λ files. result ≡ Status.Done
@@ -72,6 +73,7 @@ pub fn run<H: Shelf, K: Sink, B: Bench>(
     ensures log { IfSome (files_of (H.contents shelf.old)) (λ files. result ≡ Status.Done
         → B.log bench.new ≡ logged (B.log bench.old) (computed_by (B.calc bench.old) (verdict_of files (map string_bytes words.now)))) }
     ensures alone { IsEarly result → bench.new ≡ bench.old }
+    ensures checked { IsCheck (request_of (map string_bytes words.now)) → bench.new ≡ bench.old }
     ensures same { B.calc bench.new ≡ B.calc bench.old }
 
     // Each fault was counted.
@@ -79,6 +81,10 @@ pub fn run<H: Shelf, K: Sink, B: Bench>(
     ensures write { result ≡ Status.WriteFault → Rose (K.faults out.old) (K.faults out.new) }
     ensures absent { (role : FileRole) → result ≡ Status.Absent role → Rose (H.misses shelf.old) (H.misses shelf.new) }
     ensures files { files_of (H.contents shelf.new) ≡ files_of (H.contents shelf.old) }
+
+    // Each file is read once, in the order above, and none behind the first failure.
+    ensures calls { IfSome (files_of (H.contents shelf.old)) (λ files.
+        H.calls shelf.new ≤ H.calls shelf.old + reading_calls files (map string_bytes words.now)) }
 {
     let plan = match plan_of(alloc, words, shelf) {
         Ok(plan) => plan,
@@ -94,9 +100,12 @@ pub fn run<H: Shelf, K: Sink, B: Bench>(
 fn plan_of<H: Shelf>(alloc: Global, words: &[String], shelf: &mut H) -> Result<Plan, Status>
     ensures plans { IfSome (files_of (H.contents shelf.old)) (λ files. Tells plan_in result (verdict_of files (map string_bytes words.now))) }
     ensures usage { IsErrOf result Status.Usage ↔ (request_of (map string_bytes words.now) ≡ None) }
+    ensures checked { IsCheck (request_of (map string_bytes words.now)) → IfOk result (λ plan. IsReport (plan_in plan)) }
     ensures can { IfOk result CanDo }
     ensures before { IfErr result IsBefore }
     ensures files { files_of (H.contents shelf.new) ≡ files_of (H.contents shelf.old) }
+    ensures calls { IfSome (files_of (H.contents shelf.old)) (λ files.
+        H.calls shelf.new ≤ H.calls shelf.old + reading_calls files (map string_bytes words.now)) }
     ensures read { IsErrOf result Status.ReadFault → Rose (H.faults shelf.old) (H.faults shelf.new) }
     ensures absent { (role : FileRole) → IsErrOf result (Status.Absent role) → Rose (H.misses shelf.old) (H.misses shelf.new) }
 {
@@ -109,9 +118,10 @@ fn plan_of<H: Shelf>(alloc: Global, words: &[String], shelf: &mut H) -> Result<P
 
 // What a request asks for, over the files.
 fn plan_for<H: Shelf>(alloc: Global, request: &Request, shelf: &mut H) -> Result<Plan, Status>
-    ensures reads { Reads plan_in (plan_of (request_in request.now))
-        (seen (H.contents shelf.old) (H.faults shelf.old) (H.misses shelf.old))
-        (seen (H.contents shelf.new) (H.faults shelf.new) (H.misses shelf.new)) result }
+    ensures reads { Reads plan_in (plan_of (request_in request.now)) (plan_calls (request_in request.now))
+        (seen (H.contents shelf.old) (H.faults shelf.old) (H.misses shelf.old) (H.calls shelf.old))
+        (seen (H.contents shelf.new) (H.faults shelf.new) (H.misses shelf.new) (H.calls shelf.new)) result }
+    ensures checked { IsCheck (Some (request_in request.now)) → IfOk result (λ plan. IsReport (plan_in plan)) }
     ensures can { IfOk result CanDo }
 {
     match request {
@@ -142,6 +152,7 @@ fn carry_out<K: Sink, B: Bench>(
         (outside (K.bytes out.old) (B.count bench.old) (B.log bench.old)) (outside (K.bytes out.new) (B.count bench.new) (B.log bench.new)) }
     ensures halted { IsErrOf result Status.NoMemory → IsHalted (rounds_in (B.calc bench.old) (plan_in plan))
         (outside (K.bytes out.old) (B.count bench.old) (B.log bench.old)) (outside (K.bytes out.new) (B.count bench.new) (B.log bench.new)) }
+    ensures checked { IsReport (plan_in plan) → bench.new ≡ bench.old }
     ensures same { B.calc bench.new ≡ B.calc bench.old }
     ensures late { IfErr result IsLate }
     ensures write { IsErrOf result Status.WriteFault → Rose (K.faults out.old) (K.faults out.new) }

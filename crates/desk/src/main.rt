@@ -1,11 +1,11 @@
-//! The program `desk`: it runs a session script over a market file and writes the transcript on standard output.
+//! The program `desk`: it runs a session script over a market file and writes the transcript on standard output, or
+//! checks a market file.
 //!
-//! `desk run MARKET SCRIPT`. What it does is `desk_top::run`.
+//! `desk run MARKET SCRIPT`, `desk check MARKET`. What it does is `desk_top::run`.
 #![tactic(auto)]
 
-use desk_process::run_process;
-use std::process::ExitCode;
+use desk_process::{Ended, run_process};
 
-fn main(rt: HostRuntime) -> ExitCode {
+fn main(rt: HostRuntime) -> Ended {
     run_process(&rt)
 }

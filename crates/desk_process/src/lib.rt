@@ -1,24 +1,53 @@
 //! What the program does: the system's files, standard output and the words of the command line, handed to
-//! `desk_top::run`.
+//! `desk_top::run`, and how the program ends.
 //!
-//! `run_process`.
+//! `run_process`, `Ended`.
 #![tactic(auto)]
+
+ghost use Rattle.std.specs.Prelude.{◌≡◌};
+ghost use Rattle.std.specs.Process.{exit_status};
+ghost use Rattle.desk_top.specs.Status.{code_of};
 
 use desk_bench::DeskBench;
 use desk_edge::{FileShelf, OutSink};
 use desk_top::{Status, run};
-use std::process::ExitCode;
+use std::io::Eprint;
+use std::marker::Model;
+use std::process::{ExitCode, Termination};
 use std::{env, io};
 
-/// Runs what the command line asks for, and answers the exit status. The line of a status that is not Done goes to
-/// standard error.
-pub fn run_process(rt: &HostRuntime) -> ExitCode {
-    let status = carry_out(rt);
-    if status != Status::Done {
-        // Where standard error cannot be written, the exit status tells all the same.
-        let _ = eprintln!(rt; "{status}");
+/// How the program ended. A `main` that returns it ends with the exit status of that status, and writes the line of a
+/// status that is not Done to standard error. Contracts see the status.
+#[derive(Drop)]
+pub struct Ended {
+    status: Status,
+}
+
+impl Model for Ended {
+    ghost use Rattle.desk_top.specs.declared.status.Status.{Status};
+
+    ghost Value = { Status };
+
+    ghost view = { λ e. e.status };
+}
+
+impl Termination for Ended {
+    fn report<R: Eprint>(self, rt: &R) -> ExitCode
+        ensures { exit_status result ≡ code_of self }
+    {
+        if self.status != Status::Done {
+            // Where standard error cannot be written, the exit status tells all the same.
+            let _ = rt.eprintln(self.status);
+        }
+        ExitCode::from(self.status.code())
     }
-    ExitCode::from(status.code())
+}
+
+/// Runs what the command line asks for, and answers how that ended.
+pub fn run_process(rt: &HostRuntime) -> Ended {
+    Ended {
+        status: carry_out(rt),
+    }
 }
 
 // Runs what the command line asks for. Words that are no text ask for nothing.

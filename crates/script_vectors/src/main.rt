@@ -18,13 +18,13 @@ pub(crate) const MARKET: &[u8] = b"version = 1\ntoday = \"2024-01-02\"\n";
 // The most bytes that a case may write.
 const ROOM: usize = 100_000;
 
-// `scripts` has scripts of which no command is refused, `refused` those with refused commands or a fault, `faults` those
-// that have a fault, `unset` those that take values away from quotes, `graphs` those of composites and derived quotes, and
-// `handles` those of all commands that are built, 200 of them with links, cycles, drops of linked targets and names made
-// again. `examples` has the folders of the repository's examples, `markets` and `desk` markets with scripts over them, `market_faults`
-// those that have a fault, and `market_files` files that are not there, and words. `freezing` has scripts with freezing,
-// recalculation and notices that are held back, `deferral` those that relink and drop under deferral, and `frozen_markets`
-// the same over markets.
+// `scripts` has scripts of which no command is refused, `refused` those with refused commands or a fault, `faults`
+// those that have a fault, `unset` those that take values away from quotes, `graphs` those of composites and derived
+// quotes, and `handles` those of all commands that are built, 200 of them with links, cycles, drops of linked targets
+// and names made again. `examples` has the folders of the repository's examples, `markets` and `desk` markets with
+// scripts over them, `market_faults` those that have a fault, and `market_files` files that are not there or too long,
+// and words. `freezing` has scripts with freezing, recalculation and notices that are held back, `deferral` those that
+// relink and drop under deferral, and `frozen_markets` the same over markets.
 fn main(rt: HostRuntime) -> io::Result<()> {
     compare(&rt, "scripts")?;
     compare(&rt, "refused")?;

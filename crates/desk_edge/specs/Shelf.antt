@@ -2,6 +2,7 @@
 use Rattle.std.specs.Prelude.{◌≡◌, ◌+◌, ◌<◌, ℕ, Bool, true, false, List, [], ◌∷◌, ◌++◌, length, take, drop, unwrap_or, if◌then◌else◌, Option, None, Some, Result, Ok, Err}
 use Rattle.std.specs.Option.{option_map}
 use Rattle.std.specs.Str.{bytes_eq}
+use Rattle.desk_edge.specs.Count.{raised}
 use Rattle.desk_edge.specs.declared.reading.ReadFault.{ReadFault}
 use Rattle.desk_edge.specs.declared.reading.ReadFault.TheVariants.{Failed, TooLong, NoMemory}
 
@@ -61,3 +62,10 @@ Leaves path (Ok found) c = c.rest ≡ []
 Leaves path (Err TooLong) c = c.rest ≡ drop (most_bytes + 1) (bytes_at c.files path)
 Leaves path (Err Failed) c = Unit {0}
 Leaves path (Err NoMemory) c = Unit {0}
+
+-- the count of faults after a whole read, or a step of one: a call that failed is its answer, and is counted once
+abbrev pub faults_after : {T : Type 0} → Result T ReadFault → ℕ → ℕ
+faults_after (Ok found) faults = faults
+faults_after (Err Failed) faults = raised faults
+faults_after (Err TooLong) faults = faults
+faults_after (Err NoMemory) faults = faults

@@ -112,7 +112,8 @@ impl<R: Files + Drop> Shelf for FileShelf<R> {
     fn find(&mut self, path: &str) -> Result<bool, Failed>
         ensures found { IsFound result self.old self.new }
         ensures missed { IfOk result (λ found. found ≡ false → Rose self.old.misses self.new.misses) }
-        ensures failed { OnErr result (Rose self.old.faults self.new.faults) }
+        ensures quiet { IfOk result (λ _. self.new.faults ≡ self.old.faults) }
+        ensures failed { OnErr result (self.new.faults ≡ raised self.old.faults) }
         ensures faults { self.old.faults ≤ self.new.faults }
         ensures misses { self.old.misses ≤ self.new.misses }
     {
@@ -126,7 +127,7 @@ impl<R: Files + Drop> Shelf for FileShelf<R> {
         ensures none { self.old.begun ≡ None → (result ≡ Ok 0) × (self.new ≡ self.old) }
         ensures bytes { IfSome self.old.begun (λ old. IfSome self.new.begun (λ new. ReadConsumes old new result buf.new)) }
         ensures quiet { IfOk result (λ _. self.new.faults ≡ self.old.faults) }
-        ensures failed { OnErr result (Rose self.old.faults self.new.faults) }
+        ensures failed { OnErr result (self.new.faults ≡ raised self.old.faults) }
         ensures faults { self.old.faults ≤ self.new.faults }
         ensures misses { self.old.misses ≤ self.new.misses }
     {

@@ -3,7 +3,7 @@ ghost use Rattle.std.specs.Prelude.{◌≡◌, ◌⊎◌, ◌+◌, ◌-◌, ◌<
 ghost use Rattle.std.specs.Option.{option_map};
 ghost use Rattle.desk_edge.specs.Count.{Rose};
 ghost use Rattle.desk_edge.specs.declared.reading.ReadFault.TheVariants.{Failed as ReadFailed, NoMemory};
-ghost use Rattle.desk_edge.specs.Shelf.{bytes_at, files_of, passed, put_back, Took, IsFront, Reads, Leaves};
+ghost use Rattle.desk_edge.specs.Shelf.{file_at, bytes_at, files_of, faults_after, passed, put_back, Took, IsFront, Reads, Leaves};
 
 use crate::{Failed, Shelf};
 use std::alloc::AllocError;
@@ -60,6 +60,9 @@ pub fn read_whole<H: Shelf>(shelf: &mut H, path: &str, out: &mut Vec<u8>) -> Res
     // On every exit: beside find and the last call each call took a byte that stands in out.
     ensures calls { H.calls shelf.new ≤ H.calls shelf.old + length out.new.items + 2 }
     ensures once { result ≡ Ok false → H.calls shelf.new ≤ H.calls shelf.old + 1 }
+    // On every exit: a file that is not there was looked for once.
+    ensures absent { IfSome (H.contents shelf.old) (λ c. file_at c.files path.now ≡ None
+        → H.calls shelf.new ≤ H.calls shelf.old + 1) }
     ensures stops { IsErrOf result ReadFault.Failed → (H.contents shelf.new ≡ H.contents shelf.old)
         ⊎ Took (length out.new.items) path.now (H.contents shelf.old) (H.contents shelf.new) }
     // Want of memory is answered only where bytes were taken that found no room, at most MOST in all.
@@ -71,6 +74,8 @@ pub fn read_whole<H: Shelf>(shelf: &mut H, path: &str, out: &mut Vec<u8>) -> Res
     ensures nothing { result ≡ Ok false → out.new.items ≡ [] }
     ensures missed { result ≡ Ok false → Rose (H.misses shelf.old) (H.misses shelf.new) }
     ensures failed { IsErrOf result ReadFault.Failed → Rose (H.faults shelf.old) (H.faults shelf.new) }
+    // A call that failed was the last, and only then Failed is the answer.
+    ensures counted { H.faults shelf.new ≡ faults_after result (H.faults shelf.old) }
     ensures faults { H.faults shelf.old ≤ H.faults shelf.new }
     ensures misses { H.misses shelf.old ≤ H.misses shelf.new }
 {
@@ -102,6 +107,8 @@ fn read_begun<H: Shelf>(shelf: &mut H, out: &mut Vec<u8>) -> Result<(), ReadFaul
     ensures most { length out.new.items ≤ MOST }
     ensures calls { H.calls shelf.new ≤ H.calls shelf.old + length out.new.items + 1 }
     ensures failed { IsErrOf result ReadFault.Failed → Rose (H.faults shelf.old) (H.faults shelf.new) }
+    // A call that failed was the last, and only then Failed is the answer.
+    ensures counted { H.faults shelf.new ≡ faults_after result (H.faults shelf.old) }
     ensures faults { H.faults shelf.old ≤ H.faults shelf.new }
     ensures misses { H.misses shelf.old ≤ H.misses shelf.new }
 {
@@ -136,6 +143,8 @@ fn take_more<H: Shelf>(shelf: &mut H, buf: &mut [u8], out: &mut Vec<u8>) -> Resu
     ensures grows { length out.old.items ≤ length out.new.items }
     ensures calls { H.calls shelf.new ≤ H.calls shelf.old + 1 }
     ensures failed { IsErrOf result ReadFault.Failed → Rose (H.faults shelf.old) (H.faults shelf.new) }
+    // A call that failed was the last, and only then Failed is the answer.
+    ensures counted { H.faults shelf.new ≡ faults_after result (H.faults shelf.old) }
     ensures faults { H.faults shelf.old ≤ H.faults shelf.new }
     ensures misses { H.misses shelf.old ≤ H.misses shelf.new }
 {

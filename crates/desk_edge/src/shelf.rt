@@ -1,7 +1,7 @@
 // A shelf of files: one file at a time is begun and taken from its first byte on.
 ghost use Rattle.std.specs.Prelude.{◌≡◌, ◌+◌, ◌<◌, ◌≤◌, ◌↔◌, ℕ, Option, false, [], length, take, is_some, IfOk, IfSome, OnOk, OnErr};
 ghost use Rattle.std.specs.Option.{option_map};
-ghost use Rattle.desk_edge.specs.Count.{Rose};
+ghost use Rattle.desk_edge.specs.Count.{Rose, raised};
 ghost use Rattle.desk_edge.specs.Shelf.{Contents, file_at, files_of, begun, passed};
 
 use thiserror::Error;
@@ -33,7 +33,8 @@ pub trait Shelf {
         ensures found { IfOk result (λ found. IfSome (contents self.old)
             (λ c. found ≡ is_some (file_at c.files path.now))) }
         ensures missed { IfOk result (λ found. found ≡ false → Rose (misses self.old) (misses self.new)) }
-        ensures failed { OnErr result (Rose (faults self.old) (faults self.new)) }
+        ensures quiet { IfOk result (λ _. faults self.new ≡ faults self.old) }
+        ensures failed { OnErr result (faults self.new ≡ raised (faults self.old)) }
         ensures faults { faults self.old ≤ faults self.new }
         ensures misses { misses self.old ≤ misses self.new }
         ensures counted { calls self.new ≤ calls self.old + 1 };
@@ -50,7 +51,8 @@ pub trait Shelf {
             (λ c. take count buf.new ≡ take count c.rest)) }
         ensures end { IfOk result (λ count. IfSome (contents self.old)
             (λ c. (count ≡ 0) ↔ (c.rest ≡ []))) }
-        ensures failed { OnErr result (Rose (faults self.old) (faults self.new)) }
+        ensures quiet { IfOk result (λ _. faults self.new ≡ faults self.old) }
+        ensures failed { OnErr result (faults self.new ≡ raised (faults self.old)) }
         ensures faults { faults self.old ≤ faults self.new }
         ensures misses { misses self.old ≤ misses self.new }
         ensures counted { calls self.new ≤ calls self.old + 1 };

@@ -1,6 +1,6 @@
 // A sink of bytes, which takes them in order.
 ghost use Rattle.std.specs.Prelude.{◌≡◌, ◌≤◌, ℕ, List, Option, [], length, take, IfOk, OnErr};
-ghost use Rattle.desk_edge.specs.Count.{Rose};
+ghost use Rattle.desk_edge.specs.Count.{raised};
 ghost use Rattle.desk_edge.specs.Sink.{appended};
 
 use crate::Failed;
@@ -21,6 +21,6 @@ pub trait Sink {
             bytes self.new ≡ appended (take count piece.now) (bytes self.old)) }
         ensures same { OnErr result (bytes self.new ≡ bytes self.old) }
         ensures quiet { IfOk result (λ _. faults self.new ≡ faults self.old) }
-        ensures failed { OnErr result (Rose (faults self.old) (faults self.new)) }
+        ensures failed { OnErr result (faults self.new ≡ raised (faults self.old)) }
         ensures faults { faults self.old ≤ faults self.new };
 }

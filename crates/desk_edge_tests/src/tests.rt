@@ -54,6 +54,56 @@ fn the_systems_files_are_read(rt: HostRuntime) -> Result<(), Fail> {
     Ok(())
 }
 
+// A shelf that loses the first byte behind an open is refused here.
+#[test]
+fn a_file_is_taken_from_its_first_byte(rt: HostRuntime) -> Result<(), Fail> {
+    const PATH: &str = "desk_edge_first_byte_test";
+    fs::write(&rt, PATH, TEXT)?;
+    let mut shelf = FileShelf::new(rt.clone()?);
+    let mut buf = [0u8; 1];
+    // Begun again, it is taken from its first byte again.
+    for _ in 0..2 {
+        assert_eq!(rt; shelf.find(PATH), Ok(true));
+        for byte in &TEXT[..3] {
+            assert_eq!(rt; shelf.take(&mut buf), Ok(1));
+            assert_eq!(rt; buf[0], *byte);
+        }
+    }
+    fs::remove_file(&rt, PATH)?;
+    Ok(())
+}
+
+// A shelf that opens another path for one of these names is refused here: they are those that files of a session have.
+#[test]
+fn each_path_has_its_own_file(rt: HostRuntime) -> Result<(), Fail> {
+    const PATHS: [&str; 10] = [
+        "market",
+        "script",
+        "quotes",
+        "fixings",
+        "market.toml",
+        "script.txt",
+        "quotes.csv",
+        "fixings.csv",
+        "m",
+        "s",
+    ];
+    let alloc = rt.alloc();
+    for path in &PATHS {
+        fs::write(&rt, path, path.as_bytes())?;
+    }
+    let mut shelf = FileShelf::new(rt.clone()?);
+    for path in &PATHS {
+        let mut out = Vec::new(alloc);
+        assert_eq!(rt; read_whole(&mut shelf, path, &mut out), Ok(true), "{path}");
+        assert_eq!(rt; out.as_slice(), path.as_bytes(), "{path}");
+    }
+    for path in &PATHS {
+        fs::remove_file(&rt, path)?;
+    }
+    Ok(())
+}
+
 #[test]
 fn a_writer_takes_the_bytes(rt: HostRuntime) -> Result<(), Fail> {
     let mut taken = Vec::new(rt.alloc());
@@ -84,6 +134,7 @@ impl Write for Stuck {
     }
 }
 
+// A sink that hands no piece on, and so sees no fault of its flush, is refused here.
 #[test]
 fn a_piece_that_is_not_handed_on_is_a_fault(rt: HostRuntime) {
     let mut sink = OutSink::new(Stuck);

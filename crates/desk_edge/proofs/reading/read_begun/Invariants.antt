@@ -8,7 +8,7 @@ invariant-loop g l = record {
   piece : length l.buf ≤ 4096;
   kept : put_back l.out.items (g.H.Shelf.contents l.shelf) ≡ g.H.Shelf.contents l.initial.shelf;
   calls : g.H.Shelf.calls l.shelf ≤ g.H.Shelf.calls l.initial.shelf + length l.out.items;
-  faults : g.H.Shelf.faults l.initial.shelf ≤ g.H.Shelf.faults l.shelf;
+  faults : g.H.Shelf.faults l.shelf ≡ g.H.Shelf.faults l.initial.shelf;
   misses : g.H.Shelf.misses l.initial.shelf ≤ g.H.Shelf.misses l.shelf;
 }
 

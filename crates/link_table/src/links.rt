@@ -1,5 +1,5 @@
 // The targets of holders.
-ghost use Rattle.std.specs.Prelude.{◌≡◌, ◌↔◌, ℕ, None, Some, ◌<◌, length, IsTrue, IfOk, OnOk, OnErr};
+ghost use Rattle.std.specs.Prelude.{◌≡◌, ◌↔◌, ◌⊎◌, ℕ, None, Some, ◌<◌, length, IsOk, IsTrue, IfOk, OnOk, OnErr};
 ghost use Rattle.observer_graph.specs.GraphView.{GraphView, IsLive, IsPair};
 ghost use Rattle.link_table.specs.Links.{ChangesAt, Fits, FitsBut, IsHolder, Relinks, link_at, target_at};
 
@@ -56,7 +56,8 @@ impl Links {
     }
 
     /// The holder has this target, or none; whether that is a change. In the graph the holder's pair with the old
-    /// target goes and its pair with the new one comes. After want of memory both are as they were.
+    /// target goes and its pair with the new one comes. After want of memory both are as they were. No target, and the one that it has, want
+    /// no memory.
     pub fn relink(
         &mut self,
         graph: &mut Graph,
@@ -72,6 +73,7 @@ impl Links {
         ensures changed { IfOk result (λ changed. IsTrue changed ↔ (target_at self.old holder ≡ target → ⊥)) }
         ensures ok { OnOk result (ChangesAt self.old self.new holder (Some (record { target = target }))) }
         ensures pairs { OnOk result (Relinks graph.old graph.new holder (target_at self.old holder) target) }
+        ensures ready { (target ≡ None) ⊎ (target_at self.old holder ≡ target) → IsOk result }
         ensures err { OnErr result (self.new ≡ self.old) }
         ensures graph_err { OnErr result (graph.new ≡ graph.old) }
         ensures fit { Fits self.new graph.new }

@@ -1,5 +1,5 @@
 // The pair of a holder and its target, if it has one.
-ghost use Rattle.std.specs.Prelude.{◌≡◌, ◌↔◌, ◌⊎◌, ℕ, Some, OnOk, OnErr};
+ghost use Rattle.std.specs.Prelude.{◌≡◌, ◌↔◌, ◌⊎◌, ℕ, None, Some, IsOk, OnOk, OnErr};
 ghost use Rattle.observer_graph.specs.GraphView.{IsLive, IsPair};
 ghost use Rattle.link_table.specs.Links.{Leaves, Joins};
 
@@ -17,6 +17,7 @@ pub fn watch_target(
     requires target { (t : ℕ) → target ≡ Some t → IsLive graph.old t }
     requires new { (t : ℕ) → target ≡ Some t → IsPair graph.old t holder → ⊥ }
     ensures ok { OnOk result (Joins graph.old graph.new holder target) }
+    ensures ready { target ≡ None → IsOk result }
     ensures err { OnErr result (graph.new ≡ graph.old) }
 {
     match target {

@@ -69,6 +69,14 @@ bond_plan cal = record {
   last = None;
 }
 
+-- the days of an unadjusted schedule: 2024-02-29, a Sunday, 2024-03-31, and 2024-04-30
+abbrev pub month_ends : List ℤ
+month_ends = pos 19_782 ∷ pos 19_813 ∷ pos 19_843 ∷ []
+
+-- interest at the index's rate of 2024-02-21 and a spread, on a notional
+abbrev pub spread_flow : ℤ → ℤ → FlowTerm
+spread_flow notional spread = Float (pos 19_824) notional spread (pos 222_650) (pos 19_774)
+
 -- a flow as it is paid
 abbrev pub paid : ℤ → ℤ → Flow
 paid day amount = record { paid = day; amount = amount }
@@ -88,8 +96,8 @@ stored_late = record plain_index { fixings = (pos 84_004, pos 0) ∷ [] }
 abbrev pub target_index : ℕ → IndexTerms
 target_index days = record fifty_days { cal = One Target; fixing_days = days }
 
--- the days are 2024-01-02 (19,724), 2024-02-21 (19,774), 2024-03-28 to 2024-04-03 (19,810 to 19,816),
--- 2024-04-11 (19,824), 2025-01-06 (20,094), 2026-01-05 (20,458) and 2199-12-31 (84,005)
+-- the days are 2024-01-02 (19,724), 2024-02-21 (19,774), 2024-02-27 (19,780), 2024-03-27 to 2024-04-03 (19,809 to 19,816),
+-- 2024-04-11 (19,824), 2024-04-30 (19,843), 2025-01-06 (20,094), 2026-01-05 (20,458) and 2199-12-31 (84,005)
 pub record AreWorked : Type 0 where
   pub fixed : each_period (fixed_flow every_day (neg_ℤ million) (pos 30_000_000) Act360) fifty_day_period
       ≡ Some paid_leg
@@ -113,3 +121,14 @@ pub record AreWorked : Type 0 where
   pub fixing_first : amount_of (Some plain_index) (pos 84_005) None 7 too_late ≡ Err (NoFixing 2 (pos 84_004))
   pub then_period : amount_of (Some stored_late) (pos 84_005) None 7 too_late ≡ Err (DateRange 2)
   pub no_divisor : settlement 7 million (pos 0) (pos 222_650) (neg_ℤ (pos 10_000_000_000)) ≡ Err (TooLarge 7)
+  pub paid_after_a_holiday : each_period (fixed_flow target million (pos 40_000_000) Act360) month_ends
+      ≡ Some (Known (pos 19_815) (pos 3_444_444_444) ∷ Known (pos 19_843) (pos 3_333_333_333) ∷ [])
+  pub floating_after_a_holiday : each_period (float_flow target million (pos 10_000_000) Act360 (target_index 2)) month_ends
+      ≡ Some (Float (pos 19_815) million (pos 10_000_000) (pos 138_043) (pos 19_780)
+      ∷ Float (pos 19_843) million (pos 10_000_000) (pos 133_590) (pos 19_809) ∷ [])
+  pub spread_added : amount_of (Some plain_index) (pos 19_724) (Some one_node) 7 (spread_flow million (pos 10_000_000))
+      ≡ Ok (pos 6_388_888_889)
+  pub spread_taken : amount_of (Some plain_index) (pos 19_724) (Some one_node) 7 (spread_flow million (neg_ℤ (pos 10_000_000)))
+      ≡ Ok (pos 3_611_111_111)
+  pub spread_paid : amount_of (Some plain_index) (pos 19_724) (Some one_node) 7 (spread_flow (neg_ℤ million) (pos 10_000_000))
+      ≡ Ok (neg_ℤ (pos 6_388_888_889))

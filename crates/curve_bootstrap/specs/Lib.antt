@@ -3,3 +3,4 @@ pub mod Node
 pub mod Split
 pub mod Built
 pub mod Laws
+pub mod Examples

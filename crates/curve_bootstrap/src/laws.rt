@@ -1,4 +1,5 @@
 // Laws of the definitions, each the clause of a function with nothing to do.
+ghost use Rattle.curve_bootstrap.specs.Examples.{AreWorked};
 ghost use Rattle.curve_bootstrap.specs.Laws.{NodesAreLeast, ExcessRises, TrialIsTheDiscount};
 
 /// Law: a node's factor is one at which its helper is worth 1 or more, from 1 unit to 4 * 10^12, and at each lower one
@@ -16,4 +17,9 @@ pub fn excess_rises_law()
 /// Law: the factor at a day that a node is tried with is the discount factor of the curve so far with that node added.
 pub fn trial_law()
     ensures { TrialIsTheDiscount }
+{}
+
+// The definitions give what a hand works out.
+fn curves_are_worked_through()
+    ensures { AreWorked }
 {}

@@ -91,7 +91,17 @@ late = Known (pos 19_825) (pos 1)
 abbrev pub unfixed : ℤ → FlowTerm
 unfixed paid = Float paid million (pos 0) (pos 222_650) (pos 19_723)
 
--- the days are 2024-01-02 (19,724), 2024-02-21 (19,774), 2024-03-01 (19,783), 2024-04-11 (19,824) and 2024-06-09 (19,883)
+-- interest at the index's rate of 2024-02-21 and a spread
+abbrev pub spread_flow : ℤ → List FlowTerm
+spread_flow spread = Float (pos 19_824) million spread (pos 222_650) (pos 19_774) ∷ []
+
+-- a bond of 4 % to 2024-04-30 whose first period ends on a Sunday, 2024-03-31, behind which Easter Monday follows
+abbrev pub month_end_bond : List FlowTerm
+month_end_bond =
+    Known (pos 19_815) (pos 3_444_444_444) ∷ Known (pos 19_843) (pos 3_333_333_333) ∷ Known (pos 19_843) million ∷ []
+
+-- the days are 2024-01-02 (19,724), 2024-02-21 (19,774), 2024-02-29 (19,782), 2024-03-01 (19,783), 2024-04-02 (19,815),
+-- 2024-04-11 (19,824), 2024-04-30 (19,843), 2024-06-09 (19,883) and 2024-06-26 (19,900)
 pub record AreWorked : Type 0 where
   pub whole : stock_at (pos 1500000000) ≡ Ok (Money (pos 1500000))
   pub half_away_from_zero : stock_at (neg_ℤ (pos 500)) ≡ Ok (Money (neg_ℤ (pos 1)))
@@ -115,3 +125,9 @@ pub record AreWorked : Type 0 where
   pub first_flow_first : indexed_at (late ∷ unfixed (pos 19_824) ∷ []) (pos 19_724) [] (over one_node) ≡ Err (Past 1 (pos 19_825))
   pub greatest_value : known_at (replicate 25 greatest) (pos 19_724) (over (one_node_at (pos 19_724) (pos 19_824) (pos (4 * 10 ^ 12)))) ≡ Ok (Money (pos (10 ^ 24)))
   pub value_beyond : known_at (replicate 25 greatest ++ unit ∷ []) (pos 19_724) (over (one_node_at (pos 19_724) (pos 19_824) (pos (4 * 10 ^ 12)))) ≡ Err (TooLarge 7)
+  pub spread_added : indexed_at (spread_flow (pos 10_000_000)) (pos 19_724) [] (over_both one_node) ≡ Ok (Money (pos 6_325_632_563))
+  pub spread_taken : indexed_at (spread_flow (neg_ℤ (pos 10_000_000))) (pos 19_724) [] (over_both one_node) ≡ Ok (Money (pos 3_575_357_536))
+  pub spread_over_a_stored_rate : indexed_at (spread_flow (pos 10_000_000)) (pos 19_783) ((pos 19_774, pos 50_000_000) ∷ []) (over (one_node_at (pos 19_783) (pos 19_883) (pos 990_099_009_901))) ≡ Ok (Money (pos 8_299_504_950))
+  pub paid_after_a_holiday : known_at (Known (pos 19_815) (pos 3_444_444_444) ∷ []) (pos 19_782) (over (one_node_at (pos 19_782) (pos 19_900) (pos 980_000_000_000))) ≡ Ok (Money (pos 3_425_178_907))
+  pub month_ends : known_at month_end_bond (pos 19_782) (over (one_node_at (pos 19_782) (pos 19_900) (pos 980_000_000_000))) ≡ Ok (Money (pos 996_385_065_912))
+  pub repaid_before_the_curve : known_at hundred (pos 19_823) (over (one_node_at (pos 19_825) (pos 19_925) (pos 990_099_009_901))) ≡ Ok (Money (pos 0))

@@ -24,8 +24,8 @@ const ROOM: usize = 100_000;
 // and names made again. `examples` has the folders of the repository's examples, `markets` and `desk` markets with
 // scripts over them, `market_faults` those that have a fault, and `market_files` files that are not there or too long,
 // and words. `freezing` has scripts with freezing, recalculation and notices that are held back, `deferral` those that
-// relink and drop under deferral, and `frozen_markets` the same over markets. `month_ends` has markets whose curves start
-// at a month's end, with spreads, ends on holidays and end conventions: each asks for every object on two days.
+// relink and drop under deferral, and `frozen_markets` the same over markets. `month_ends` has markets whose curves
+// start at a month's end, with spreads, ends on holidays and end conventions, that ask for every object on two days.
 fn main(rt: HostRuntime) -> io::Result<()> {
     compare(&rt, "scripts")?;
     compare(&rt, "refused")?;

@@ -40,4 +40,9 @@ returns c = record {
   fixing_first = refl;
   then_period = refl;
   no_divisor = refl;
+  paid_after_a_holiday = refl;
+  floating_after_a_holiday = refl;
+  spread_added = refl;
+  spread_taken = refl;
+  spread_paid = refl;
 }

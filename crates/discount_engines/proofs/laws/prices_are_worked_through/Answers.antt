@@ -38,4 +38,10 @@ returns c = record {
   first_flow_first = refl;
   greatest_value = refl;
   value_beyond = refl;
+  spread_added = refl;
+  spread_taken = refl;
+  spread_over_a_stored_rate = refl;
+  paid_after_a_holiday = refl;
+  month_ends = refl;
+  repaid_before_the_curve = refl;
 }

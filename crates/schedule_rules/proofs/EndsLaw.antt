@@ -19,7 +19,7 @@ use Rattle.schedule_rules.specs.declared.plans.Rule.TheVariants.{Backward, Forwa
 use Rattle.schedule_rules.specs.declared.faults.PlanFault.{PlanFault}
 use Rattle.schedule_rules.specs.declared.faults.PlanFault.TheVariants.{Collapsed}
 use Rattle.schedule_rules.specs.Raw.{IsRaw, raw_or_fault, raw_days, rising, named_days, few_or_fault}
-use Rattle.schedule_rules.specs.Schedule.{adjusted_raw, adjusted_or_fault, ended, ended_or_fault, on_ok, dated, unless, schedule, IsAdjusted, SchedulesBeginAndEnd, SchedulesGoByTheDays}
+use Rattle.schedule_rules.specs.Schedule.{adjusted_raw, adjusted_or_fault, ended, ended_or_fault, on_ok, dated, unless, schedule, IsAdjusted, AreDaysOf, SchedulesBeginAndEnd, SchedulesGoByTheDays}
 use Rattle.schedule_rules.specs.Step.{moved as at, seed_by, count_by, is_inside, step, steps_from, most_steps}
 use Rattle.schedule_rules.specs.Terms.{is_stub, fault_of_terms}
 use Rattle.schedule_rules.proofs.PlanLemmas.{InOrder, in_order, step-room, seed-in_range}
@@ -132,6 +132,40 @@ schedules_begin_and_end business plan dates first last e =
       first-least dates both.start is.0 begun least ∙ sym both.start_is,
       ap (λ ds. slice_get ds (length ds - 1)) (sym same) ∙ last-ended days.days both.end ∙ sym both.end_is,
     )
+
+-- not after the end is what is the end or before it
+not_after_end : (business : ℤ → Bool) (plan : Plan) (end day : ℤ) → (day ≡ end) ⊎ ((day <ℤ end) × IsAdjusted business plan day) → day ≤ℤ end
+not_after_end business plan end day (inl e) = omega (arith, signed_arith, e)
+not_after_end business plan end day (inr is) = let less = is.0 in omega (arith, signed_arith, less)
+
+-- the days of a schedule as a set
+are_days : (business : ℤ → Bool) (plan : Plan) (dates : List ℤ) → IsDayNumber plan.start → IsDayNumber plan.end → schedule business plan ≡ Ok dates → AreDaysOf business plan dates
+unfolding schedule
+are_days business plan dates first last e =
+    let terms = in_terms (fault_of_terms plan) (dated business plan) dates e in
+    let order = in_order plan terms.none in
+    let makes = adjusted_raw business plan in
+    let seed = seed-in_range plan order first last in
+    let raw = behind (raw_or_fault plan) (λ raw. on_ok (adjusted_or_fault business plan raw) (λ days. ended_or_fault days (makes plan.start) (makes plan.end))) dates terms.is in
+    let days = behind (adjusted_or_fault business plan raw.days) (λ days. ended_or_fault days (makes plan.start) (makes plan.end)) dates raw.then_is in
+    let both = ends days.days (makes plan.start) (makes plan.end) dates days.then_is in
+    let is = schedules_are_adjusted_days business plan dates both.end seed e both.end_is in
+    record {
+      start = both.start;
+      end = both.end;
+      start_is = both.start_is;
+      end_is = both.end_is;
+      rising = is.0;
+      within = λ (day : ℤ) (h : has dates day ≡ true). (
+        start_not_after business plan both.start both.end first last order both.start_is both.end_is both.before day ((is.1 day).0 h),
+        not_after_end business plan both.end day ((is.1 day).0 h),
+      );
+      set = is.1;
+    }
+
+pub days-ok : (business : ℤ → Bool) (plan : Plan) (r : Result (List ℤ) PlanFault) → IsDayNumber plan.start → IsDayNumber plan.end → IfOk r (λ dates. schedule business plan ≡ Ok dates) → IfOk r (AreDaysOf business plan)
+days-ok business plan (Ok dates) first last e = are_days business plan dates first last e
+days-ok business plan (Err fault) first last e = tt
 
 -- the first and the last day of an answer
 pub first-ok : (business : ℤ → Bool) (plan : Plan) (r : Result (List ℤ) PlanFault) → IsDayNumber plan.start → IsDayNumber plan.end → IfOk r (λ dates. schedule business plan ≡ Ok dates) → IfOk r (λ dates. slice_get dates 0 ≡ adjusted_raw business plan plan.start)

@@ -1,5 +1,5 @@
 -- The schedule of a plan (QuantLib's Schedule).
-use Rattle.std.specs.Prelude.{◌≡◌, ◌↔◌, ◌⊎◌, ◌<ℤ◌, ◌-◌, length, slice_get, Bool, true, not, if◌then◌else◌, List, [], ◌∷◌, ◌++◌, Option, Some, None, Result, Ok, Err, ℤ}
+use Rattle.std.specs.Prelude.{◌≡◌, ◌↔◌, ◌⊎◌, ◌<ℤ◌, ◌≤ℤ◌, ◌-◌, length, slice_get, Bool, true, not, if◌then◌else◌, List, [], ◌∷◌, ◌++◌, Option, Some, None, Result, Ok, Err, ℤ}
 use Rattle.std.specs.Borrow.{Bor}
 use Rattle.std.specs.Int.Signed.{le_z}
 use Rattle.std.specs.List.{filter, list_any}
@@ -90,6 +90,18 @@ IsMemory fault = fault ≡ NoMemory
 abbrev pub IsAdjusted : (ℤ → Bool) → Plan → ℤ → Type 0
 IsAdjusted business plan day =
     (raw : ℤ) × IsRaw plan raw × (adjusted_raw business plan raw ≡ Some day)
+
+-- the days of a plan as a set: they rise strictly from the adjusted start to the adjusted end, and they are that end and the days before it that a raw day is adjusted to
+pub record AreDaysOf (business : ℤ → Bool) (plan : Plan) (dates : List ℤ) : Type 0 where
+  pub start : ℤ
+  pub end : ℤ
+  pub start_is : adjusted_raw business plan plan.start ≡ Some start
+  pub end_is : adjusted_raw business plan plan.end ≡ Some end
+  pub rising : IsStrictlySortedBy int_cmp dates
+  pub within : (day : ℤ) → list_any (int_eq day) dates ≡ true → (start ≤ℤ day) × (day ≤ℤ end)
+  pub set : (day : ℤ)
+      → (list_any (int_eq day) dates ≡ true)
+      ↔ ((day ≡ end) ⊎ ((day <ℤ end) × IsAdjusted business plan day))
 
 -- law: a schedule is the adjusted end and the adjusted days before it, in the order of time
 abbrev pub SchedulesAreAdjustedDays : Type 0

@@ -22,6 +22,7 @@ pub fn make(alloc: Global, plan: &Plan<'_>) -> Result<Schedule, PlanFault>
     ensures dates { IfOk result (λ dates. schedule.schedule (is_business_day plan.now.cal.now) plan.now ≡ Ok dates) }
     ensures fault { IfErr result (λ fault. schedule.IsMemory fault
         ⊎ (schedule.schedule (is_business_day plan.now.cal.now) plan.now ≡ Err fault)) }
+    ensures days { IfOk result (schedule.AreDaysOf (is_business_day plan.now.cal.now) plan.now) }
     ensures first { IfOk result (λ dates. slice_get dates 0
         ≡ schedule.adjusted_raw (is_business_day plan.now.cal.now) plan.now plan.now.start) }
     ensures last { IfOk result (λ dates. slice_get dates (length dates - 1)

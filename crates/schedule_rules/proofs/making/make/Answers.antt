@@ -2,7 +2,7 @@ use Rattle.std.proofs.Common.{inr, sym, ◌∙◌}
 use Rattle.day_number.specs.Day.{IsDayNumber}
 use Rattle.holiday_calendars.specs.Calendar.{is_business_day}
 use Rattle.schedule_rules.proofs.DatedLemmas.{schedule-fault, dated-ok, dated-err}
-use Rattle.schedule_rules.proofs.EndsLaw.{first-ok, last-ok}
+use Rattle.schedule_rules.proofs.EndsLaw.{first-ok, last-ok, days-ok}
 use Rattle.schedule_rules.proofs.making.make.Goals.{After-dated}
 use Rattle.schedule_rules.proofs.making.make.Goals as goal
 
@@ -31,3 +31,7 @@ returns-in-None-clause-first c =
 pub returns-in-None-clause-last : goal.returns-in-None-clause-last
 returns-in-None-clause-last c =
     last-ok (is_business_day c.args.plan.now.cal.now) c.args.plan.now c.dated.result (first c) (last c) (returns-in-None-clause-dates c)
+
+pub returns-in-None-clause-days : goal.returns-in-None-clause-days
+returns-in-None-clause-days c =
+    days-ok (is_business_day c.args.plan.now.cal.now) c.args.plan.now c.dated.result (first c) (last c) (returns-in-None-clause-dates c)

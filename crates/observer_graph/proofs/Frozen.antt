@@ -5,7 +5,7 @@ use Rattle.observer_graph.specs.declared.node.Node.{Node}
 use Rattle.observer_graph.specs.declared.node.Flags.{Flags}
 use Rattle.observer_graph.specs.GraphView.{IsLazy}
 use Rattle.observer_graph.specs.Late.{frozen_of, frozen_count}
-use Rattle.observer_graph.specs.Notice.{Tells, unsettled}
+use Rattle.observer_graph.specs.Notice.{Settles, unsettled}
 use Rattle.observer_graph.specs.Change.{flagged}
 use Rattle.observer_graph.specs.Walks.{graph_of}
 use Rattle.observer_graph.proofs.Wholes.{node_read}
@@ -64,7 +64,7 @@ unsettled_frozen (Some node) = refl
 
 -- a notice freezes none
 pub count_told : (nodes nodes2 : List (Option Node)) (sources sources2 : List Bool) (subjects : List (List ℕ))
-    → Tells (graph_of nodes subjects sources) (graph_of nodes2 subjects sources2) → frozen_count nodes2 ≡ frozen_count nodes
+    → Settles (graph_of nodes subjects sources) (graph_of nodes2 subjects sources2) → frozen_count nodes2 ≡ frozen_count nodes
 count_told nodes nodes2 sources sources2 subjects t = count_same nodes nodes2 t.len (λ o. elim (t.node o) [
   | inl h ↦ ap frozen_of h.1 ∙ unsettled_frozen (slice_index_or nodes o None)
   | inr h ↦ ap frozen_of h.1

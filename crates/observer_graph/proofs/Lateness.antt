@@ -6,8 +6,8 @@ use Rattle.walks.specs.Walk.{Among, Below}
 use Rattle.walks.specs.Walk.Below.{next, beyond}
 use Rattle.walks.proofs.Ranks.{below_wider}
 use Rattle.observer_graph.specs.declared.node.Node.{Node}
-use Rattle.observer_graph.specs.Lists.{IsSet, is_marked, list_at}
-use Rattle.observer_graph.specs.GraphView.{GraphView, is_source}
+use Rattle.observer_graph.specs.Lists.{IsSet, is_marked}
+use Rattle.observer_graph.specs.GraphView.{GraphView, edges_of, is_source}
 use Rattle.observer_graph.specs.Notice.{IsLeast, Reaches}
 use Rattle.observer_graph.specs.Late.{IsClear, IsExposed, IsLateOf, frozen_count, is_frozen, is_held_back}
 use Rattle.observer_graph.specs.Walks.{graph_of}
@@ -46,11 +46,11 @@ module _ (nodes read : List (Option Node)) (subjects : List (List ℕ)) (marks :
     -- where nothing is frozen, each path is one whose inner nodes are not frozen
     downward : (x y : ℕ) → IsExposed (graph_of nodes subjects marks) o y
         → GoesOn (λ z. not (is_frozen (graph_of nodes subjects marks) z)) o y
-        → Below (list_at subjects) (λ z. z == x) (λ z. true) y
-        → Below (list_at subjects) (λ z. z == x) (λ z. not (is_frozen (graph_of nodes subjects marks) z)) y
+        → Below (edges_of (graph_of nodes subjects marks)) (λ z. z == x) (λ z. true) y
+        → Below (edges_of (graph_of nodes subjects marks)) (λ z. z == x) (λ z. not (is_frozen (graph_of nodes subjects marks) z)) y
     downward x y there goes (next {x = z} a is) = next {x = z} a is
     downward x y there goes (beyond {x = z} a passes below) =
-        let on = leads_on subjects (λ w. not (is_frozen (graph_of nodes subjects marks) w)) o y z a goes there in
+        let on = leads_on (edges_of (graph_of nodes subjects marks)) (λ w. not (is_frozen (graph_of nodes subjects marks) w)) o y z a goes there in
         beyond {x = z} a (unfrozen z on) (downward x z on (inr (unfrozen z on)) below)
 
     pub free_clear : IsClear (graph_of nodes subjects marks) o
@@ -70,7 +70,7 @@ module _ (nodes read : List (Option Node)) (subjects : List (List ℕ)) (marks :
     where
       reaches : (x : ℕ) → IsExposed (graph_of nodes subjects marks) o x → Reaches (graph_of nodes subjects marks) o x
       reaches x (inl is) = inl is
-      reaches x (inr below) = inr (below_wider (list_at subjects) (λ z. z == x) (λ z. z == x)
+      reaches x (inr below) = inr (below_wider (edges_of (graph_of nodes subjects marks)) (λ z. z == x) (λ z. z == x)
           (λ z. not (is_frozen (graph_of nodes subjects marks) z)) (λ z. true) (λ z e. e) (λ z e. refl) o below)
 
 -- where no node is frozen and none is marked, each is clear

@@ -1,3 +1,6 @@
+pub mod Numbers
+pub mod Notices
+pub mod Edges
 pub mod Exactly
 pub mod Exposed
 pub mod Lateness

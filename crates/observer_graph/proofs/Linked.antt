@@ -269,6 +269,7 @@ pub adds_node : (nodes nodes2 : List (Option Node)) (subjects subjects2 : List (
 adds_node nodes nodes2 subjects subjects2 sources sources2 role flags list named whole off nodes_are same pairs_are sources_are = record {
   nodes = nodes_are ∙ ap (λ (f : Flags). nodes ++ Some (record { role = role; flags = f }) ∷ []) off;
   sources = sources_are;
+  noticed = refl;
   pairs = λ x o. subst (λ (p : List (List ℕ)). Among x (list_at p o) ↔ (Among x (list_at subjects o) ⊎ (Among x named × (o ≡ length nodes)))) (sym pairs_are) (
     λ a. elim ((pairs_grown subjects list x o).0 a) [ inl was ↦ inl was | inr p ↦ inr ((same x).0 p.0, p.1 ∙ whole.lists) ],
     λ h. (pairs_grown subjects list x o).1 (elim h [ inl was ↦ inl was | inr p ↦ inr ((same x).1 p.0, p.1 ∙ sym whole.lists) ]),

@@ -5,7 +5,7 @@ use Rattle.std.proofs.lemmas.Bool.{cases_eq, false≢true}
 use Rattle.std.proofs.lemmas.List.{get_or-set_same, get_or-set_other, length-set, length-append, get_or_append_left, get_or_default}
 use Rattle.walks.specs.Walk.{Among}
 use Rattle.observer_graph.specs.declared.node.Role.{Role}
-use Rattle.observer_graph.specs.declared.node.Role.TheVariants.{Source, Forwarder, Lazy}
+use Rattle.observer_graph.specs.declared.node.Role.TheVariants.{Source, Forwarder, Lazy, Watcher}
 use Rattle.observer_graph.specs.declared.node.Flags.{Flags}
 use Rattle.observer_graph.specs.declared.node.Node.{Node}
 use Rattle.observer_graph.specs.Lists.{AreOnce, is_marked, list_at, IsOnce, PairsView, SetView}
@@ -13,7 +13,7 @@ use Rattle.observer_graph.specs.Stands.{Stands}
 use Rattle.observer_graph.specs.Walks.{IsWithin, graph_of}
 use Rattle.walks.specs.Walk.Below.{next, beyond}
 use Rattle.observer_graph.specs.GraphView.{GraphView, IsWhole, IsLive, IsLazy, IsPair, IsPlain, HasFlags, node_at, no_flags}
-use Rattle.observer_graph.specs.Notice.{IsTold, Tells, unsettled}
+use Rattle.observer_graph.specs.Notice.{IsTold, Settles, unsettled}
 use Rattle.observer_graph.specs.Change.{with_node, with_flags, with_source, flagged}
 use Rattle.observer_graph.proofs.Members.{among_or_not}
 use Rattle.observer_graph.proofs.Marks.{marked_front}
@@ -43,7 +43,7 @@ whole_pairs graph subjects2 w len once live = record {
   marks = w.marks;
   ends = live;
   once = once;
-  sources = w.sources;
+  live = w.live;
   flags = w.flags;
   limit = w.limit;
 }
@@ -58,6 +58,7 @@ plain_role : (role : Role) → HasFlags role no_flags
 plain_role Source = refl
 plain_role Forwarder = refl
 plain_role Lazy = tt
+plain_role Watcher = refl
 
 plain_front : (nodes : List (Option Node)) (role : Role) → ((o : ℕ) → IsPlain (slice_index_or nodes o None)) → (o : ℕ)
     → IsPlain (slice_index_or (nodes ++ Some (record { role = role; flags = no_flags }) ∷ []) o None)
@@ -80,7 +81,7 @@ whole_added graph role low w = record {
   ends = λ x o a. let e = w.ends x o (subst (Among x) (list_grown graph.subjects o) a) in
       (front_node graph.nodes node x e.0, front_node graph.nodes node o e.1);
   once = λ o. subst IsOnce (sym (list_grown graph.subjects o)) (w.once o);
-  sources = λ o e. front_node graph.nodes node o (w.sources o (marked_front graph.sources o e));
+  live = λ o e. front_node graph.nodes node o (w.live o (marked_front graph.sources o e));
   flags = plain_front graph.nodes role w.flags;
   limit = let b = length-append graph.nodes (node ∷ []) in omega arith;
 }
@@ -97,7 +98,7 @@ whole_nodes graph nodes2 w len live plain = record {
   marks = w.marks ∙ sym len;
   ends = λ x o a. let e = w.ends x o a in (live x e.0, live o e.1);
   once = w.once;
-  sources = λ o e. live o (w.sources o e);
+  live = λ o e. live o (w.live o e);
   flags = plain;
   limit = subst (λ (n : ℕ). n ≤ 2 ^ 16) (sym len) w.limit;
 }
@@ -147,9 +148,9 @@ whole_source graph o live w = record {
   marks = length-set graph.sources o true ∙ w.marks;
   ends = w.ends;
   once = w.once;
-  sources = λ p e. elim (cases_eq p o) [
+  live = λ p e. elim (cases_eq p o) [
     | inl same ↦ subst (IsLive graph) (sym same) live
-    | inr other ↦ w.sources p (sym (get_or-set_other graph.sources o p true false other) ∙ e)
+    | inr other ↦ w.live p (sym (get_or-set_other graph.sources o p true false other) ∙ e)
   ];
   flags = w.flags;
   limit = w.limit;
@@ -160,18 +161,18 @@ pub whole_removed : (graph : GraphView) (o : ℕ) (subjects2 : List (List ℕ)) 
     → length subjects2 ≡ length graph.subjects → AreOnce subjects2
     → ((x p : ℕ) → Among x (list_at subjects2 p) ↔ (IsPair graph x p × ((x ≡ o) ⊎ (p ≡ o) → ⊥)))
     → sources2 ≡ slice_set graph.sources o false → IsWhole graph
-    → IsWhole (record { nodes = slice_set graph.nodes o None; subjects = subjects2; sources = sources2 })
+    → IsWhole (record { nodes = slice_set graph.nodes o None; subjects = subjects2; sources = sources2; noticed = [] })
 whole_removed graph o subjects2 sources2 live len once pairs marks w = record {
   lists = len ∙ w.lists ∙ sym (length-set graph.nodes o None);
   marks = ap length marks ∙ length-set graph.sources o false ∙ w.marks ∙ sym (length-set graph.nodes o None);
   ends = λ x p a. let h = (pairs x p).0 a in let e = w.ends x p h.0 in
       (stays x e.0 (λ same. h.1 (inl same)), stays p e.1 (λ same. h.1 (inr same)));
   once = once;
-  sources = λ p e. elim (cases_eq p o) [
+  live = λ p e. elim (cases_eq p o) [
     | inl same ↦ absurd (false≢true (sym (get_or-set_same graph.sources o false false low)
         ∙ ap (is_marked (slice_set graph.sources o false)) (sym same) ∙ ap (λ (l : List Bool). is_marked l p)
         (sym marks) ∙ e))
-    | inr other ↦ stays p (w.sources p (sym (get_or-set_other graph.sources o p false false other)
+    | inr other ↦ stays p (w.live p (sym (get_or-set_other graph.sources o p false false other)
         ∙ ap (λ (l : List Bool). is_marked l p) (sym marks) ∙ e)) other
   ];
   flags = λ p. elim (cases_eq p o) [
@@ -204,18 +205,19 @@ plain_unsettled (Some node) plain = by_role node.role plain
     by_role Source plain = ap (λ (f : Flags). record f { current = false }) plain
     by_role Forwarder plain = ap (λ (f : Flags). record f { current = false }) plain
     by_role Lazy plain = tt
+    by_role Watcher plain = ap (λ (f : Flags). record f { current = false }) plain
 
 pub whole_told : (graph : GraphView) (nodes2 : List (Option Node)) (sources2 : List Bool) → IsWhole graph
     → length nodes2 ≡ length graph.nodes → length sources2 ≡ length graph.sources
     → ((o : ℕ) → (slice_index_or nodes2 o None ≡ unsettled (node_at graph o))
     ⊎ (slice_index_or nodes2 o None ≡ node_at graph o)) → ((o : ℕ) → is_marked sources2 o ≡ false)
-    → IsWhole (record { nodes = nodes2; subjects = graph.subjects; sources = sources2 })
+    → IsWhole (record { nodes = nodes2; subjects = graph.subjects; sources = sources2; noticed = [] })
 whole_told graph nodes2 sources2 w len long changes none = record {
   lists = w.lists ∙ sym len;
   marks = long ∙ w.marks ∙ sym len;
   ends = λ x o a. let e = w.ends x o a in (live x e.0, live o e.1);
   once = w.once;
-  sources = λ o e. absurd (false≢true (sym (none o) ∙ e));
+  live = λ o e. absurd (false≢true (sym (none o) ∙ e));
   flags = λ o. elim (changes o) [
     | inl is ↦ subst IsPlain (sym is) (plain_unsettled (node_at graph o) (w.flags o))
     | inr is ↦ subst IsPlain (sym is) (w.flags o)
@@ -322,7 +324,7 @@ pub tells_of : (nodes read written nodes2 : List (Option Node)) (subjects : List
     → ((o : ℕ) → Among o items → slice_index_or nodes2 o None ≡ unsettled (slice_index_or written o None))
     → ((o : ℕ) → (Among o items → ⊥) → slice_index_or nodes2 o None ≡ slice_index_or written o None)
     → ((o : ℕ) → is_marked sources2 o ≡ false) → length sources2 ≡ length sources
-    → Tells (graph_of nodes subjects sources) (graph_of nodes2 subjects sources2)
+    → Settles (graph_of nodes subjects sources) (graph_of nodes2 subjects sources2)
 tells_of nodes read written nodes2 subjects sources sources2 items read_is written_is len told unsettles others none
     marks =
     record {
@@ -352,7 +354,7 @@ tells_of nodes read written nodes2 subjects sources sources2 items read_is writt
 
 -- and the graph after it stands
 pub stands_told : (nodes nodes2 : List (Option Node)) (pairs : PairsView) (sources sources2 wave wave2 : SetView)
-    → Stands nodes pairs sources wave → Tells (graph_of nodes pairs.subjects sources.marks)
+    → Stands nodes pairs sources wave → Settles (graph_of nodes pairs.subjects sources.marks)
     (graph_of nodes2 pairs.subjects sources2.marks)
     → length wave2.marks ≡ length wave.marks → wave2.items ≡ [] → Stands nodes2 pairs sources2 wave2
 stands_told nodes nodes2 pairs sources sources2 wave wave2 s t room empty = record {

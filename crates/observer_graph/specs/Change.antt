@@ -4,6 +4,7 @@ use Rattle.walks.specs.Walk.{Among}
 use Rattle.observer_graph.specs.declared.node.Role.{Role}
 use Rattle.observer_graph.specs.declared.node.Flags.{Flags}
 use Rattle.observer_graph.specs.declared.node.Node.{Node}
+use Rattle.observer_graph.specs.Noticed.{without}
 use Rattle.observer_graph.specs.GraphView.{GraphView, node_at, IsPair, no_flags}
 
 -- a new node is last; it observes nothing, is no source, and its flags are off
@@ -12,30 +13,35 @@ with_node role graph = record {
   nodes = graph.nodes ++ Some (record { role = role; flags = no_flags }) ∷ [];
   subjects = graph.subjects ++ [] ∷ [];
   sources = graph.sources ++ false ∷ [];
+  noticed = graph.noticed;
 }
 
 -- a new node is last; it observes these, each once, is no source, and its flags are off
 pub record AddsNode (role : Role) (named : List ℕ) (old new : GraphView) : Type 0 where
   pub nodes : new.nodes ≡ old.nodes ++ Some (record { role = role; flags = no_flags }) ∷ []
   pub sources : new.sources ≡ old.sources ++ false ∷ []
+  pub noticed : new.noticed ≡ old.noticed
   pub pairs : (x o : ℕ) → IsPair new x o ↔ (IsPair old x o ⊎ (Among x named × (o ≡ length old.nodes)))
 
 -- one pair more
 pub record AddsPair (old new : GraphView) (subject observer : ℕ) : Type 0 where
   pub nodes : new.nodes ≡ old.nodes
   pub sources : new.sources ≡ old.sources
+  pub noticed : new.noticed ≡ old.noticed
   pub pairs : (x o : ℕ) → IsPair new x o ↔ (IsPair old x o ⊎ ((x ≡ subject) × (o ≡ observer)))
 
 -- all pairs but this one
 pub record TakesPair (old new : GraphView) (subject observer : ℕ) : Type 0 where
   pub nodes : new.nodes ≡ old.nodes
   pub sources : new.sources ≡ old.sources
+  pub noticed : new.noticed ≡ old.noticed
   pub pairs : (x o : ℕ) → IsPair new x o ↔ (IsPair old x o × ((x ≡ subject) × (o ≡ observer) → ⊥))
 
 -- the node is gone, is no source, and all pairs but its own stay
 pub record TakesNode (old new : GraphView) (node : ℕ) : Type 0 where
   pub nodes : new.nodes ≡ slice_set old.nodes node None
   pub sources : new.sources ≡ slice_set old.sources node false
+  pub noticed : new.noticed ≡ without node old.noticed
   pub pairs : (x o : ℕ) → IsPair new x o ↔ (IsPair old x o × ((x ≡ node) ⊎ (o ≡ node) → ⊥))
 
 abbrev pub flagged : Flags → Option Node → Option Node

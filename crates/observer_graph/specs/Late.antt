@@ -2,7 +2,7 @@
 use Rattle.std.specs.Prelude.{◌≡◌, ◌⊎◌, ◌==◌, ◌||◌, ◌+◌, not, ℕ, Bool, true, false, List, [], ◌∷◌, Option, if◌then◌else◌}
 use Rattle.walks.specs.Walk.{Below}
 use Rattle.observer_graph.specs.declared.node.Node.{Node}
-use Rattle.observer_graph.specs.GraphView.{GraphView, node_at, flags_of, subjects_of, is_source}
+use Rattle.observer_graph.specs.GraphView.{GraphView, node_at, flags_of, edges_of, is_source}
 use Rattle.observer_graph.specs.Notice.{Reaches}
 
 abbrev pub frozen_of : Option Node → Bool
@@ -11,9 +11,9 @@ frozen_of node = (flags_of node).frozen
 abbrev pub is_frozen : GraphView → ℕ → Bool
 is_frozen graph o = frozen_of (node_at graph o)
 
--- x is o, or lies beneath it on a path of pairs whose inner nodes are not frozen
+-- x is o, or lies beneath it on a path of edges of nodes that are no watchers, whose inner nodes are not frozen
 abbrev pub IsExposed : GraphView → ℕ → ℕ → Type 0
-IsExposed graph o x = (o ≡ x) ⊎ Below (subjects_of graph) (λ y. y == x) (λ y. not (is_frozen graph y)) o
+IsExposed graph o x = (o ≡ x) ⊎ Below (edges_of graph) (λ y. y == x) (λ y. not (is_frozen graph y)) o
 
 -- LATE: the notice that the marked source x holds back makes o late
 abbrev pub IsLateOf : GraphView → ℕ → ℕ → Type 0

@@ -5,3 +5,4 @@ pub mod Notice
 pub mod Change
 pub mod Stands
 pub mod Walks
+pub mod Noticed

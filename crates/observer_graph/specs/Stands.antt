@@ -6,6 +6,6 @@ use Rattle.observer_graph.specs.Lists.{SetView, PairsView}
 
 -- the graph is whole, and the set that the walks fill is empty and has room for each node
 pub record Stands (nodes : List (Option Node)) (pairs : PairsView) (sources wave : SetView) : Type 0 where
-  pub whole : IsWhole (record { nodes = nodes; subjects = pairs.subjects; sources = sources.marks })
+  pub whole : IsWhole (record { nodes = nodes; subjects = pairs.subjects; sources = sources.marks; noticed = [] })
   pub room : length wave.marks ≡ length nodes
   pub empty : wave.items ≡ []

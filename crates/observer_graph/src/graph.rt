@@ -1,18 +1,20 @@
 // The graph of observers and its calls.
-ghost use Rattle.std.specs.Prelude.{◌≡◌, ◌↔◌, ◌<◌, ◌≤◌, ℕ, [], length, IsTrue, IfOk, OnOk, OnErr, is_some};
+ghost use Rattle.std.specs.Prelude.{◌≡◌, ◌↔◌, ◌<◌, ◌≤◌, ℕ, [], ◌∷◌, length, IsTrue, IfOk, IfSome, IfNone, OnOk, OnErr, is_some};
 ghost use Rattle.walks.specs.Walk.{Among};
 ghost use Rattle.observer_graph.specs.declared.node.Role.TheVariants.{Lazy};
 ghost use Rattle.observer_graph.specs.GraphView.{IsLive, IsLazy, IsPair, IsWhole, node_at, flags_at};
-ghost use Rattle.observer_graph.specs.Notice.{IsLeast, Reaches, Tells, with_stale};
+ghost use Rattle.observer_graph.specs.Notice.{IsLeast, IsUser, Reaches, Tells, with_stale};
 ghost use Rattle.observer_graph.specs.Late.{IsClear, IsLateOf};
+ghost use Rattle.observer_graph.specs.Noticed.{IsRising};
 ghost use Rattle.observer_graph.specs.Change.{AddsNode, AddsPair, TakesPair, TakesNode, flagged, with_node, with_flags, with_source, without_source};
 
-use crate::beneath::{are_free, go_down, is_frozen, least_marked, recounted};
-use crate::lists::least_of;
+use crate::beneath::{are_free, go_down, is_frozen, least_marked, least_user, recounted};
+use crate::lists::is_among;
 use crate::node::{Flags, Node, Role};
 use crate::node_set::NodeSet;
 use crate::pairs::Pairs;
-use crate::walk::{is_beneath, tell_all, unsettle, unsettle_one};
+use crate::rising::{first_out, has_any, reserve_for, take_out};
+use crate::walk::{is_beneath, notice_all, tell_all, unsettle, unsettle_one};
 use desk_names::ObjId;
 use std::alloc::{AllocError, Global};
 use std::marker::Model;
@@ -29,33 +31,38 @@ pub struct Graph {
     sources: NodeSet,
     // How many nodes are frozen.
     frozen: usize,
+    // The watchers that were told and not handed out since, by creation. There is room for every node.
+    noticed: Vec<ObjId>,
     // Those whom a notice reaches or who lie beneath a node, during a call; empty between calls.
     wave: NodeSet,
 }
 
 impl Model for Graph {
-    ghost use Rattle.std.specs.Prelude.{◌≡◌};
+    ghost use Rattle.std.specs.Prelude.{◌≡◌, ◌≤◌, length, vec_capacity};
     ghost use Rattle.observer_graph.specs.GraphView.{GraphView};
+    ghost use Rattle.observer_graph.specs.Noticed.{AreNoticed};
     ghost use Rattle.observer_graph.specs.Late.{frozen_count};
     ghost use Rattle.observer_graph.specs.Stands.{Stands};
 
     ghost Value = { GraphView };
 
-    ghost view = { λ g. record { nodes = g.nodes.items; subjects = g.pairs.subjects; sources = g.sources.marks } };
+    ghost view = { λ g. record { nodes = g.nodes.items; subjects = g.pairs.subjects; sources = g.sources.marks; noticed = g.noticed.items } };
 
-    ghost invariant = { λ g. Stands g.nodes.items g.pairs g.sources g.wave × (g.frozen ≡ frozen_count g.nodes.items) };
+    ghost invariant = { λ g. Stands g.nodes.items g.pairs g.sources g.wave × (g.frozen ≡ frozen_count g.nodes.items)
+        × AreNoticed g.noticed.items (length g.nodes.items) × (length g.nodes.items ≤ vec_capacity g.noticed) };
 }
 
 impl Graph {
     /// No nodes. Later calls take memory from the allocator given here.
     pub fn new(alloc: Global) -> Graph
-        ensures { result ≡ record { nodes = []; subjects = []; sources = [] } }
+        ensures { result ≡ record { nodes = []; subjects = []; sources = []; noticed = [] } }
     {
         Graph {
             nodes: Vec::new(alloc),
             pairs: Pairs::new(alloc),
             sources: NodeSet::new(alloc),
             frozen: 0,
+            noticed: Vec::new(alloc),
             wave: NodeSet::new(alloc),
         }
     }
@@ -73,6 +80,7 @@ impl Graph {
         self.pairs.reserve()?;
         self.sources.reserve()?;
         self.wave.reserve()?;
+        reserve_for(&mut self.noticed, self.nodes.len() + 1)?;
         let node = ObjId(self.nodes.len() as u32);
         self.nodes.push_reserved(Some(Node {
             role,
@@ -98,6 +106,7 @@ impl Graph {
         self.pairs.reserve()?;
         self.sources.reserve()?;
         self.wave.reserve()?;
+        reserve_for(&mut self.noticed, self.nodes.len() + 1)?;
         let node = ObjId(self.nodes.len() as u32);
         self.wave.insert_all(subjects);
         let linked = self.pairs.grow_linked(node, self.wave.items());
@@ -134,7 +143,7 @@ impl Graph {
         self.pairs.unlink(subject, observer)
     }
 
-    /// The node is gone, with every pair in which it stands and its mark as a source. Takes no memory.
+    /// The node is gone, with every pair in which it stands, its mark as a source and what it was told. Takes no memory.
     pub fn remove(&mut self, node: ObjId)
         requires { IsLive self.old node }
         ensures { TakesNode self.old self.new node }
@@ -143,11 +152,12 @@ impl Graph {
         self.frozen = recounted(self.frozen, was, false);
         self.pairs.cut(node);
         self.sources.remove(node);
+        take_out(&mut self.noticed, node);
         self.nodes[node.place()] = None;
     }
 
-    /// Whether a node is another, or observes it on a path of pairs. Takes no memory, and time in proportion to
-    /// what lies beneath the node.
+    /// Whether a node is another, or the other lies beneath it by the edges of nodes that are no watchers. Takes no
+    /// memory, and time in proportion to what lies beneath the node.
     pub fn reaches(&mut self, from: ObjId, to: ObjId) -> bool
         requires from { IsLive self.old from }
         requires to { IsLive self.old to }
@@ -155,17 +165,46 @@ impl Graph {
         ensures same { self.new ≡ self.old }
         ensures whole { IsWhole self.new }
     {
-        let answer = is_beneath(&self.pairs, from, to, &mut self.wave);
+        let answer = is_beneath(&self.pairs, &self.nodes, from, to, &mut self.wave);
         self.wave.clear();
         answer
     }
 
-    /// The least observer of a node, if it has any. Takes time in proportion to their number.
+    /// The first by creation of the watchers that were told and not handed out since; it is forgotten. None where
+    /// there is none. Takes no memory, and moves the others up by one place.
+    pub fn next_told(&mut self) -> Option<ObjId>
+        ensures order { IsRising self.old.noticed }
+        ensures none { IfNone result ((self.old.noticed ≡ []) × (self.new ≡ self.old)) }
+        ensures some { IfSome result (λ w. (self.old.noticed ≡ w ∷ self.new.noticed)
+            × (self.new ≡ record self.old { noticed = self.new.noticed })) }
+    {
+        first_out(&mut self.noticed)
+    }
+
+    /// Whether a subject and an observer are a pair. Takes no memory, and time in proportion to what the observer
+    /// observes.
+    pub fn has_pair(&self, subject: ObjId, observer: ObjId) -> bool
+        requires subject { IsLive self.now subject }
+        requires observer { IsLive self.now observer }
+        ensures { IsTrue result ↔ IsPair self.now subject observer }
+    {
+        is_among(self.pairs.subjects(observer), subject)
+    }
+
+    /// Whether some pair has a node as its observer. Takes no memory.
+    pub fn has_subject(&self, node: ObjId) -> bool
+        requires { IsLive self.now node }
+        ensures { IsTrue result ↔ ((x : ℕ) × IsPair self.now x node) }
+    {
+        has_any(self.pairs.subjects(node))
+    }
+
+    /// The least observer of a node that is no watcher, if it has any. Takes time in proportion to its observers.
     pub fn least_observer(&self, node: ObjId) -> Option<ObjId>
         requires { IsLive self.now node }
-        ensures { IsLeast (λ o. IsPair self.now node o) result }
+        ensures { IsLeast (IsUser self.now node) result }
     {
-        least_of(self.pairs.observers(node))
+        least_user(&self.nodes, self.pairs.observers(node))
     }
 
     /// Whether a live node has this number.
@@ -278,13 +317,15 @@ impl Graph {
         clear
     }
 
-    /// A notice from all marked sources together: whom it reaches is no longer current, and no source stays marked.
+    /// A notice from all marked sources together: whom it reaches is no longer current, each watcher among them is
+    /// remembered as told, and no source stays marked.
     /// Who is told, and who passes it on, goes by the flags before the call. Takes no memory, and time in
     /// proportion to the sources, to those who are told and to their pairs.
     pub fn tell(&mut self)
         ensures { Tells self.old self.new }
     {
         tell_all(&self.pairs, &self.nodes, &self.sources, &mut self.wave);
+        notice_all(&self.nodes, &self.wave, &mut self.noticed);
         unsettle(&mut self.nodes, &self.wave);
         self.wave.clear();
         self.sources.clear();
@@ -299,6 +340,7 @@ fn takes_flags(role: Role) -> bool
         Role::Source => false,
         Role::Forwarder => false,
         Role::Lazy => true,
+        Role::Watcher => false,
     }
 }
 

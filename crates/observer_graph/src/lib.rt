@@ -10,6 +10,7 @@ mod lists;
 mod node;
 mod node_set;
 mod pairs;
+mod rising;
 mod walk;
 
 pub use graph::Graph;

@@ -1,7 +1,7 @@
 // Lists of nodes in which each stands once.
 ghost use Rattle.std.specs.Prelude.{◌≡◌, ◌↔◌, ◌==◌, position, ◌+◌, ◌<◌, ℕ, length, map, IsTrue, IfSome, OnOk, slice_get, slice_set, [], vec_len, vec_capacity};
 ghost use Rattle.walks.specs.Walk.{Among};
-ghost use Rattle.observer_graph.specs.Notice.{IsLeast, lesser};
+ghost use Rattle.observer_graph.specs.Notice.{lesser};
 ghost use Rattle.observer_graph.specs.Lists.{IsOnce, AreOnce, AreWithout, list_at, lists_of, with_last_at};
 
 use desk_names::ObjId;
@@ -23,6 +23,16 @@ pub fn take_out(list: &mut Vec<ObjId>, node: ObjId) -> bool
             list.remove(at);
             true
         }
+    }
+}
+
+/// Whether a node stands in a list.
+pub fn is_among(list: &[ObjId], node: ObjId) -> bool
+    ensures { IsTrue result ↔ Among node list.now }
+{
+    match place_of(list, node) {
+        None => false,
+        Some(_) => true,
     }
 }
 
@@ -82,17 +92,6 @@ pub fn push_at(lists: &mut [Vec<ObjId>], owner: ObjId, node: ObjId)
     ensures { lists_of lists.new ≡ with_last_at (lists_of lists.old) owner node }
 {
     lists[owner.place()].push_reserved(node);
-}
-
-/// The least node of a list, if it has any.
-pub fn least_of(nodes: &[ObjId]) -> Option<ObjId>
-    ensures { IsLeast (λ o. Among o nodes.now) result }
-{
-    let mut least: Option<ObjId> = None;
-    for node in nodes {
-        least = Some(lesser(least, *node));
-    }
-    least
 }
 
 /// The lesser of two nodes, if there are two.

@@ -1,12 +1,17 @@
 // What a graph knows of one node.
+ghost use Rattle.std.specs.Prelude.{◌↔◌, IsTrue};
+ghost use Rattle.observer_graph.specs.GraphView.{IsWatcher};
 
-/// How a node takes a notice: a source gets none, a forwarder passes each on, and a lazy node is no longer current,
-/// and passes it on where it was current or always forwards, and is not frozen.
+/// How a node takes a notice: a source gets none, a forwarder passes each on, a lazy node is no longer current, and
+/// passes it on where it was current or always forwards, and is not frozen, and a watcher is remembered as told.
 #[derive(Clone, Copy, Debug, PartialEq, Eq)]
 pub enum Role {
     Source,
     Forwarder,
     Lazy,
+    /// It passes nothing on, and is handed out once it was told. The pairs in which it observes are no edges: no path
+    /// goes through them, and it is no user of what it watches.
+    Watcher,
 }
 
 /// The flags of a lazy node (QuantLib's `LazyObject`). They are off on every other node.
@@ -25,4 +30,19 @@ pub struct Flags {
 pub struct Node {
     pub role: Role,
     pub flags: Flags,
+}
+
+/// Whether a node is a watcher; no node is that does not live.
+pub fn is_watcher(node: &Option<Node>) -> bool
+    ensures { IsTrue result ↔ IsWatcher node.now }
+{
+    match node {
+        None => false,
+        Some(live) => match live.role {
+            Role::Source => false,
+            Role::Forwarder => false,
+            Role::Lazy => false,
+            Role::Watcher => true,
+        },
+    }
 }

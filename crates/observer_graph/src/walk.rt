@@ -1,13 +1,17 @@
 // Whom a notice reaches, and what lies beneath a node: sets that grow until they are closed.
-ghost use Rattle.std.specs.Prelude.{◌≡◌, ◌↔◌, ◌<◌, ℕ, [], length, IsTrue, None, slice_index_or};
+ghost use Rattle.std.specs.Prelude.{◌≡◌, ◌↔◌, ◌⊎◌, ◌<◌, ◌≤◌, ℕ, vec_capacity, [], length, IsTrue, None, slice_index_or};
 ghost use Rattle.walks.specs.Walk.{Among};
 ghost use Rattle.observer_graph.specs.Lists.{is_marked};
 ghost use Rattle.observer_graph.specs.Notice.{IsTold, passes_of, unsettled};
-ghost use Rattle.observer_graph.specs.Walks.{IsFirst, IsWithin, Leads, graph_of};
+ghost use Rattle.observer_graph.specs.GraphView.{IsWatcher};
+ghost use Rattle.observer_graph.specs.Noticed.{AreNoticed};
+ghost use Rattle.observer_graph.specs.Walks.{IsFirst, IsWithin, Leads, edges_in, graph_of};
 
-use crate::node::{Node, Role};
+use crate::beneath::edges;
+use crate::node::{Node, Role, is_watcher};
 use crate::node_set::NodeSet;
 use crate::pairs::Pairs;
+use crate::rising::put_in;
 use desk_names::ObjId;
 
 /// Puts those whom a notice from the sources reaches into an empty set. Each of them is looked at once, and each
@@ -71,28 +75,55 @@ fn passes(node: &Option<Node>) -> bool
             Role::Source => false,
             Role::Forwarder => true,
             Role::Lazy => !live.flags.frozen && (live.flags.current || live.flags.forward),
+            Role::Watcher => false,
         },
     }
 }
 
-/// Whether a node is another or observes it on a path of pairs, by an empty set that is filled with what lies
-/// beneath it.
-pub fn is_beneath(pairs: &Pairs, from: ObjId, to: ObjId, wave: &mut NodeSet) -> bool
-    requires within { IsWithin pairs.now.subjects (length wave.old.marks) }
-    requires pairs { length pairs.now.subjects ≡ length wave.old.marks }
-    requires from { from < length wave.old.marks }
-    requires to { to < length wave.old.marks }
+/// Whether a node is another, or the other lies beneath it by the edges of nodes that are no watchers, by an empty set
+/// that is filled with what lies beneath the node.
+pub fn is_beneath(
+    pairs: &Pairs,
+    nodes: &[Option<Node>],
+    from: ObjId,
+    to: ObjId,
+    wave: &mut NodeSet,
+) -> bool
+    requires within { IsWithin pairs.now.subjects (length nodes.now) }
+    requires pairs { length pairs.now.subjects ≡ length nodes.now }
+    requires wave { length wave.old.marks ≡ length nodes.now }
+    requires from { from < length nodes.now }
+    requires to { to < length nodes.now }
     requires empty { wave.old.items ≡ [] }
-    ensures answer { IsTrue result ↔ Leads pairs.now.subjects from to }
+    ensures answer { IsTrue result ↔ Leads (edges_in nodes.now pairs.now.subjects) from to }
     ensures room { length wave.new.marks ≡ length wave.old.marks }
 {
     wave.insert(from);
     let mut at: usize = 0;
     while at < wave.len() {
-        wave.insert_all(pairs.subjects(wave.get(at)));
+        let node = wave.get(at);
+        wave.insert_all(edges(pairs, nodes, node));
         at += 1;
     }
     wave.contains(to)
+}
+
+/// The watchers among those who were told are remembered, by creation.
+pub fn notice_all(nodes: &[Option<Node>], wave: &NodeSet, noticed: &mut Vec<ObjId>)
+    requires within { (o : ℕ) → Among o wave.now.items → o < length nodes.now }
+    requires noticed { AreNoticed noticed.old.items (length nodes.now) }
+    requires room { length nodes.now ≤ vec_capacity noticed.old }
+    ensures told { (w : ℕ) → Among w noticed.new.items
+        ↔ (Among w noticed.old.items ⊎ (IsWatcher (slice_index_or nodes.now w None) × Among w wave.now.items)) }
+    ensures noticed { AreNoticed noticed.new.items (length nodes.now) }
+    ensures room { vec_capacity noticed.old ≤ vec_capacity noticed.new }
+{
+    for at in 0..wave.len() {
+        let told = wave.get(at);
+        if is_watcher(&nodes[told.place()]) {
+            put_in(noticed, told);
+        }
+    }
 }
 
 /// Those who were told are no longer current.

@@ -3,8 +3,10 @@ use Rattle.std.specs.Prelude.{not, slice_index_or}
 use Rattle.std.proofs.lemmas.Bool.{eqb-true, eq-eqb, false≢true}
 use Rattle.std.proofs.lemmas.Option.{get_or_from_slice_get, slice_get_within}
 use Rattle.walks.specs.Walk.{Among}
-use Rattle.observer_graph.specs.Lists.{SetView, Extends}
+use Rattle.observer_graph.specs.Lists.{SetView, Extends, list_at}
+use Rattle.observer_graph.specs.Walks.{edges_in}
 use Rattle.observer_graph.specs.Late.{frozen_of}
+use Rattle.observer_graph.proofs.Edges.{edge_pair}
 use Rattle.observer_graph.proofs.Members.{among_item}
 use Rattle.observer_graph.proofs.Marks.{marked_within}
 use Rattle.observer_graph.proofs.Exposed.{GoesOn, Sinks, sinks_first, sinks_on, sinks_past, sinks_all}
@@ -14,7 +16,7 @@ use Rattle.observer_graph.proofs.beneath.go_down.Goals.{then-eq, then-eq-via-the
 pub loop-at-init : goal.loop-at-init
 loop-at-init c = record {
   room = refl;
-  down = sinks_first c.args.pairs.now.subjects (λ y. not (frozen_of (slice_index_or c.args.nodes.now y None))) c.args.from
+  down = sinks_first (edges_in c.args.nodes.now c.args.pairs.now.subjects) (λ y. not (frozen_of (slice_index_or c.args.nodes.now y None))) c.args.from
       c.insert.new.self.items (λ o. (
         λ a. elim ((c.insert.ensures.extends.items o).0 a) [
           | inl was ↦ absurd (subst (Among o) c.requires.empty was)
@@ -33,17 +35,19 @@ bounds-nodes-place c =
     let r = c.loop-at.invariant.room in let f = c.insert.ensures.extends.room in let w = c.requires.wave in
     let p = c.place.ensures in omega arith
 
-pub subjects-requires : goal.subjects-requires
-subjects-requires c =
+pub edges-requires-clause-within : goal.edges-requires-clause-within
+edges-requires-clause-within c =
     let here = among_item c.loop-at.wave.items c.loop-at.at c.get-node.result
     (slice_get_within c.loop-at.wave.items c.loop-at.at c.get-node.result c.get-node.ensures)
     (sym (get_or_from_slice_get c.loop-at.wave.items c.loop-at.at c.get-node.result c.get-node.result c.get-node.ensures)) in
     let low = marked_within c.loop-at.wave.marks c.get-node.result (c.len.ensures.set.marked c.get-node.result here) in
     let r = c.loop-at.invariant.room in let f = c.insert.ensures.extends.room in let w = c.requires.wave in
-    let p = c.requires.pairs in omega arith
+    omega arith
 
 pub insert_all-requires : goal.insert_all-requires
-insert_all-requires c = λ o a. let b = (c.requires.within o c.get-node.result (subst (Among o) c.subjects.ensures a)).0 in
+insert_all-requires c = λ o a. let b = (c.requires.within o c.get-node.result
+    (edge_pair (slice_index_or c.args.nodes.now c.get-node.result None) (list_at c.args.pairs.now.subjects c.get-node.result) o
+    (subst (Among o) c.edges.ensures a))).0 in
     let r = c.loop-at.invariant.room in let f = c.insert.ensures.extends.room in let w = c.requires.wave in omega arith
 
 pub loop-at-preserved : goal.loop-at-preserved
@@ -62,12 +66,12 @@ loop-at-preserved c =
           ] in
           record {
             room = ap (λ (v : SetView). length v.marks) w.wave-is ∙ w.insert_all.ensures.room ∙ c.loop-at.invariant.room;
-            down = subst (λ (v : SetView). Sinks c.args.pairs.now.subjects P c.args.from v.items (c.loop-at.at + 1))
+            down = subst (λ (v : SetView). Sinks (edges_in c.args.nodes.now c.args.pairs.now.subjects) P c.args.from v.items (c.loop-at.at + 1))
                 (sym w.wave-is)
-                (sinks_on c.args.pairs.now.subjects P c.args.from c.loop-at.wave w.insert_all.new.self c.loop-at.at
+                (sinks_on (edges_in c.args.nodes.now c.args.pairs.now.subjects) P c.args.from c.loop-at.wave w.insert_all.new.self c.loop-at.at
                 c.get-node.result low is here on
                 (subst (λ (l : List ℕ). Extends c.loop-at.wave w.insert_all.new.self (λ o. Among o l))
-                w.subjects.ensures w.insert_all.ensures) c.loop-at.invariant.down);
+                w.edges.ensures w.insert_all.ensures) c.loop-at.invariant.down);
           }
       | else-eq+else-not-is_frozen w ↦
           let stops : GoesOn P c.args.from c.get-node.result → ⊥ = λ goes. elim goes [
@@ -77,14 +81,14 @@ loop-at-preserved c =
           ] in
           record {
             room = ap (λ (v : SetView). length v.marks) w.wave-is ∙ c.loop-at.invariant.room;
-            down = subst (λ (v : SetView). Sinks c.args.pairs.now.subjects P c.args.from v.items (c.loop-at.at + 1))
+            down = subst (λ (v : SetView). Sinks (edges_in c.args.nodes.now c.args.pairs.now.subjects) P c.args.from v.items (c.loop-at.at + 1))
                 (sym w.wave-is)
-                (sinks_past c.args.pairs.now.subjects P c.args.from c.loop-at.wave.items c.loop-at.at c.get-node.result
+                (sinks_past (edges_in c.args.nodes.now c.args.pairs.now.subjects) P c.args.from c.loop-at.wave.items c.loop-at.at c.get-node.result
                 low is stops c.loop-at.invariant.down);
           }
     ]
 
 pub returns-clause-exposed : goal.returns-clause-exposed
-returns-clause-exposed c = λ x. sinks_all c.args.pairs.now.subjects
+returns-clause-exposed c = λ x. sinks_all (edges_in c.args.nodes.now c.args.pairs.now.subjects)
     (λ y. not (frozen_of (slice_index_or c.args.nodes.now y None))) c.args.from c.loop-at.wave.items c.loop-at.at x
     (let e = c.len.ensures.len in let t = c.loop-at-test.false in omega arith) c.loop-at.invariant.down

@@ -1,3 +1,6 @@
+use Rattle.std.proofs.Common.{arith}
+use Rattle.std.proofs.lemmas.List.{length-append}
+use Rattle.observer_graph.proofs.Numbers.{noticed_more}
 use Rattle.std.proofs.Common.{◌∙◌, ◌<◌, ◌^◌, ◌++◌, [], ◌∷◌, ap, sym, subst, List, Bool, false, ℕ, length, Option, Some}
 use Rattle.observer_graph.specs.declared.node.Node.{Node}
 use Rattle.observer_graph.specs.GraphView.{GraphView}
@@ -22,6 +25,11 @@ invariant_of-self-2 c = (
   c.self.invariant.1 ∙ sym (ap frozen_count (c.push_reserved.ensures.items ∙ ap (λ (l : List (Option Node)). l ++ Some
       (record { role = c.args.role; flags = c.default.result }) ∷ []) c.in_ok-reserve.ensures.items)
       ∙ count_last c.self.inside.nodes.items (Some (record { role = c.args.role; flags = c.default.result })) c.default.ensures.1.0),
+  (let grown = ap length (c.push_reserved.ensures.items ∙ ap (λ (l : List (Option Node)). l ++ Some (record { role = c.args.role; flags = c.default.result }) ∷ []) c.in_ok-reserve.ensures.items) ∙ length-append c.self.inside.nodes.items (Some (record { role = c.args.role; flags = c.default.result }) ∷ []) in
+      rw c.in_ok-reserve_for.ensures.items (noticed_more c.self.inside.noticed.items (length c.self.inside.nodes.items) (length c.push_reserved.new.self.items) (omega arith) c.self.invariant.2)),
+  (let grown = ap length (c.push_reserved.ensures.items ∙ ap (λ (l : List (Option Node)). l ++ Some (record { role = c.args.role; flags = c.default.result }) ∷ []) c.in_ok-reserve.ensures.items) ∙ length-append c.self.inside.nodes.items (Some (record { role = c.args.role; flags = c.default.result }) ∷ []) in
+      let len = c.len.ensures in let same = c.in_ok-reserve.ensures.len in let ok = c.self.inside.nodes.ok.0 in
+      let room = c.in_ok-reserve_for.ensures.room in omega arith),
 )
 
 pub returns-clause-whole : goal.returns-clause-whole

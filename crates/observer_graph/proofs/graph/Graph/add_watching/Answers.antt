@@ -1,3 +1,4 @@
+use Rattle.observer_graph.proofs.Numbers.{noticed_more}
 use Rattle.std.proofs.Common.{◌≡◌, ◌<◌, ◌^◌, ◌+◌, ◌∙◌, ℕ, inl, inr, [], ◌∷◌, ◌++◌, List, Bool, false, Option, Some, length, ap, sym, subst, arith}
 use Rattle.std.specs.Prelude.{◌↔◌}
 use Rattle.std.proofs.lemmas.List.{length-append}
@@ -58,12 +59,18 @@ invariant_of-self-2 c = (
       (c.grow-2.ensures.items ∙ c.clear.ensures.items),
   c.self.invariant.1 ∙ sym (ap frozen_count (nodes_are c)
       ∙ count_last c.self.inside.nodes.items (Some (record { role = c.args.role; flags = c.default.result })) c.default.ensures.1.0),
+  (let grown = ap length (nodes_are c) ∙ length-append c.self.inside.nodes.items (Some (record { role = c.args.role; flags = c.default.result }) ∷ []) in
+      rw c.in_ok-reserve_for.ensures.items (noticed_more c.self.inside.noticed.items (length c.self.inside.nodes.items) (length c.push_reserved.new.self.items) (omega arith) c.self.invariant.2)),
+  (let grown = ap length (nodes_are c) ∙ length-append c.self.inside.nodes.items (Some (record { role = c.args.role; flags = c.default.result }) ∷ []) in
+      let len = c.len.ensures in let same = c.in_ok-reserve.ensures.len in let ok = c.self.inside.nodes.ok.0 in
+      let room = c.in_ok-reserve_for.ensures.room in omega arith),
 )
 
 pub returns-clause-ok : goal.returns-clause-ok
-returns-clause-ok c = subst (λ (v : GraphView). AddsNode c.args.role c.args.subjects.now v (graph_of c.push_reserved.new.self.items c.grow_linked-linked.new.self.subjects c.grow.new.self.marks)) c.self.view_is
-    (adds_node c.self.inside.nodes.items c.push_reserved.new.self.items c.self.inside.pairs.subjects c.grow_linked-linked.new.self.subjects c.self.inside.sources.marks c.grow.new.self.marks
-    c.args.role c.default.result c.items.result.now c.args.subjects.now c.self.invariant.0.whole (off_flags c.default.result c.default.ensures) (nodes_are c) (named_are c) (pairs_are c) (sources_are c))
+returns-clause-ok c =
+    let adds = adds_node c.self.inside.nodes.items c.push_reserved.new.self.items c.self.inside.pairs.subjects c.grow_linked-linked.new.self.subjects c.self.inside.sources.marks c.grow.new.self.marks
+    c.args.role c.default.result c.items.result.now c.args.subjects.now c.self.invariant.0.whole (off_flags c.default.result c.default.ensures) (nodes_are c) (named_are c) (pairs_are c) (sources_are c) in
+    rw (← c.self.view_is) (record { nodes = adds.nodes; sources = adds.sources; noticed = c.in_ok-reserve_for.ensures.items; pairs = adds.pairs })
 
 pub returns-clause-whole : goal.returns-clause-whole
 returns-clause-whole c = (invariant_of-self-2 c).0.whole

@@ -1,3 +1,6 @@
+use Rattle.std.proofs.Common.{ℕ, List, length, None, slice_set, vec_capacity}
+use Rattle.observer_graph.specs.Noticed.{AreNoticed, without}
+use Rattle.observer_graph.proofs.Numbers.{noticed_set, noticed_without, room_set}
 use Rattle.std.proofs.Common.{◌∙◌, ap, refl, sym, subst, arith}
 use Rattle.observer_graph.specs.GraphView.{GraphView, IsLive}
 use Rattle.observer_graph.proofs.Wholes.{live_within, stands_removed}
@@ -29,8 +32,13 @@ invariant_of-self c =
           c.cut.ensures.len c.cut.ensures.once c.cut.ensures.left c.remove.ensures c.self.invariant.0,
       count_removed c.self.inside.nodes.items c.args.node c.recounted-self-inside.result low
           (let e = c.recounted-self-inside.ensures in let f = c.self.invariant.1 in omega arith),
+      subst (λ (l : List ℕ). AreNoticed l (length (slice_set c.self.inside.nodes.items c.args.node None))) (sym c.take_out.ensures.items)
+          (noticed_set c.self.inside.nodes.items c.args.node None (without c.args.node c.self.inside.noticed.items) 0
+          (noticed_without c.self.inside.noticed.items c.args.node (length c.self.inside.nodes.items) c.self.invariant.2)),
+      (let room = room_set c.self.inside.nodes.items c.args.node None c.self.inside.noticed.items (vec_capacity c.self.inside.noticed) c.self.invariant.3 in
+          let same = c.take_out.ensures.room in omega arith),
     )
 
 pub returns : goal.returns
 returns c = rw (← c.self.view_is, c.place-2.ensures)
-    (record { nodes = refl; sources = c.remove.ensures; pairs = c.cut.ensures.left })
+    (record { nodes = refl; sources = c.remove.ensures; noticed = c.take_out.ensures.items; pairs = c.cut.ensures.left })

@@ -8,8 +8,10 @@ invariant_of-self c = (
       c.self.inside.wave c.self.invariant.0 c.unlink.ensures.len c.unlink.ensures.once
       (λ x o a. c.self.invariant.0.whole.ends x o ((c.unlink.ensures.left x o).0 a).0),
   c.self.invariant.1,
+  c.self.invariant.2,
+  c.self.invariant.3,
 )
 
 pub returns-clause-pairs : goal.returns-clause-pairs
 returns-clause-pairs c = rw (← c.self.view_is)
-    (record { nodes = refl; sources = refl; pairs = c.unlink.ensures.left })
+    (record { nodes = refl; sources = refl; noticed = refl; pairs = c.unlink.ensures.left })

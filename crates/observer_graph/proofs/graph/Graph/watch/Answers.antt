@@ -18,12 +18,14 @@ invariant_of-self c = (
       (either c.link.result c.link.ensures.ok c.link.ensures.err (λ pairs x o a. (pairs x o).0 a)
       (λ same x o a. inl (subst (λ (l : List (List ℕ)). Among x (list_at l o)) same a)))),
   c.self.invariant.1,
+  c.self.invariant.2,
+  c.self.invariant.3,
 )
 
 pub returns-clause-ok : goal.returns-clause-ok
 returns-clause-ok c = rw (← c.self.view_is) (on_ok_weaker c.link.result
     (λ (pairs : ArePairs c.link.new.self.subjects (λ x o. Among x (list_at c.self.inside.pairs.subjects o)
-    ⊎ ((x ≡ c.args.subject) × (o ≡ c.args.observer)))). record { nodes = refl; sources = refl; pairs = pairs })
+    ⊎ ((x ≡ c.args.subject) × (o ≡ c.args.observer)))). record { nodes = refl; sources = refl; noticed = refl; pairs = pairs })
     c.link.ensures.ok)
 
 pub returns-clause-whole : goal.returns-clause-whole

@@ -1,0 +1,92 @@
+// Rising lists of nodes.
+ghost use Rattle.std.specs.Prelude.{◌≡◌, ◌↔◌, ◌<◌, ◌≤◌, ℕ, [], ◌∷◌, length, IsTrue, IfSome, IfNone, OnOk, vec_len, vec_capacity};
+ghost use Rattle.walks.specs.Walk.{Among};
+ghost use Rattle.observer_graph.specs.Noticed.{IsRising, IsPlace, with_number, without, is_at};
+
+use desk_names::ObjId;
+use std::alloc::AllocError;
+
+/// Puts a node in its place, unless it is there.
+pub fn put_in(nodes: &mut Vec<ObjId>, entry: ObjId)
+    requires rising { IsRising nodes.old.items }
+    requires room { length (with_number entry nodes.old.items) ≤ vec_capacity nodes.old }
+    ensures items { nodes.new.items ≡ with_number entry nodes.old.items }
+    ensures room { vec_capacity nodes.old ≤ vec_capacity nodes.new }
+{
+    let at = place_of(nodes, entry);
+    if !is_at(nodes, at, entry) {
+        match nodes.insert(at, entry) {
+            Ok(()) => {}
+            Err(_) => unreachable!(),
+        }
+    }
+}
+
+/// Takes a node out, if it is there.
+pub fn take_out(nodes: &mut Vec<ObjId>, node: ObjId)
+    requires rising { IsRising nodes.old.items }
+    ensures items { nodes.new.items ≡ without node nodes.old.items }
+    ensures room { vec_capacity nodes.new ≡ vec_capacity nodes.old }
+{
+    let at = place_of(nodes, node);
+    if is_at(nodes, at, node) {
+        nodes.remove(at);
+    }
+}
+
+// Whether a node stands at a place.
+fn is_at(nodes: &[ObjId], at: usize, node: ObjId) -> bool
+    ensures { result ≡ is_at nodes.now at node }
+{
+    match nodes.get(at) {
+        Some(entry) => *entry == node,
+        None => false,
+    }
+}
+
+// How many of them were created before a node.
+fn place_of(nodes: &[ObjId], node: ObjId) -> usize
+    requires { IsRising nodes.now }
+    ensures { IsPlace nodes.now node result }
+{
+    let mut low: usize = 0;
+    let mut high: usize = nodes.len();
+    while low < high {
+        let middle = low + (high - low) / 2;
+        if nodes[middle].place() < node.place() {
+            low = middle + 1;
+        } else {
+            high = middle;
+        }
+    }
+    low
+}
+
+/// Finds the room for so many nodes, where memory is not wanting.
+pub fn reserve_for(nodes: &mut Vec<ObjId>, room: usize) -> Result<(), AllocError>
+    ensures items { nodes.new.items ≡ nodes.old.items }
+    ensures more { vec_capacity nodes.old ≤ vec_capacity nodes.new }
+    ensures room { OnOk result (room ≤ vec_capacity nodes.new) }
+{
+    nodes.reserve(room.saturating_sub(nodes.len()))
+}
+
+/// Takes the first node out, if there is one.
+pub fn first_out(nodes: &mut Vec<ObjId>) -> Option<ObjId>
+    ensures none { IfNone result (nodes.old.items ≡ []) }
+    ensures some { IfSome result (λ w. nodes.old.items ≡ w ∷ nodes.new.items) }
+    ensures same { IfNone result (nodes.new.items ≡ nodes.old.items) }
+    ensures room { vec_capacity nodes.new ≡ vec_capacity nodes.old }
+{
+    if nodes.is_empty() {
+        return None;
+    }
+    Some(nodes.remove(0))
+}
+
+/// Whether there is any node.
+pub fn has_any(nodes: &[ObjId]) -> bool
+    ensures { IsTrue result ↔ ((x : ℕ) × Among x nodes.now) }
+{
+    !nodes.is_empty()
+}

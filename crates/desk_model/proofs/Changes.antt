@@ -81,7 +81,7 @@ pub live_in : (slot : Slot) (terms : Terms) → kind_in slot ≡ Some (kind_of t
     → (old : Terms) × (slot ≡ Live old) × (kind_of terms ≡ kind_of old)
 live_in Free terms is = absurd (cc)
 live_in Today terms is = absurd (not_today terms (some_kind kind.TheVariants.Today (kind_of terms) is))
-live_in (Watcher action) terms is = absurd (not_watcher terms (some_kind kind.TheVariants.Watcher (kind_of terms) is))
+live_in Watcher terms is = absurd (not_watcher terms (some_kind kind.TheVariants.Watcher (kind_of terms) is))
 live_in (Live old) terms is = (old, refl, some_kind (kind_of old) (kind_of terms) is)
 
 today_live : (terms : Terms) → Today ≡ Live terms → ⊥

@@ -55,7 +55,7 @@ some_terms a b e = cc
 kind_of_slot : (slot : Slot) (terms : Terms) → terms_in slot ≡ Some terms → kind_in slot ≡ Some (kind_of terms)
 kind_of_slot Free terms is = absurd (cc)
 kind_of_slot Today terms is = absurd (cc)
-kind_of_slot (Watcher action) terms is = absurd (cc)
+kind_of_slot Watcher terms is = absurd (cc)
 kind_of_slot (Live old) terms is = ap (λ (t : Terms). Some (kind_of t)) (some_terms old terms is)
 
 pub kind_there : (m : Market) (x : ℕ) (terms : Terms) → terms_at m x ≡ Some terms → kind_at m x ≡ Some (kind_of terms)

@@ -53,7 +53,7 @@ notified_market false x u = refl
 serving_observed : (slot : Slot) (w : wanted.Wanted) → serves_as (kind_in slot) w ≡ true → is_observable slot ≡ true
 serving_observed Free w is = absurd (cc)
 serving_observed Today w is = refl
-serving_observed (Watcher action) w is = absurd (cc)
+serving_observed Watcher w is = absurd (cc)
 serving_observed (Live terms) w is = refl
 
 named_observed : (m : Market) (references : List Reference) → Serve m references → (y : ℕ) → Among y (named references)

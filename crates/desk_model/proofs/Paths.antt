@@ -38,7 +38,7 @@ module _ (reads : ℕ → List ℕ) (n : ℕ) (within : IsWithin reads n) (acycl
 no_edges_in : (slot : Slot) → is_watcher slot ≡ true → edges_of (terms_in slot) ≡ []
 no_edges_in Free is = absurd (cc)
 no_edges_in Today is = absurd (cc)
-no_edges_in (Watcher action) is = refl
+no_edges_in Watcher is = refl
 no_edges_in (Live terms) is = absurd (cc)
 
 module _ (s : State) (whole : IsWhole s) where

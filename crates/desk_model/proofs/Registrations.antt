@@ -1,6 +1,6 @@
 -- Registrations and notices of watchers leave the market and what is stored: all that is current stays as it was.
-use Rattle.std.proofs.Common.{◌≡◌, ◌⊎◌, inl, inr, ℕ, Bool, true, false, List, [], ◌∷◌, ◌++◌, refl, sym, subst}
-use Rattle.std.specs.Prelude.{◌==◌, ◌&&◌, if◌then◌else◌}
+use Rattle.std.proofs.Common.{◌≡◌, ◌⊎◌, inl, inr, ℕ, Bool, true, false, List, [], ◌∷◌, refl, sym, subst}
+use Rattle.std.specs.Prelude.{◌==◌, ◌&&◌, ◌||◌, nat_lt, if◌then◌else◌}
 use Rattle.std.proofs.lemmas.Bool.{eqb-true}
 use Rattle.walks.specs.Walk.{Among}
 use Rattle.desk_model.specs.Market.{without}
@@ -9,7 +9,7 @@ use Rattle.desk_model.specs.Told.{registered}
 use Rattle.desk_model.specs.Sound.{has_source, KeepsCurrent}
 use Rattle.desk_model.specs.Links.{IsRegistration, IsWhole}
 use Rattle.desk_model.specs.Laws.{Keeps}
-use Rattle.desk_model.specs.Effect.{registered_with, without_pair, unregistered, handed_out}
+use Rattle.desk_model.specs.Effect.{registered_with, with_pair, without_pair, unregistered, handed_out}
 use Rattle.desk_model.proofs.Edges.{without_fewer}
 
 -- other registrations and notices
@@ -21,7 +21,7 @@ rest_keeps s pairs noticed = record {
   each = λ o current none. record { current = current; source = none; reading = refl; last = refl; ready = λ before. before };
 }
 
-more_pairs : (w o v y : ℕ) (pairs : List (ℕ × ℕ)) → Among y (registered (pairs ++ (w, o) ∷ []) v)
+more_pairs : (w o v y : ℕ) (pairs : List (ℕ × ℕ)) → Among y (registered (with_pair w o pairs) v)
     → Among y (registered pairs v) ⊎ ((w ≡ v) × (y ≡ o))
 more_pairs w o v y [] among = by_new (w == v) refl among
   where
@@ -29,15 +29,30 @@ more_pairs w o v y [] among = by_new (w == v) refl among
     by_new true is (inl same) = inr (eqb-true w v is, same)
     by_new true is (inr none) = absurd none
     by_new false is none = absurd none
-more_pairs w o v y (pair ∷ pairs) among = by_first (pair.0 == v) among (λ more. more_pairs w o v y pairs more)
+more_pairs w o v y (pair ∷ pairs) among = by_place ((pair.0 == w) && (pair.1 == o))
+    (nat_lt w pair.0 || ((pair.0 == w) && nat_lt o pair.1)) among (λ more. more_pairs w o v y pairs more)
   where
     by_first : (b : Bool)
-        → Among y (if b then pair.1 ∷ registered (pairs ++ (w, o) ∷ []) v else registered (pairs ++ (w, o) ∷ []) v)
-        → (Among y (registered (pairs ++ (w, o) ∷ []) v) → Among y (registered pairs v) ⊎ ((w ≡ v) × (y ≡ o)))
+        → Among y (if b then pair.1 ∷ registered (with_pair w o pairs) v else registered (with_pair w o pairs) v)
+        → (Among y (registered (with_pair w o pairs) v) → Among y (registered pairs v) ⊎ ((w ≡ v) × (y ≡ o)))
         → Among y (if b then pair.1 ∷ registered pairs v else registered pairs v) ⊎ ((w ≡ v) × (y ≡ o))
     by_first true (inl same) more = inl (inl same)
     by_first true (inr among) more = elim (more among) [ inl was ↦ inl (inr was) | inr new ↦ inr new ]
     by_first false among more = more among
+
+    by_new : (b : Bool) → (w == v) ≡ b → Among y (if b then o ∷ registered (pair ∷ pairs) v else registered (pair ∷ pairs) v)
+        → Among y (registered (pair ∷ pairs) v) ⊎ ((w ≡ v) × (y ≡ o))
+    by_new true is (inl same) = inr (eqb-true w v is, same)
+    by_new true is (inr among) = inl among
+    by_new false is among = inl among
+
+    by_place : (b c : Bool)
+        → Among y (registered (if b then pair ∷ pairs else if c then (w, o) ∷ pair ∷ pairs else pair ∷ with_pair w o pairs) v)
+        → (Among y (registered (with_pair w o pairs) v) → Among y (registered pairs v) ⊎ ((w ≡ v) × (y ≡ o)))
+        → Among y (registered (pair ∷ pairs) v) ⊎ ((w ≡ v) × (y ≡ o))
+    by_place true c among more = inl among
+    by_place false true among more = by_new (w == v) refl among
+    by_place false false among more = by_first (pair.0 == v) among more
 
 fewer_pairs : (w o v y : ℕ) (pairs : List (ℕ × ℕ)) → Among y (registered (without_pair w o pairs) v)
     → Among y (registered pairs v)
@@ -85,11 +100,11 @@ module _ (s : State) (whole : IsWhole s) where
   pub register_keeps : (w o : ℕ) → IsRegistration s.market w o → Keeps s (registered_with w o s)
   unfolding registered_with
   register_keeps w o new = record {
-    whole = whole_rest (s.registrations ++ (w, o) ∷ []) s.noticed (λ v y among. elim (more_pairs w o v y s.registrations among) [
+    whole = whole_rest (with_pair w o s.registrations) s.noticed (λ v y among. elim (more_pairs w o v y s.registrations among) [
       | inl was ↦ whole.registered v y was
       | inr is ↦ subst (λ (u : ℕ). IsRegistration s.market u y) is.0 (subst (IsRegistration s.market w) (sym is.1) new)
     ]) (λ v among. among);
-    current = rest_keeps s (s.registrations ++ (w, o) ∷ []) s.noticed;
+    current = rest_keeps s (with_pair w o s.registrations) s.noticed;
   }
 
   pub unregister_keeps : (w o : ℕ) → Keeps s (unregistered w o s)

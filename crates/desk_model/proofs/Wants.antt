@@ -38,7 +38,7 @@ serves_terms_in : (slot : Slot) (w : wanted.Wanted) → serves_as (kind_in slot)
     → serves_as (kind_of_terms (terms_in slot)) w ≡ true
 serves_terms_in Free w is = absurd (cc)
 serves_terms_in Today w is = absurd (cc)
-serves_terms_in (Watcher action) w is = absurd (cc)
+serves_terms_in Watcher w is = absurd (cc)
 serves_terms_in (Live terms) w is = is
 
 -- what serves has terms that serve
@@ -155,7 +155,7 @@ member_lazy_in : (slot : Slot) → serves_as (kind_in slot) wanted.TheVariants.M
     → is_lazy (role_of (terms_in slot)) ≡ true
 member_lazy_in Free is = absurd (cc)
 member_lazy_in Today is = absurd (cc)
-member_lazy_in (Watcher action) is = absurd (cc)
+member_lazy_in Watcher is = absurd (cc)
 member_lazy_in (Live (Quote value)) is = absurd (cc)
 member_lazy_in (Live (Derived minus first second)) is = absurd (cc)
 member_lazy_in (Live (Handle handle.TheVariants.Quote target)) is = absurd (cc)
@@ -254,7 +254,7 @@ member_no_curve : (m : Market) (x : ℕ) (slot : Slot) (c : CurveView) → serve
     → IsValued (terms_in slot) x (value.Curve c) → ⊥
 member_no_curve m x Free c is worth = absurd (cc)
 member_no_curve m x Today c is worth = absurd (cc)
-member_no_curve m x (Watcher action) c is worth = absurd (cc)
+member_no_curve m x Watcher c is worth = absurd (cc)
 member_no_curve m x (Live (Quote v)) c is worth = absurd (cc)
 member_no_curve m x (Live (Derived minus first second)) c is worth = absurd (cc)
 member_no_curve m x (Live (Handle handle.TheVariants.Quote target)) c is worth = absurd (cc)

@@ -30,7 +30,7 @@ IsPlain m o = is_watcher (slot_at m o) ≡ false
 lazy_plain_in : (slot : Slot) → is_lazy (role_of (terms_in slot)) ≡ true → is_watcher slot ≡ false
 lazy_plain_in Free is = refl
 lazy_plain_in Today is = refl
-lazy_plain_in (Watcher action) is = absurd (cc)
+lazy_plain_in Watcher is = absurd (cc)
 lazy_plain_in (Live terms) is = refl
 
 pub lazy_plain : (m : Market) (o : ℕ) → is_lazy_at m o ≡ true → IsPlain m o
@@ -39,7 +39,7 @@ lazy_plain m o is = lazy_plain_in (slot_at m o) is
 observed_plain_in : (slot : Slot) → is_observable slot ≡ true → is_watcher slot ≡ false
 observed_plain_in Free is = refl
 observed_plain_in Today is = refl
-observed_plain_in (Watcher action) is = absurd (cc)
+observed_plain_in Watcher is = absurd (cc)
 observed_plain_in (Live terms) is = refl
 
 pub observed_plain : (m : Market) (o : ℕ) → is_observable (slot_at m o) ≡ true → IsPlain m o
@@ -49,7 +49,7 @@ passing_plain_in : (slot : Slot) (kept : Kept) → forwards_as (role_of (terms_i
     → is_watcher slot ≡ false
 passing_plain_in Free kept is = refl
 passing_plain_in Today kept is = refl
-passing_plain_in (Watcher action) kept is = absurd (cc)
+passing_plain_in Watcher kept is = absurd (cc)
 passing_plain_in (Live terms) kept is = refl
 
 -- what passes a notice on is no watcher

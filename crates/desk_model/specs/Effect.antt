@@ -1,5 +1,5 @@
 -- What changes do to a state.
-use Rattle.std.specs.Prelude.{ℕ, Bool, true, false, ◌==◌, ◌&&◌, ◌||◌, if◌then◌else◌, List, [], ◌∷◌, ◌++◌, ℤ, Option, slice_set}
+use Rattle.std.specs.Prelude.{ℕ, Bool, true, false, ◌==◌, ◌&&◌, ◌||◌, if◌then◌else◌, nat_lt, List, [], ◌∷◌, ◌++◌, ℤ, Option, slice_set}
 use Rattle.std.specs.Option.{option_eq}
 use Rattle.std.specs.Ordering.{int_eq}
 use Rattle.desk_terms.specs.declared.terms.Terms.{Terms}
@@ -28,12 +28,13 @@ start today = record {
 abbrev pub added : Slot → State → State
 added slot state = record state { market = record state.market { objects = state.market.objects ++ slot ∷ [] }; kept = state.kept ++ unpriced ∷ [] }
 
--- an object is made; a watcher is
+-- an object is made
 unfoldable pub made : Terms → State → State
 made terms state = added (Live terms) state
 
-unfoldable pub watching : ℕ → State → State
-watching action state = added (Watcher action) state
+-- a watcher is made: it is registered with nothing
+unfoldable pub watching : State → State
+watching state = added Watcher state
 
 -- what is stored of one object, changed
 abbrev pub with_kept : ℕ → Kept → State → State
@@ -143,7 +144,7 @@ with_today day state = record state { market = record state.market { today = day
 unfoldable pub today_set : ℤ → State → State
 today_set day state = if int_eq state.market.today day then state else notified 0 (with_today day state)
 
--- an object that none observes is taken out, with its registrations and its notice
+-- the registrations in which neither the watcher nor the object is x
 abbrev pub without_pairs : ℕ → List (ℕ × ℕ) → List (ℕ × ℕ)
 without_pairs x [] = []
 without_pairs x (pair ∷ pairs) =
@@ -151,7 +152,8 @@ without_pairs x (pair ∷ pairs) =
     then without_pairs x pairs
     else pair ∷ without_pairs x pairs
 
--- `drop`: nothing of x stays but its number
+-- `drop` of an object that none has among its edges, or of a watcher: nothing of x stays but its number. It is registered
+-- with nothing, nobody is registered with it, and it is told no more.
 unfoldable pub dropped : ℕ → State → State
 dropped x state = record state {
   market = record state.market { objects = slice_set state.market.objects x Free };
@@ -160,9 +162,19 @@ dropped x state = record state {
   noticed = without x state.noticed;
 }
 
--- a watcher is registered with an object, or is so no more (QuantLib's `Observer::registerWith`)
+-- a registration more, at its place, unless it is there
+abbrev pub with_pair : ℕ → ℕ → List (ℕ × ℕ) → List (ℕ × ℕ)
+with_pair w o [] = (w, o) ∷ []
+with_pair w o (pair ∷ pairs) =
+    if (pair.0 == w) && (pair.1 == o)
+    then pair ∷ pairs
+    else if nat_lt w pair.0 || ((pair.0 == w) && nat_lt o pair.1)
+    then (w, o) ∷ pair ∷ pairs
+    else pair ∷ with_pair w o pairs
+
+-- a watcher is registered with an object: nothing where it is already (QuantLib's `Observer::registerWith`)
 unfoldable pub registered_with : ℕ → ℕ → State → State
-registered_with w o state = record state { registrations = state.registrations ++ (w, o) ∷ [] }
+registered_with w o state = record state { registrations = with_pair w o state.registrations }
 
 abbrev pub without_pair : ℕ → ℕ → List (ℕ × ℕ) → List (ℕ × ℕ)
 without_pair w o [] = []
@@ -171,10 +183,11 @@ without_pair w o (pair ∷ pairs) =
     then without_pair w o pairs
     else pair ∷ without_pair w o pairs
 
+-- it is so no more: nothing where it was not; no notice that is held back is lost (`Observer::unregisterWith`)
 unfoldable pub unregistered : ℕ → ℕ → State → State
 unregistered w o state = record state { registrations = without_pair w o state.registrations }
 
--- the notice of a watcher is handed out
+-- a told watcher is handed out, and forgotten
 unfoldable pub handed_out : ℕ → State → State
 handed_out w state = record state { noticed = without w state.noticed }
 

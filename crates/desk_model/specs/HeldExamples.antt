@@ -82,7 +82,7 @@ pub record AreLinkedAway : Type 0 where
 -- A watcher, 4, registered with the first stock. The quote moves before the stock is computed; then the stock passes
 -- each notice on, and the quote moves twice.
 abbrev pub watched : State
-watched = registered_with 4 2 (watching 0 two_stocks)
+watched = registered_with 4 2 (watching two_stocks)
 
 abbrev pub passing : State
 passing = forward_set 2 true (quote_set 1 (Some (pos 2)) watched)

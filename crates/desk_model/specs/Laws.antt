@@ -122,7 +122,7 @@ pub record CommandsKeep (s : State) : Type 0 where
   pub fixing : (x : ℕ) (day rate : ℤ) → Keeps s (fixing_added x day rate s)
   pub today : (day : ℤ) → Keeps s (today_set day s)
   pub make : (terms : Terms) → AreOfKind s.market (Some terms) → Keeps s (made terms s)
-  pub watch : (action : ℕ) → Keeps s (watching action s)
+  pub watch : Keeps s (watching s)
   pub drop : (x : ℕ) → x ≢ 0 → ((o : ℕ) → Among x (edges s.market o) → ⊥) → Keeps s (dropped x s)
   pub register : (w o : ℕ) → IsRegistration s.market w o → Keeps s (registered_with w o s)
   pub unregister : (w o : ℕ) → Keeps s (unregistered w o s)
@@ -151,7 +151,7 @@ pub record CommandsKeepKinds (s : State) : Type 0 where
   pub fixing : (x : ℕ) (day rate : ℤ) → IsKinded (fixing_added x day rate s).market
   pub today : (day : ℤ) → IsKinded (today_set day s).market
   pub make : (terms : Terms) → AreOfKind s.market (Some terms) → IsKinded (made terms s).market
-  pub watch : (action : ℕ) → IsKinded (watching action s).market
+  pub watch : IsKinded (watching s).market
   pub drop : (x : ℕ) → x ≢ 0 → ((o : ℕ) → Among x (edges s.market o) → ⊥) → IsKinded (dropped x s).market
 
 abbrev pub ChangesKeepKinds : Type 0

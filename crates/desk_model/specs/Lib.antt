@@ -3,6 +3,7 @@ pub mod Examples
 pub mod Fresh
 pub mod Held
 pub mod HeldExamples
+pub mod WatcherExamples
 pub mod Laws
 pub mod Links
 pub mod Market

@@ -21,7 +21,7 @@ slot_at market o = slice_index_or market.objects o Free
 abbrev pub terms_in : Slot → Option Terms
 terms_in Free = None
 terms_in Today = None
-terms_in (Watcher action) = None
+terms_in Watcher = None
 terms_in (Live terms) = Some terms
 
 -- the terms of an object; none at `today`, at a watcher and at a dropped object
@@ -31,7 +31,7 @@ terms_at market o = terms_in (slot_at market o)
 abbrev pub kind_in : Slot → Option kind.Kind
 kind_in Free = None
 kind_in Today = Some kind.TheVariants.Today
-kind_in (Watcher action) = Some kind.TheVariants.Watcher
+kind_in Watcher = Some kind.TheVariants.Watcher
 kind_in (Live terms) = Some (kind_of terms)
 
 -- what the object with a number is; none where no live object has it
@@ -41,20 +41,20 @@ kind_at market o = kind_in (slot_at market o)
 abbrev pub is_given : Slot → Bool
 is_given Free = false
 is_given Today = true
-is_given (Watcher action) = true
+is_given Watcher = true
 is_given (Live terms) = true
 
--- whether other objects may observe it: watchers are not observed
+-- whether other objects may observe it: nobody observes a watcher
 abbrev pub is_observable : Slot → Bool
 is_observable Free = false
 is_observable Today = true
-is_observable (Watcher action) = false
+is_observable Watcher = false
 is_observable (Live terms) = true
 
 abbrev pub is_watcher : Slot → Bool
 is_watcher Free = false
 is_watcher Today = false
-is_watcher (Watcher action) = true
+is_watcher Watcher = true
 is_watcher (Live terms) = false
 
 abbrev pub count_live : List Slot → ℕ

@@ -10,8 +10,8 @@ use Rattle.desk_model.specs.declared.kept.Kept.{Kept}
 use Rattle.desk_model.specs.Market.{Market, edges, least_where}
 use Rattle.desk_model.specs.Fresh.{answer_by, priced_by, fresh}
 
--- `registrations` pairs a watcher with an object that it watches; `noticed` are the watchers that were told and not yet
--- handed out, by creation.
+-- `registrations` are the pairs of a watcher and an object that it watches, by watcher and then by object, each once;
+-- `noticed` are the watchers that were told and not yet handed out, by creation.
 pub record State : Type 0 where
   pub market : Market
   pub kept : List Kept

@@ -9,10 +9,17 @@ use Rattle.desk_model.specs.declared.slot.Slot.{Slot}
 use Rattle.desk_model.specs.Market.{terms_at, edges, role_of, is_watcher}
 use Rattle.desk_model.specs.State.{State, kept_at, each_kept}
 
--- the objects with which a watcher is registered
+-- the objects with which a watcher is registered, by creation
 abbrev pub registered : List (ℕ × ℕ) → ℕ → List ℕ
 registered [] w = []
 registered (pair ∷ pairs) w = if pair.0 == w then pair.1 ∷ registered pairs w else registered pairs w
+
+-- whether a watcher is registered with an object, and with any
+abbrev pub is_registered : State → ℕ → ℕ → Bool
+is_registered state w o = list_any (λ x. x == o) (registered state.registrations w)
+
+abbrev pub is_watching : State → ℕ → Bool
+is_watching state w = list_any (λ x. true) (registered state.registrations w)
 
 -- what o observes: its edges, or, of a watcher, the objects with which it is registered
 abbrev pub subjects : State → ℕ → List ℕ

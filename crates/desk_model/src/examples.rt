@@ -8,6 +8,14 @@ ghost use Rattle.desk_model.specs.HeldExamples.{
   AreLinkedAway,
   AreWatched,
 };
+ghost use Rattle.desk_model.specs.WatcherExamples.{
+  AreUnderSeveral,
+  AreUnregistered,
+  AreHandedOut,
+  AreUnderFrozen,
+  AreHeldBack,
+  AreUnderHandle,
+};
 
 // A quote without a value, set, unset, and a stock on it that is frozen.
 fn quotes_are_worked_through()
@@ -62,4 +70,18 @@ fn links_under_deferral_are_worked_through()
 // A watcher that is told of moves.
 fn watchers_are_worked_through()
     ensures { AreWatched }
+{}
+
+// Several watchers under one object, and one under several.
+fn several_watchers_are_worked_through()
+    ensures several { AreUnderSeveral }
+    ensures unregistered { AreUnregistered }
+    ensures handed_out { AreHandedOut }
+{}
+
+// Watchers of a frozen object, of one that is held back, and of a handle.
+fn notices_of_watchers_are_worked_through()
+    ensures frozen { AreUnderFrozen }
+    ensures held_back { AreHeldBack }
+    ensures handle { AreUnderHandle }
 {}

@@ -11,8 +11,8 @@ pub enum Slot {
     Free,
     /// The evaluation date, which is object 0 (QuantLib's `Settings::evaluationDate`).
     Today,
-    /// A watcher, with the number of its action (this project's profile).
-    Watcher(u32),
+    /// A watcher (this project's profile).
+    Watcher,
     /// An object with its terms as they stand now.
     Live(Terms),
 }
@@ -25,7 +25,7 @@ impl Slot {
         match self {
             Slot::Free => None,
             Slot::Today => Some(Kind::Today),
-            Slot::Watcher(_) => Some(Kind::Watcher),
+            Slot::Watcher => Some(Kind::Watcher),
             Slot::Live(terms) => Some(terms.kind()),
         }
     }

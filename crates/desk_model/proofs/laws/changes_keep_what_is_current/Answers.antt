@@ -22,7 +22,7 @@ returns-clause-commands c = λ s whole. record {
   fixing = fixing_keeps s whole;
   today = λ day. today_keeps s day whole;
   make = λ terms kinds. added_keeps s (Live terms) whole (may_be_made s whole terms kinds);
-  watch = λ action. added_keeps s (Watcher action) whole (λ y among. absurd among);
+  watch = added_keeps s Watcher whole (λ y among. absurd among);
   drop = λ x other unused. dropped_keeps s x whole other unused;
   register = register_keeps s whole;
   unregister = unregister_keeps s whole;
@@ -44,6 +44,6 @@ returns-clause-kinds c = λ s whole kinds. record {
   fixing = fixing_kinded s whole kinds;
   today = λ day. today_kinded s day kinds;
   make = λ terms own. added_kinded s (Live terms) own kinds;
-  watch = λ action. added_kinded s (Watcher action) tt kinds;
+  watch = added_kinded s Watcher tt kinds;
   drop = λ x other unused. dropped_kinded s x whole other unused kinds;
 }

@@ -1,0 +1,13 @@
+use Rattle.std.proofs.Common.{◌∙◌, ap, List, Option}
+use Rattle.edge_lists.specs.declared.edge.Heads.{Heads}
+use Rattle.edge_lists.specs.declared.edge.Side.TheVariants.{Subject}
+use Rattle.edge_lists.specs.Ends.{first_of, heads_at}
+use Rattle.edge_lists.proofs.Walking.{gives_all}
+use Rattle.edge_lists.proofs.edges.Edges.first_observer.Goals as goal
+
+pub returns : goal.returns
+returns c = rw (← c.self.view_is)
+    (gives_all Subject c.self.inside.slots.slots c.self.inside.nodes.items (c.self.invariant.0.chained Subject)
+    c.self.invariant.0.once c.args.node c.first_at.result
+    (c.first_at.ensures ∙ ap (λ (n : List (Option Heads)). first_of Subject (heads_at n c.args.node))
+    c.deref.ensures.value))

@@ -1,0 +1,230 @@
+// The pairs and their calls.
+ghost use Rattle.std.specs.Prelude.{◌≡◌, ◌<◌, ◌≤◌, ◌+◌, ℕ, length, IsTrue, IfOk, OnOk, OnErr, ◌↔◌, is_some, max, if◌then◌else◌};
+ghost use Rattle.edge_lists.specs.declared.edge.Side.TheVariants.{Subject, Observer};
+ghost use Rattle.edge_lists.specs.Ends.{heads_at};
+ghost use Rattle.edge_lists.specs.Stands.{IsEdge};
+ghost use Rattle.edge_lists.specs.Walks.{GivesAll, GoesOn};
+ghost use Rattle.edge_lists.specs.EdgesView.{IsLive, IsPair, IsWhole, IsThere, AddsPair, TakesPair, TakesNode, no_pairs, with_node, pair_count};
+
+use crate::edge::{Edge, EdgeId, Heads, Side};
+use crate::pairing::{find, make_room, put_in, take_node, take_pair};
+use crate::slots::first_at;
+use desk_names::ObjId;
+use slab::Slab;
+use std::alloc::{AllocError, Global};
+use std::marker::Model;
+
+/// How many numbers of nodes are given at most.
+pub const MOST_NODES: usize = 65_536;
+
+/// Pairs of a subject and one of its observers, each once, over nodes that live, and spare places for some more. Nodes
+/// are numbered from 0 in order of creation, and no number is given twice. A clause sees an `EdgesView`.
+#[derive(Drop)]
+pub struct Edges {
+    slots: Slab<Edge>,
+    nodes: Vec<Option<Heads>>,
+    // For how many pairs there is room that `link_spare` alone may take.
+    spare: usize,
+}
+
+impl Model for Edges {
+    ghost use Rattle.std.specs.Prelude.{◌+◌, ◌≤◌, length};
+    ghost use Rattle.slab.specs.Slab.{slab_len};
+    ghost use Rattle.edge_lists.specs.EdgesView.{EdgesView};
+    ghost use Rattle.edge_lists.specs.Stands.{Stands};
+
+    ghost Value = { EdgesView };
+
+    ghost view = { λ e. record {
+      slots = e.slots.slots;
+      nodes = e.nodes.items;
+      spare = e.spare;
+    } };
+
+    ghost invariant = { λ e. Stands e.slots e.nodes.items × (length e.nodes.items ≤ 65536)
+        × (slab_len e.slots + e.spare ≤ e.slots.capacity) };
+}
+
+impl Edges {
+    /// No nodes and no pairs. Later calls take memory from the allocator given here.
+    pub fn new(alloc: Global) -> Edges
+        ensures { result ≡ no_pairs }
+    {
+        Edges {
+            slots: Slab::new(alloc),
+            nodes: Vec::new(alloc),
+            spare: 0,
+        }
+    }
+
+    /// A node more, numbered next, in no pair. After want of memory nothing changed.
+    pub fn add_node(&mut self) -> Result<ObjId, AllocError>
+        requires { length self.old.nodes < MOST_NODES }
+        ensures number { IfOk result (λ node. node ≡ length self.old.nodes) }
+        ensures ok { OnOk result (self.new ≡ with_node self.old) }
+        ensures err { OnErr result (self.new ≡ self.old) }
+    {
+        let node = ObjId(self.nodes.len() as u32);
+        self.nodes.push(Some(Heads {
+            observers: None,
+            subjects: None,
+        }))?;
+        Ok(node)
+    }
+
+    /// How many numbers were given.
+    pub fn len(&self) -> usize
+        ensures { result ≡ length self.now.nodes }
+    {
+        self.nodes.len()
+    }
+
+    /// Whether a node lives.
+    pub fn is_live(&self, node: ObjId) -> bool
+        ensures { result ≡ is_some (heads_at self.now.nodes node) }
+    {
+        match self.nodes.get(node.place()) {
+            Some(Some(_)) => true,
+            Some(None) => false,
+            None => false,
+        }
+    }
+
+    /// Finds spare places, so that there are at least so many. After want of memory nothing changed.
+    pub fn reserve(&mut self, pairs: u32) -> Result<(), AllocError>
+        ensures ok { OnOk result (self.new ≡ record self.old { spare = max self.old.spare pairs }) }
+        ensures err { OnErr result (self.new ≡ self.old) }
+    {
+        let spare = self.spare.max(pairs as usize);
+        make_room(&mut self.slots, spare)?;
+        self.spare = spare;
+        Ok(())
+    }
+
+    /// Finds so many spare places more. After want of memory nothing changed.
+    pub fn reserve_more(&mut self, pairs: usize) -> Result<(), AllocError>
+        requires { pairs ≤ 65536 }
+        ensures ok { OnOk result (self.new ≡ record self.old { spare = self.old.spare + pairs }) }
+        ensures err { OnErr result (self.new ≡ self.old) }
+    {
+        let spare = self.spare + pairs;
+        make_room(&mut self.slots, spare)?;
+        self.spare = spare;
+        Ok(())
+    }
+
+    /// The observer observes the subject too; no spare place is used. After want of memory nothing changed.
+    pub fn link(&mut self, subject: ObjId, observer: ObjId) -> Result<(), AllocError>
+        requires subject { IsLive self.old subject }
+        requires observer { IsLive self.old observer }
+        requires new { IsPair self.old subject observer → ⊥ }
+        ensures ok { OnOk result (AddsPair self.old self.new subject observer) }
+        ensures err { OnErr result (self.new ≡ self.old) }
+        ensures spare { self.new.spare ≡ self.old.spare }
+    {
+        make_room(&mut self.slots, self.spare + 1)?;
+        put_in(&mut self.slots, &mut self.nodes, subject, observer);
+        Ok(())
+    }
+
+    /// The observer observes the subject too, by one of the spare places. Takes no memory.
+    pub fn link_spare(&mut self, subject: ObjId, observer: ObjId)
+        requires room { 0 < self.old.spare }
+        requires subject { IsLive self.old subject }
+        requires observer { IsLive self.old observer }
+        requires new { IsPair self.old subject observer → ⊥ }
+        ensures pair { AddsPair self.old self.new subject observer }
+        ensures spare { self.new.spare + 1 ≡ self.old.spare }
+    {
+        put_in(&mut self.slots, &mut self.nodes, subject, observer);
+        self.spare -= 1;
+    }
+
+    /// The observer does not observe the subject; whether it did, which leaves a spare place. Takes no memory, and time
+    /// in proportion to the subjects of the observer.
+    pub fn unlink(&mut self, subject: ObjId, observer: ObjId) -> bool
+        requires subject { IsLive self.old subject }
+        requires observer { IsLive self.old observer }
+        ensures was { IsTrue result ↔ IsPair self.old subject observer }
+        ensures pair { TakesPair self.old self.new subject observer }
+        ensures spare { self.new.spare ≡ self.old.spare + (if result then 1 else 0) }
+        ensures count { pair_count self.new + (if result then 1 else 0) ≡ pair_count self.old }
+    {
+        let was = take_pair(&mut self.slots, &mut self.nodes, subject, observer);
+        if was {
+            self.spare += 1;
+        }
+        was
+    }
+
+    /// The node is gone, with every pair in which it stands; each of them leaves a spare place. Takes no memory, and
+    /// time in proportion to these pairs.
+    pub fn drop_node(&mut self, node: ObjId)
+        requires { IsLive self.old node }
+        ensures node { TakesNode self.old self.new node }
+        ensures spare { self.new.spare + pair_count self.new ≡ self.old.spare + pair_count self.old }
+    {
+        let before = self.slots.len();
+        take_node(&mut self.slots, &mut self.nodes, node);
+        self.spare += before - self.slots.len();
+    }
+
+    /// Whether the observer observes the subject. Takes time in proportion to the subjects of the observer.
+    pub fn has_pair(&self, subject: ObjId, observer: ObjId) -> bool
+        requires { IsLive self.now observer }
+        ensures { IsTrue result ↔ IsPair self.now subject observer }
+    {
+        match find(&self.slots, &self.nodes, subject, observer) {
+            Some(_) => true,
+            None => false,
+        }
+    }
+
+    /// The first pair of which the node is the subject, if there is one.
+    pub fn first_observer(&self, node: ObjId) -> Option<EdgeId>
+        requires { IsLive self.now node }
+        ensures { GivesAll Subject self.now.slots node result }
+    {
+        first_at(&self.nodes, Side::Subject, node)
+    }
+
+    /// The next pair with the same subject, if there is one.
+    pub fn next_observer(&self, edge: EdgeId) -> Option<EdgeId>
+        requires { IsThere self.now edge }
+        ensures { GoesOn Subject self.now.slots edge result }
+    {
+        self.slots[edge.key()].subject.after
+    }
+
+    /// The first pair of which the node is the observer, if there is one.
+    pub fn first_subject(&self, node: ObjId) -> Option<EdgeId>
+        requires { IsLive self.now node }
+        ensures { GivesAll Observer self.now.slots node result }
+    {
+        first_at(&self.nodes, Side::Observer, node)
+    }
+
+    /// The next pair with the same observer, if there is one.
+    pub fn next_subject(&self, edge: EdgeId) -> Option<EdgeId>
+        requires { IsThere self.now edge }
+        ensures { GoesOn Observer self.now.slots edge result }
+    {
+        self.slots[edge.key()].observer.after
+    }
+
+    /// The subject and the observer of a pair.
+    pub fn ends(&self, edge: EdgeId) -> (ObjId, ObjId)
+        requires { IsThere self.now edge }
+        ensures { IsEdge self.now.slots edge result.0 result.1 }
+    {
+        let pair = self.slots[edge.key()];
+        (pair.subject.node, pair.observer.node)
+    }
+
+    /// What holds of all pairs between two calls.
+    pub fn whole(&self)
+        ensures { IsWhole self.now }
+    {
+        let _slots = &self.slots;
+    }
+}

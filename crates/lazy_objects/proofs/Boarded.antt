@@ -143,7 +143,7 @@ boarded_added board new slots put slot is quote plain before = record { quotes =
 pub quote_valued : (value : Option ℤ) (slot : Slot) → has_quote slot ≡ true → valued value slot ≡ Live (Quote value)
 quote_valued value Free is = absurd (false≢true is)
 quote_valued value Today is = absurd (false≢true is)
-quote_valued value (Watcher action) is = absurd (false≢true is)
+quote_valued value Watcher is = absurd (false≢true is)
 quote_valued value (Live terms) is = ap Live (by_kind terms is)
   where
     by_kind : (t : Terms) → is_some (quoted t) ≡ true → with_quote value t ≡ Quote value
@@ -190,18 +190,18 @@ bare_terms e slot plain = ap terms_in (sym plain) ∙ by_slot e slot
     by_slot : (e : Option (Option ℤ)) (s : Slot) → terms_in (valued None s) ≡ bare (terms_in (joined e s))
     by_slot None Free = refl
     by_slot None Today = refl
-    by_slot None (Watcher action) = refl
+    by_slot None Watcher = refl
     by_slot None (Live terms) = refl
     by_slot (Some value) Free = refl
     by_slot (Some value) Today = refl
-    by_slot (Some value) (Watcher action) = refl
+    by_slot (Some value) Watcher = refl
     by_slot (Some value) (Live terms) = ap Some (sym (twice None value terms))
 
 same_kind : (e : Option (Option ℤ)) (s : Slot) → kind_in s ≡ kind_in (joined e s)
 same_kind None s = refl
 same_kind (Some value) Free = refl
 same_kind (Some value) Today = refl
-same_kind (Some value) (Watcher action) = refl
+same_kind (Some value) Watcher = refl
 same_kind (Some value) (Live terms) = by_kind terms
   where
     by_kind : (t : Terms) → kind_in (Live t) ≡ kind_in (Live (with_quote value t))
@@ -224,7 +224,7 @@ still_quote : (e : Option (Option ℤ)) (s : Slot) → has_quote (joined e s) �
 still_quote None s = refl
 still_quote (Some value) Free = refl
 still_quote (Some value) Today = refl
-still_quote (Some value) (Watcher action) = refl
+still_quote (Some value) Watcher = refl
 still_quote (Some value) (Live terms) = by_kind terms
   where
     by_kind : (t : Terms) → is_some (quoted (with_quote value t)) ≡ is_some (quoted t)
@@ -247,7 +247,7 @@ quote_of_slot board slots x = ap has_quote (object_at board slots x) ∙ still_q
 pub plain_slot : (value : Option ℤ) (s : Slot) → has_quote s ≡ false → valued value s ≡ s
 plain_slot value Free is = refl
 plain_slot value Today is = refl
-plain_slot value (Watcher action) is = refl
+plain_slot value Watcher is = refl
 plain_slot value (Live terms) is = ap Live (plain_terms value terms (by_test (quoted terms) is))
   where
     by_test : (q : Option (Option ℤ)) → is_some q ≡ false → q ≡ None
@@ -359,7 +359,7 @@ value_is board slots x value boarded is = by_entry (entry board x) refl
 pub own_is : (s : Slot) (terms : Terms) → has_own_terms s ≡ true → bare (terms_in s) ≡ Some terms → terms_in s ≡ Some terms
 own_is Free terms own is = absurd (false≢true own)
 own_is Today terms own is = absurd (false≢true own)
-own_is (Watcher action) terms own is = absurd (false≢true own)
+own_is Watcher terms own is = absurd (false≢true own)
 own_is (Live t) terms own is = ap Some (sym (plain_terms None t (by_test (quoted t) own))) ∙ is
   where
     by_test : (q : Option (Option ℤ)) → not (is_some q) ≡ true → q ≡ None
@@ -369,14 +369,14 @@ own_is (Live t) terms own is = ap Some (sym (plain_terms None t (by_test (quoted
 pub own_there : (s : Slot) → has_own_terms s ≡ true → bare (terms_in s) ≡ None → ⊥
 own_there Free own is = false≢true own
 own_there Today own is = false≢true own
-own_there (Watcher action) own is = false≢true own
+own_there Watcher own is = false≢true own
 own_there (Live t) own is = absurd (cc)
 
 -- handles and lazy objects are no quotes
 pub handle_own : (s : Slot) → is_handle (terms_in s) ≡ true → has_own_terms s ≡ true
 handle_own Free is = is
 handle_own Today is = is
-handle_own (Watcher action) is = is
+handle_own Watcher is = is
 handle_own (Live (Quote held)) is = is
 handle_own (Live (Derived minus first second)) is = refl
 handle_own (Live (Handle kind target)) is = refl
@@ -391,7 +391,7 @@ handle_own (Live (Flows flows engine)) is = refl
 pub lazy_own : (s : Slot) → is_lazy (role_of (terms_in s)) ≡ true → has_own_terms s ≡ true
 lazy_own Free is = is
 lazy_own Today is = is
-lazy_own (Watcher action) is = is
+lazy_own Watcher is = is
 lazy_own (Live (Quote held)) is = is
 lazy_own (Live (Derived minus first second)) is = refl
 lazy_own (Live (Handle kind target)) is = refl
@@ -452,7 +452,7 @@ same_value (Some a) (Some b) is = ap Some ((Decides-int_eq a b).0 is)
 held_slot : (value : Option ℤ) (s : Slot) → holds_value value s ≡ true → s ≡ Live (Quote value)
 held_slot value Free is = absurd (false≢true is)
 held_slot value Today is = absurd (false≢true is)
-held_slot value (Watcher action) is = absurd (false≢true is)
+held_slot value Watcher is = absurd (false≢true is)
 held_slot value (Live (Quote held)) is = ap (λ (v : Option ℤ). Live (Quote v)) (same_value held value is)
 held_slot value (Live (Derived minus first second)) is = absurd (false≢true is)
 held_slot value (Live (Handle kind target)) is = absurd (false≢true is)
@@ -479,7 +479,7 @@ if_not false is = absurd (false≢true (sym is))
 pub kind_quote : (s : Slot) → kind_in s ≡ Some kind.Quote → has_quote s ≡ true
 kind_quote Free is = absurd (cc)
 kind_quote Today is = absurd (cc)
-kind_quote (Watcher action) is = absurd (cc)
+kind_quote Watcher is = absurd (cc)
 kind_quote (Live (Quote held)) is = refl
 kind_quote (Live (Derived minus first second)) is = absurd (cc)
 kind_quote (Live (Handle handle.Quote target)) is = absurd (cc)
@@ -496,7 +496,7 @@ kind_quote (Live (Flows flows engine)) is = absurd (cc)
 pub terms_plain : (s : Slot) (terms : Terms) → terms_in s ≡ Some terms → is_some (quoted terms) ≡ false → has_quote s ≡ false
 terms_plain Free terms is plain = refl
 terms_plain Today terms is plain = refl
-terms_plain (Watcher action) terms is plain = refl
+terms_plain Watcher terms is plain = refl
 terms_plain (Live t) terms is plain = ap (λ (u : Terms). is_some (quoted u)) (some_same is) ∙ plain
   where
     some_same : {a b : Terms} → Some a ≡ Some b → a ≡ b
@@ -518,7 +518,7 @@ plain_is board slots x boarded plain =
 pub flows_slot : (s : Slot) → kind_in s ≡ Some kind.Flows → (flows : FlowTerms) × (held : Option ℕ) × (terms_in s ≡ Some (Flows flows held))
 flows_slot Free is = absurd (cc)
 flows_slot Today is = absurd (cc)
-flows_slot (Watcher action) is = absurd (cc)
+flows_slot Watcher is = absurd (cc)
 flows_slot (Live (Quote held)) is = absurd (cc)
 flows_slot (Live (Derived minus first second)) is = absurd (cc)
 flows_slot (Live (Handle handle.Quote target)) is = absurd (cc)
@@ -534,7 +534,7 @@ flows_slot (Live (Flows flows engine)) is = (flows, engine, refl)
 pub index_slot : (s : Slot) → has_fixings (changeable (terms_in s)) ≡ true → (terms : IndexTerms) × (fixings : Stored) × (terms_in s ≡ Some (Index terms fixings))
 index_slot Free is = absurd (false≢true is)
 index_slot Today is = absurd (false≢true is)
-index_slot (Watcher action) is = absurd (false≢true is)
+index_slot Watcher is = absurd (false≢true is)
 index_slot (Live (Quote held)) is = absurd (false≢true is)
 index_slot (Live (Derived minus first second)) is = absurd (false≢true is)
 index_slot (Live (Handle kind target)) is = absurd (false≢true is)

@@ -33,26 +33,26 @@ use Rattle.observer_graph.specs.Notice.{IsLeast}
 use Rattle.observer_graph.proofs.Exactly.{below_there}
 use Rattle.lazy_objects.specs.Slots.{market_of}
 use Rattle.lazy_objects.specs.Parts.{parts_in}
-use Rattle.lazy_objects.specs.Shape.{Shape, IsJoined, role_at, observed_by, node_role, slot_role, watched}
+use Rattle.lazy_objects.specs.Shape.{Shape, IsJoined, role_at, observed_by, edges_from, edges_at, node_role, slot_role, watched}
 use Rattle.lazy_objects.specs.Store.{StoreView, AddsObject, TakesObject, IsRewatched}
 
 -- what stands at a number is there
 slot_there : (slot : Slot) → is_given slot ≡ true → is_some (slot_role slot) ≡ true
 slot_there Free is = absurd (false≢true is)
 slot_there Today is = refl
-slot_there (Watcher action) is = refl
+slot_there Watcher is = refl
 slot_there (Live terms) is = refl
 
 slot_seen : (slot : Slot) → is_observable slot ≡ true → is_some (slot_role slot) ≡ true
 slot_seen Free is = absurd (false≢true is)
 slot_seen Today is = refl
-slot_seen (Watcher action) is = absurd (false≢true is)
+slot_seen Watcher is = absurd (false≢true is)
 slot_seen (Live terms) is = refl
 
 slot_lazy : (slot : Slot) → is_lazy (role_of (terms_in slot)) ≡ true → slot_role slot ≡ Some Lazy
 slot_lazy Free is = absurd (false≢true is)
 slot_lazy Today is = absurd (false≢true is)
-slot_lazy (Watcher action) is = absurd (false≢true is)
+slot_lazy Watcher is = absurd (false≢true is)
 slot_lazy (Live terms) is = by_role (role_of (Some terms)) is
   where
     by_role : (r : kinds.Role) → is_lazy r ≡ true → Some (node_role r) ≡ Some Lazy
@@ -65,13 +65,13 @@ slot_lazy (Live terms) is = by_role (role_of (Some terms)) is
 gone_edges : (slot : Slot) → is_some (slot_role slot) ≡ false → edges_of (terms_in slot) ≡ []
 gone_edges Free none = refl
 gone_edges Today none = refl
-gone_edges (Watcher action) none = refl
+gone_edges Watcher none = refl
 gone_edges (Live terms) none = absurd (false≢true (sym none))
 
 gone_unseen : (slot : Slot) → is_some (slot_role slot) ≡ false → is_observable slot ≡ false
 gone_unseen Free none = refl
 gone_unseen Today none = absurd (false≢true (sym none))
-gone_unseen (Watcher action) none = refl
+gone_unseen Watcher none = refl
 gone_unseen (Live terms) none = absurd (false≢true (sym none))
 
 -- what terms name is what they observe
@@ -94,14 +94,33 @@ module _ (m : Market) (shape : Shape) (joined : IsJoined m shape) where
   pub may_watch : (terms : Terms) → MayBeMade m (Live terms) → (x : ℕ) → Among x (watched terms) → is_some (role_at shape x) ≡ true
   may_watch terms may x a = there_seen x (may x ((watched_edges terms x).0 a))
 
-  -- a path of edges and one of pairs
-  pub pairs_below : (found through : ℕ → Bool) (o : ℕ) → Below (observed_by shape) found through o ↔ Below (edges m) found through o
+  -- the edges in the graph are those of the market
+  pub edges_there : (o x : ℕ) → Among x (edges_at shape o) ↔ Among x (edges m o)
+  edges_there o x = subst (λ (r : Option Role). Among x (edges_from r (observed_by shape o)) ↔ Among x (edges m o)) (sym (joined.roles o))
+      (by_slot (slot_at m o) (joined.pairs o x))
+    where
+      by_role : (r : kinds.Role) (subjects : List ℕ) → Among x (edges_from (Some (node_role r)) subjects) ↔ Among x subjects
+      by_role kinds.Role.Source subjects = (λ a. a, λ a. a)
+      by_role kinds.Role.Forwarder subjects = (λ a. a, λ a. a)
+      by_role kinds.Role.Lazy subjects = (λ a. a, λ a. a)
+      by_role kinds.Role.Watching subjects = (λ a. a, λ a. a)
+
+      by_slot : (slot : Slot) → Among x (observed_by shape o) ↔ Among x (edges_of (terms_in slot))
+          → Among x (edges_from (slot_role slot) (observed_by shape o)) ↔ Among x (edges_of (terms_in slot))
+      by_slot Free pairs = (λ a. a, λ a. a)
+      by_slot Today pairs = pairs
+      by_slot Watcher pairs = (λ a. a, λ a. a)
+      by_slot (Live terms) pairs = let r = by_role (role_of (Some terms)) (observed_by shape o) in
+          (λ a. pairs.0 (r.0 a), λ a. r.1 (pairs.1 a))
+
+  -- a path of edges in the market and one in the graph
+  pub pairs_below : (found through : ℕ → Bool) (o : ℕ) → Below (edges_at shape) found through o ↔ Below (edges m) found through o
   pairs_below found through o = (
-    λ b. below_there (observed_by shape) (edges m) found through (λ z x a. (joined.pairs z x).0 a) o b,
-    λ b. below_there (edges m) (observed_by shape) found through (λ z x a. (joined.pairs z x).1 a) o b,
+    λ b. below_there (edges_at shape) (edges m) found through (λ z x a. (edges_there z x).0 a) o b,
+    λ b. below_there (edges m) (edges_at shape) found through (λ z x a. (edges_there z x).1 a) o b,
   )
 
-  pub reaches_is : IsLinked m → (b : Bool) (from to : ℕ) → (from == to) ≡ false → (b ≡ true) ↔ ((from ≡ to) ⊎ Below (observed_by shape) (λ y. y == to) (λ y. true) from)
+  pub reaches_is : IsLinked m → (b : Bool) (from to : ℕ) → (from == to) ≡ false → (b ≡ true) ↔ ((from ≡ to) ⊎ Below (edges_at shape) (λ y. y == to) (λ y. true) from)
       → b ≡ ((from == to) || reaches m from to)
   unfolding reaches
   reaches_is links b from to apart is = by_answer b is ∙ sym (ap (λ (c : Bool). c || reaches m from to) apart)
@@ -109,7 +128,7 @@ module _ (m : Market) (shape : Shape) (joined : IsJoined m shape) where
       ranks : (rank : ℕ → ℕ) × ((o x : ℕ) → Among x (edges m o) → rank x < rank o) × ((o : ℕ) → rank o < suc (length m.objects))
       ranks = ranks_of m links
 
-      by_answer : (b : Bool) → (b ≡ true) ↔ ((from ≡ to) ⊎ Below (observed_by shape) (λ y. y == to) (λ y. true) from) → b ≡ reaches m from to
+      by_answer : (b : Bool) → (b ≡ true) ↔ ((from ≡ to) ⊎ Below (edges_at shape) (λ y. y == to) (λ y. true) from) → b ≡ reaches m from to
       by_answer true is = sym (below_true (edges m) (λ y. y == to) (λ y. true) ranks.0 ranks.1 (suc (length m.objects)) from (ranks.2 from) (elim (is.0 refl) [
         | inl same ↦ absurd (false≢true (sym apart ∙ eq-eqb from to same))
         | inr below ↦ (pairs_below (λ y. y == to) (λ y. true) from).0 below
@@ -136,10 +155,10 @@ module _ (m : Market) (shape : Shape) (joined : IsJoined m shape) where
           false≢true (sym (gone_unseen (slot_at m to) (sym (ap is_some (joined.roles to)) ∙ none)) ∙ links.observed l.0 to l.1)
 
   -- the least observer is the least user
-  uses : (x o : ℕ) → (list_any (λ y. x == y) (edges m o) ≡ true) ↔ Among x (observed_by shape o)
+  uses : (x o : ℕ) → (list_any (λ y. x == y) (edges m o) ≡ true) ↔ Among x (edges_at shape o)
   uses x o = (
-    λ e. let a = any_member (λ y. x == y) (edges m o) e in (joined.pairs o x).1 (subst (λ (z : ℕ). Among z (edges m o)) (sym (eqb-true x a.0 a.2)) a.1),
-    λ a. member_any (λ y. x == y) x (edges m o) ((joined.pairs o x).0 a) (eq-eqb x x refl),
+    λ e. let a = any_member (λ y. x == y) (edges m o) e in (edges_there o x).1 (subst (λ (z : ℕ). Among z (edges m o)) (sym (eqb-true x a.0 a.2)) a.1),
+    λ a. member_any (λ y. x == y) x (edges m o) ((edges_there o x).0 a) (eq-eqb x x refl),
   )
 
   none_where : (passes : ℕ → Bool) (n : ℕ) → ((o : ℕ) → o < n → passes o ≡ false) → least_where passes n ≡ None
@@ -147,7 +166,7 @@ module _ (m : Market) (shape : Shape) (joined : IsJoined m shape) where
   none_where passes (suc n) none = ap (λ (r : Option ℕ). or_number r (if passes n then Some n else None)) (none_where passes n (λ o low. none o (omega (arith, low))))
       ∙ ap (λ (b : Bool). if b then Some n else None) (none n (omega arith))
 
-  pub least_is : IsLinked m → (x : ℕ) (least : Option ℕ) → IsLeast (λ o. Among x (observed_by shape o)) least → least ≡ least_user m x
+  pub least_is : IsLinked m → (x : ℕ) (least : Option ℕ) → IsLeast (λ o. Among x (edges_at shape o)) least → least ≡ least_user m x
   least_is links x None none = sym (none_where (λ o. list_any (λ y. x == y) (edges m o)) (length m.objects) (λ o low. false_from_ne_true (list_any (λ y. x == y) (edges m o)) (λ e. none o ((uses x o).0 e))))
   least_is links x (Some o) is = sym (least_first (λ o. list_any (λ y. x == y) (edges m o)) (length m.objects) o
       (none_where (λ o. list_any (λ y. x == y) (edges m o)) o (λ p low. false_from_ne_true (list_any (λ y. x == y) (edges m p)) (λ e. let l = is.1 p ((uses x p).0 e) in absurd (omega (arith, l, low)))))
@@ -156,11 +175,11 @@ module _ (m : Market) (shape : Shape) (joined : IsJoined m shape) where
       within : o < length m.objects
       within = elim (cases_lt o (length m.objects)) [
         | inl low ↦ low
-        | inr past ↦ absurd (subst (λ (t : Slot). Among x (edges_of (terms_in t))) (get_or_past m.objects o Free past) ((joined.pairs o x).0 is.0))
+        | inr past ↦ absurd (subst (λ (t : Slot). Among x (edges_of (terms_in t))) (get_or_past m.objects o Free past) ((edges_there o x).0 is.0))
       ]
 
   pub least_gone : IsLinked m → (x : ℕ) → is_some (role_at shape x) ≡ false → None ≡ least_user m x
-  least_gone links x none = least_is links x None (λ o a. false≢true (sym (gone_unseen (slot_at m x) (sym (ap is_some (joined.roles x)) ∙ none)) ∙ links.observed o x ((joined.pairs o x).0 a)))
+  least_gone links x none = least_is links x None (λ o a. false≢true (sym (gone_unseen (slot_at m x) (sym (ap is_some (joined.roles x)) ∙ none)) ∙ links.observed o x ((edges_there o x).0 a)))
 
 -- the graph of `today` alone
 pub joined_start : (today : ℤ) (old new : StoreView) → old.kept ≡ [] → old.shape.roles ≡ [] → old.shape.subjects ≡ [] → AddsObject Source [] old new → IsJoined (market_of today (Today ∷ [])) new.shape
@@ -262,7 +281,7 @@ joined_set today slots x terms shape long within own its roles pairs = record {
 quote_slot : (t : Slot) → kind_in t ≡ Some kind.Quote → (slot_role t ≡ Some Source) × (edges_of (terms_in t) ≡ [])
 quote_slot Free is = absurd (cc)
 quote_slot Today is = absurd (cc)
-quote_slot (Watcher action) is = absurd (cc)
+quote_slot Watcher is = absurd (cc)
 quote_slot (Live (terms_of.Quote held)) is = (refl, refl)
 quote_slot (Live (terms_of.Derived minus first second)) is = absurd (cc)
 quote_slot (Live (terms_of.Handle handle.Quote target)) is = absurd (cc)
@@ -286,7 +305,7 @@ joined_quote today slots shape q value joined within is =
 composite_slot : (t : Slot) → kind_in t ≡ Some kind.Composite → (slot_role t ≡ Some Lazy) × (edges_of (terms_in t) ≡ each_once (named (part_references (parts_in t))))
 composite_slot Free is = absurd (cc)
 composite_slot Today is = absurd (cc)
-composite_slot (Watcher action) is = absurd (cc)
+composite_slot Watcher is = absurd (cc)
 composite_slot (Live (terms_of.Quote held)) is = absurd (cc)
 composite_slot (Live (terms_of.Derived minus first second)) is = absurd (cc)
 composite_slot (Live (terms_of.Handle handle.Quote target)) is = absurd (cc)

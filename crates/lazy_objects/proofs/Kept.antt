@@ -265,7 +265,7 @@ grown_kept graph new lasts lasts2 on role named fits adds more = record {
 -- a notice
 module _ (graph new : GraphView) (lasts : List (Option Value)) (on off : Bool) (fits : Fits graph lasts) (tells : Tells graph new) where
   fits2 : Fits new lasts
-  fits2 = record { nodes = tells.len ∙ fits.nodes; sources = tells.marks ∙ fits.sources }
+  fits2 = record { nodes = tells.settles.len ∙ fits.nodes; sources = tells.settles.marks ∙ fits.sources }
 
   abbrev old_view : StoreView
   old_view = record { kept = kept_of graph lasts; shape = shape_of graph; deferring = on }
@@ -291,7 +291,7 @@ module _ (graph new : GraphView) (lasts : List (Option Value)) (on off : Bool) (
       (λ y e. sym (source_is y) ∙ e) (λ y e. sym (passes_is y) ∙ e) o told
 
   after : (o : ℕ) → slice_index_or (kept_of new lasts) o unpriced ≡ kept_as (node_at new o) false (slice_index_or lasts o None)
-  after o = kept_at_node new lasts fits2 o ∙ ap (λ (b : Bool). kept_as (node_at new o) b (slice_index_or lasts o None)) (tells.sources o)
+  after o = kept_at_node new lasts fits2 o ∙ ap (λ (b : Bool). kept_as (node_at new o) b (slice_index_or lasts o None)) (tells.settles.sources o)
 
   told_as : (node : Option Node) (b : Bool) (last : Option Value) → kept_as (unsettled node) false last ≡ notified_kept true (kept_as node b last)
   told_as None b last = refl
@@ -299,12 +299,12 @@ module _ (graph new : GraphView) (lasts : List (Option Value)) (on off : Bool) (
 
   pub notices : Notices old_view (record { kept = kept_of new lasts; shape = shape_of new; deferring = off })
   notices = record {
-    shape = same_shape graph new (same_roles graph.nodes new.nodes tells.len (λ o. elim (tells.node o) [
+    shape = same_shape graph new (same_roles graph.nodes new.nodes tells.settles.len (λ o. elim (tells.settles.node o) [
       | inl told ↦ ap role_in told.1 ∙ role_kept (node_at graph o)
       | inr spared ↦ ap role_in spared.1
-    ])) tells.subjects;
+    ])) tells.settles.subjects;
     long = length-kept new 0 lasts ∙ sym (length-kept graph 0 lasts);
-    each = λ o. elim (tells.node o) [
+    each = λ o. elim (tells.settles.node o) [
       | inl told ↦ inl (
         told_there o told.0,
         after o ∙ ap (λ (n : Option Node). kept_as n false (slice_index_or lasts o None)) told.1

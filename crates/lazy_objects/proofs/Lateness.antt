@@ -14,7 +14,7 @@ use Rattle.desk_model.proofs.Bounds.{ranks_of}
 use Rattle.desk_model.proofs.Users.{least_first}
 use Rattle.desk_model.proofs.Paths.{late_least}
 use Rattle.observer_graph.specs.Notice.{IsLeast}
-use Rattle.lazy_objects.specs.Shape.{IsJoined, observed_by}
+use Rattle.lazy_objects.specs.Shape.{IsJoined, edges_at}
 use Rattle.lazy_objects.specs.Store.{StoreView, stored_at}
 use Rattle.lazy_objects.specs.Late.{IsLateOf, holds_back, IsClear}
 use Rattle.lazy_objects.proofs.Joined.{pairs_below}
@@ -38,12 +38,12 @@ module _ (s : State) (whole : IsWhole s) (store : StoreView) (same : store.kept 
 
   -- a path in the market is one among the observers, and the other way round
   path_there : (found through through2 : ℕ → Bool) → ((y : ℕ) → through2 y ≡ through y) → (o : ℕ)
-      → below_by (edges s.market) found through (suc (length s.market.objects)) o ≡ true → Below (observed_by store.shape) found through2 o
+      → below_by (edges s.market) found through (suc (length s.market.objects)) o ≡ true → Below (edges_at store.shape) found through2 o
   path_there found through through2 agree o deep = (pairs_below s.market store.shape joined found through2 o).1
       (below_wider (edges s.market) found found through through2 (λ y e. e) (λ y e. agree y ∙ e) o (only_below (edges s.market) found through (suc (length s.market.objects)) o deep))
 
   path_back : (found through through2 : ℕ → Bool) → ((y : ℕ) → through2 y ≡ through y) → (o : ℕ)
-      → Below (observed_by store.shape) found through2 o → below_by (edges s.market) found through (suc (length s.market.objects)) o ≡ true
+      → Below (edges_at store.shape) found through2 o → below_by (edges s.market) found through (suc (length s.market.objects)) o ≡ true
   path_back found through through2 agree o below =
       let r = ranks_of s.market whole.links in
       below_true (edges s.market) found through r.0 r.1 (suc (length s.market.objects)) o (r.2 o)
@@ -91,7 +91,7 @@ module _ (s : State) (whole : IsWhole s) (store : StoreView) (same : store.kept 
       false≢true (sym (is.0 refl m.0 (inr ((pairs_below s.market store.shape joined (λ y. y == m.0) (λ y. true) o).1 m.2))) ∙ held_is m.0 ∙ m.1)))))
   clear_is o false is = sym (false_from_ne_true (is_clear s o) (λ clear. false≢true (is.1 (λ x reached. clear_at clear x reached))))
     where
-      clear_at : is_clear s o ≡ true → (x : ℕ) → ((o ≡ x) ⊎ Below (observed_by store.shape) (λ y. y == x) (λ y. true) o) → holds_back store x ≡ false
+      clear_at : is_clear s o ≡ true → (x : ℕ) → ((o ≡ x) ⊎ Below (edges_at store.shape) (λ y. y == x) (λ y. true) o) → holds_back store x ≡ false
       clear_at clear x (inl here) = ap (holds_back store) (sym here) ∙ held_is o ∙ (or_parts (is_held_back s o) _ (not-true _ clear)).0
       clear_at clear x (inr below) = held_is x ∙ false_from_ne_true (is_held_back s x) (λ back.
           let r = ranks_of s.market whole.links in

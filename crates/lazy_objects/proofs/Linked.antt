@@ -49,7 +49,7 @@ handle_role handle.Curve target = refl
 role_there : (t : Slot) (kind : HandleKind) (target : Option ℕ) → terms_in t ≡ Some (Handle kind target) → slot_role t ≡ Some Forwarder
 role_there Free kind target is = absurd (cc)
 role_there Today kind target is = absurd (cc)
-role_there (Watcher action) kind target is = absurd (cc)
+role_there Watcher kind target is = absurd (cc)
 role_there (Live terms) kind target is = ap (λ (u : Terms). slot_role (Live u)) (some_terms terms (Handle kind target) is) ∙ handle_role kind target
   where
     some_terms : (a b : Terms) → Some a ≡ Some b → a ≡ b

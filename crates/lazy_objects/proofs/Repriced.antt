@@ -148,7 +148,7 @@ serves_engine (Some kind.Watcher) is = absurd (false≢true is)
 engine_seen : (t : Slot) → serves_as (kind_in t) wanted.Engine ≡ true → is_observable t ≡ true
 engine_seen Free is = absurd (false≢true is)
 engine_seen Today is = absurd (false≢true is)
-engine_seen (Watcher action) is = absurd (false≢true is)
+engine_seen Watcher is = absurd (false≢true is)
 engine_seen (Live terms) is = refl
 
 flows_serve : (k : Option Kind) → k ≡ Some kind.Flows → serves_as k wanted.Member ≡ true
@@ -226,7 +226,7 @@ moved held target i old middle new differs joins leaves =
 flows_role : (t : Slot) (flows : FlowTerms) (held : Option ℕ) → terms_in t ≡ Some (terms_of.Flows flows held) → slot_role t ≡ Some Lazy
 flows_role Free flows held is = absurd (cc)
 flows_role Today flows held is = absurd (cc)
-flows_role (Watcher action) flows held is = absurd (cc)
+flows_role Watcher flows held is = absurd (cc)
 flows_role (Live terms) flows held is = ap (λ (u : Terms). slot_role (Live u)) (some_terms terms (terms_of.Flows flows held) is)
   where
     some_terms : (a b : Terms) → Some a ≡ Some b → a ≡ b
@@ -349,7 +349,7 @@ flows_there m i is = by_slot (slot_at m i) is
     by_slot : (t : Slot) → kind_in t ≡ Some kind.Flows → (flows : FlowTerms) × (held : Option ℕ) × (terms_in t ≡ Some (terms_of.Flows flows held))
     by_slot Free is = absurd (cc)
     by_slot Today is = absurd (cc)
-    by_slot (Watcher action) is = absurd (cc)
+    by_slot Watcher is = absurd (cc)
     by_slot (Live (terms_of.Quote held)) is = absurd (cc)
     by_slot (Live (terms_of.Derived minus first second)) is = absurd (cc)
     by_slot (Live (terms_of.Handle handle.Quote target)) is = absurd (cc)

@@ -47,7 +47,7 @@ index_there m x is = by_slot (slot_at m x) is
     by_slot : (t : Slot) → kind_in t ≡ Some kind.Index → (terms : IndexTerms) × (fixings : Stored) × (terms_in t ≡ Some (terms_of.Index terms fixings))
     by_slot Free is = absurd (cc)
     by_slot Today is = absurd (cc)
-    by_slot (Watcher action) is = absurd (cc)
+    by_slot Watcher is = absurd (cc)
     by_slot (Live (terms_of.Quote held)) is = absurd (cc)
     by_slot (Live (terms_of.Derived minus first second)) is = absurd (cc)
     by_slot (Live (terms_of.Handle handle.Quote target)) is = absurd (cc)
@@ -72,7 +72,7 @@ refused_as f g r q day kept same answers is = (λ e. ap (λ (h : Stored). fixing
 index_role : (t : Slot) (terms : IndexTerms) (fixings : Stored) → terms_in t ≡ Some (terms_of.Index terms fixings) → slot_role t ≡ Some Forwarder
 index_role Free terms fixings is = absurd (cc)
 index_role Today terms fixings is = absurd (cc)
-index_role (Watcher action) terms fixings is = absurd (cc)
+index_role Watcher terms fixings is = absurd (cc)
 index_role (Live held) terms fixings is = ap (λ (u : Terms). slot_role (Live u)) (same_terms held (terms_of.Index terms fixings) is)
 
 -- a fixing changes no pair

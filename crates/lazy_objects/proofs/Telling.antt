@@ -31,7 +31,7 @@ use Rattle.lazy_objects.proofs.Kept.{same_lists}
 pub slot_passes : (slot : Slot) (kept : Kept) → passes_by (slot_role slot) kept ≡ forwards_as (role_of (terms_in slot)) kept
 slot_passes Free kept = refl
 slot_passes Today kept = refl
-slot_passes (Watcher action) kept = refl
+slot_passes Watcher kept = refl
 slot_passes (Live terms) kept = by_role (role_of (Some terms))
   where
     by_role : (r : kind.Role) → passes_by (Some (node_role r)) kept ≡ forwards_as r kept

@@ -33,7 +33,7 @@ use Rattle.lazy_objects.proofs.Revised.{Changed, revised_stands}
 by_slot : (t : Slot) → kind_in t ≡ Some kind.Composite → changeable (terms_in t) ≡ HasParts (parts_in t)
 by_slot Free is = absurd (cc)
 by_slot Today is = absurd (cc)
-by_slot (Watcher action) is = absurd (cc)
+by_slot Watcher is = absurd (cc)
 by_slot (Live (terms_of.Quote held)) is = absurd (cc)
 by_slot (Live (terms_of.Derived minus first second)) is = absurd (cc)
 by_slot (Live (terms_of.Handle handle.Quote target)) is = absurd (cc)
@@ -50,7 +50,7 @@ by_slot (Live (terms_of.Flows flows engine)) is = absurd (cc)
 member_observed : (t : Slot) → serves_as (kind_in t) Member ≡ true → is_observable t ≡ true
 member_observed Free is = absurd (cc)
 member_observed Today is = absurd (cc)
-member_observed (Watcher action) is = absurd (cc)
+member_observed Watcher is = absurd (cc)
 member_observed (Live terms) is = refl
 
 -- a composite, what may be its member, and no way back

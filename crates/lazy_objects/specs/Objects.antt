@@ -41,20 +41,20 @@ bare (Some terms) = Some (with_quote None terms)
 abbrev pub has_quote : Slot → Bool
 has_quote slot.Free = false
 has_quote slot.Today = false
-has_quote (slot.Watcher action) = false
+has_quote slot.Watcher = false
 has_quote (slot.Live terms) = is_some (quoted terms)
 
 -- whether terms stand in a slot that are no quote's
 abbrev pub has_own_terms : Slot → Bool
 has_own_terms slot.Free = false
 has_own_terms slot.Today = false
-has_own_terms (slot.Watcher action) = false
+has_own_terms slot.Watcher = false
 has_own_terms (slot.Live terms) = not (is_some (quoted terms))
 
 abbrev pub valued : Option ℤ → Slot → Slot
 valued value slot.Free = slot.Free
 valued value slot.Today = slot.Today
-valued value (slot.Watcher action) = slot.Watcher action
+valued value slot.Watcher = slot.Watcher
 valued value (slot.Live terms) = slot.Live (with_quote value terms)
 
 -- a slot with what the board has at its number

@@ -11,9 +11,9 @@ use Rattle.desk_model.specs.declared.slot.Slot.{Slot}
 use Rattle.desk_model.specs.declared.slot.Slot.TheVariants as slot
 use Rattle.desk_model.specs.Market.{Market, slot_at, edges, named, role_of}
 use Rattle.observer_graph.specs.declared.node.Role.{Role}
-use Rattle.observer_graph.specs.declared.node.Role.TheVariants.{Source, Forwarder, Lazy}
+use Rattle.observer_graph.specs.declared.node.Role.TheVariants.{Source, Forwarder, Lazy, Watcher}
 use Rattle.observer_graph.specs.declared.node.Node.{Node}
-use Rattle.observer_graph.specs.GraphView.{GraphView, node_at, flags_of, is_source}
+use Rattle.observer_graph.specs.GraphView.{GraphView, node_at, flags_of, is_source, edges_by}
 use Rattle.observer_graph.specs.Lists.{list_at}
 
 -- by number: its role, none where no object has it, and the objects that it observes, in no order
@@ -31,7 +31,15 @@ abbrev pub role_in : Option Node → Option Role
 role_in None = None
 role_in (Some node) = Some node.role
 
--- how a node takes a notice that stands for an object with this role: a watcher passes nothing on
+-- the edges of an object: what it observes; a watcher has none
+abbrev pub edges_from : Option Role → List ℕ → List ℕ
+edges_from None subjects = []
+edges_from (Some role) subjects = edges_by role subjects
+
+abbrev pub edges_at : Shape → ℕ → List ℕ
+edges_at shape o = edges_from (role_at shape o) (observed_by shape o)
+
+-- how a node takes a notice that stands for an object with this role
 abbrev pub node_role : kind.Role → Role
 node_role kind.Role.Source = Source
 node_role kind.Role.Forwarder = Forwarder
@@ -42,7 +50,7 @@ node_role kind.Role.Watching = Source
 abbrev pub slot_role : Slot → Option Role
 slot_role slot.Free = None
 slot_role slot.Today = Some Source
-slot_role (slot.Watcher action) = Some Source
+slot_role slot.Watcher = Some Watcher
 slot_role (slot.Live terms) = Some (node_role (role_of (Some terms)))
 
 -- the objects that an object with these terms observes, in order; one may be named twice

@@ -55,7 +55,7 @@ is_value value HasNone = false
 abbrev pub holds_value : Option ℤ → Slot → Bool
 holds_value value slot.Free = false
 holds_value value slot.Today = false
-holds_value value (slot.Watcher action) = false
+holds_value value slot.Watcher = false
 holds_value value (slot.Live terms) = is_value value (changeable (Some terms))
 
 -- the engine of an instrument, and whether rates are stored of an object

@@ -52,7 +52,7 @@ pub fn set_in(slot: &mut Slot, engine: Option<ObjId>)
 {
     match slot {
         Slot::Live(terms) => set_held(terms, engine),
-        Slot::Free | Slot::Today | Slot::Watcher(_) => {}
+        Slot::Free | Slot::Today | Slot::Watcher => {}
     }
 }
 

@@ -25,7 +25,7 @@ pub fn store_in(slot: &mut Slot, day: Day, rate: Rate) -> Result<(), FixFault>
 {
     match slot {
         Slot::Live(terms) => store_held(terms, day, rate),
-        Slot::Free | Slot::Today | Slot::Watcher(_) => unreachable!(),
+        Slot::Free | Slot::Today | Slot::Watcher => unreachable!(),
     }
 }
 

@@ -202,7 +202,7 @@ fn terms_in(slot: &Slot) -> Option<&Terms>
     match slot {
         Slot::Free => None,
         Slot::Today => None,
-        Slot::Watcher(_) => None,
+        Slot::Watcher => None,
         Slot::Live(terms) => Some(terms),
     }
 }

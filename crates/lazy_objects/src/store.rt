@@ -10,7 +10,7 @@ ghost use Rattle.desk_model.specs.Visit.{with_value};
 ghost use Rattle.lazy_objects.specs.Slots.{is_now};
 ghost use Rattle.lazy_objects.specs.Begun.{is_at_hand};
 ghost use Rattle.lazy_objects.specs.Late.{IsLateOf, IsClear};
-ghost use Rattle.lazy_objects.specs.Shape.{role_at, observed_by};
+ghost use Rattle.lazy_objects.specs.Shape.{role_at, observed_by, edges_at};
 ghost use Rattle.lazy_objects.specs.Store.{AddsObject, TakesObject, Joins, Leaves, Notices, stored_at, marked, stored_as};
 
 use deferred_sources::Deferral;
@@ -202,20 +202,20 @@ impl Store {
         self.deferral.graph().unwatch(subject, observer);
     }
 
-    /// Whether an object is another, or observes it on a path of objects.
+    /// Whether an object is another, or reaches it by edges.
     pub fn reaches(&mut self, from: ObjId, to: ObjId) -> bool
         requires from { is_some (role_at self.old.shape from) ≡ true }
         requires to { is_some (role_at self.old.shape to) ≡ true }
-        ensures answer { IsTrue result ↔ ((from ≡ to) ⊎ Below (observed_by self.old.shape) (λ y. y == to) (λ y. true) from) }
+        ensures answer { IsTrue result ↔ ((from ≡ to) ⊎ Below (edges_at self.old.shape) (λ y. y == to) (λ y. true) from) }
         ensures same { self.new ≡ self.old }
     {
         self.deferral.graph().reaches(from, to)
     }
 
-    /// The least object that observes another, if any does.
+    /// The least object that has another among its edges, if any has.
     pub fn least_observer(&self, object: ObjId) -> Option<ObjId>
         requires { is_some (role_at self.now.shape object) ≡ true }
-        ensures { IsLeast (λ o. Among object (observed_by self.now.shape o)) result }
+        ensures { IsLeast (λ o. Among object (edges_at self.now.shape o)) result }
     {
         self.deferral.as_graph().least_observer(object)
     }

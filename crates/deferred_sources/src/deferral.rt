@@ -57,8 +57,9 @@ impl Deferral {
         self.on = true;
     }
 
-    /// Notices are held back no more: all sources tell at once, and none is a source any more. Nothing where deferral
-    /// is off. Takes no memory, and time in proportion to what is told.
+    /// Notices are held back no more: all sources tell at once, each told watcher is remembered in the graph beside those
+    /// told before, and none is a source any more. Nothing where deferral is off. Takes no memory, and time in
+    /// proportion to what is told.
     pub fn resume(&mut self)
         ensures on { self.new.on ≡ false }
         ensures told { self.old.on ≡ true → Tells self.old.graph self.new.graph }

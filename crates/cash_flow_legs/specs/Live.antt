@@ -37,6 +37,11 @@ abbrev pub live_flows : Option IndexView → ℤ → ℤ → Option Curve → �
 live_flows index today after curve owner flows =
     with_amounts (amount_of index today curve owner) (filter (is_live today after) flows)
 
+-- why flows have no amounts
+abbrev pub cause_of : Result (List Flow) Cause → Option Cause
+cause_of (Ok flows) = None
+cause_of (Err cause) = Some cause
+
 -- what a call answers that gives the flows or their cause, or is refused for want of memory
 abbrev pub Gives : Result (List Flow) Cause → Result (List Flow) FlowFault → Type 0
 Gives due (Ok flows) = due ≡ Ok flows

@@ -1,5 +1,6 @@
 // The legs of bonds and swaps.
-ghost use Rattle.std.specs.Prelude.{◌≡◌};
+ghost use Rattle.std.specs.Prelude.{◌≡◌, IfNone, Err};
+ghost use Rattle.cash_flow_legs.specs.declared.faults.LegFault.TheVariants.{DateRange};
 ghost use Rattle.holiday_calendars.specs.Calendar.{is_business_day};
 ghost use Rattle.flow_terms.specs.Fixings.{IsRate};
 ghost use Rattle.flow_terms.specs.Ranges.{IsNotional};
@@ -16,7 +17,8 @@ use year_parts::Counter;
 
 /// Appends interest at a rate on a notional, at most 10^18 units either way, for each period of a schedule (QuantLib's
 /// `FixedRateLeg`). It is paid on the calendar's next business day at or after the period's end, and its parts run
-/// from one day of the schedule to the next. `DateRange` where a payment has no day; a fault leaves the list as it was.
+/// from one day of the schedule to the next. `DateRange` where a payment has no day, whatever the memory; a fault leaves the list
+/// as it was.
 pub fn fixed_leg(
     schedule: &Schedule,
     cal: &Calendar,
@@ -29,6 +31,8 @@ pub fn fixed_leg(
     requires rate { IsRate rate }
     ensures flows { let flow = fixed_flow (is_business_day cal.now) notional rate counter in
         Appends (each_period flow schedule.now) out.old out.new result }
+    ensures day { let flow = fixed_flow (is_business_day cal.now) notional rate counter in
+        IfNone (each_period flow schedule.now) (result ≡ Err DateRange) }
     ensures range { AddsInRange out.old out.new }
 {
     let leg = Leg {
@@ -42,8 +46,8 @@ pub fn fixed_leg(
 
 /// Appends interest at an index's rate and a spread on a notional, at most 10^18 units either way, for each period of
 /// a schedule (QuantLib's `IborLeg`). Payments and parts are those of `fixed_leg`; the rate is fixed the index's fixing
-/// days before the period's start, on the index's calendar. `DateRange` where a payment or a fixing has no day; a
-/// fault leaves the list as it was.
+/// days before the period's start, on the index's calendar. `DateRange` where a payment or a fixing has no day,
+/// whatever the memory; a fault leaves the list as it was.
 pub fn float_leg(
     schedule: &Schedule,
     cal: &Calendar,
@@ -57,6 +61,8 @@ pub fn float_leg(
     requires spread { IsRate spread }
     ensures flows { let flow = float_flow (is_business_day cal.now) notional spread counter index.now in
         Appends (each_period flow schedule.now) out.old out.new result }
+    ensures day { let flow = float_flow (is_business_day cal.now) notional spread counter index.now in
+        IfNone (each_period flow schedule.now) (result ≡ Err DateRange) }
     ensures range { AddsInRange out.old out.new }
 {
     let leg = Leg {

@@ -1,9 +1,10 @@
 // The flows that are still to be paid, with their amounts.
-ghost use Rattle.std.specs.Prelude.{◌≡◌, true, IsSome, IfOk, option_copied};
+ghost use Rattle.std.specs.Prelude.{◌≡◌, true, IsSome, IfOk, IfErr, Err, option_copied};
 ghost use Rattle.std.specs.List.{All};
 ghost use Rattle.flow_terms.specs.Flows.{fixed_on};
 ghost use Rattle.flow_terms.specs.Ranges.{IsFlow, AreFlowsInRange};
 ghost use Rattle.cash_flow_legs.specs.Amount.{views_of};
+ghost use Rattle.cash_flow_legs.specs.declared.faults.FlowFault.TheVariants.{Refused};
 ghost use Rattle.cash_flow_legs.specs.Live as live;
 
 use crate::FlowFault;
@@ -11,6 +12,7 @@ use crate::amounts::amount_of;
 use curve_points::CurveValue;
 use day_number::Day;
 use desk_names::ObjId;
+use desk_terms::Cause;
 use fixed_amount::Amount;
 use flow_terms::{FlowTerm, FlowTerms, IndexUse};
 use item_lists::Items;
@@ -29,8 +31,8 @@ pub type FlowList = Items<Flow>;
 
 /// The flows of an instrument, the owner, that are paid after today and after another day, in their order and with
 /// their amounts (QuantLib's `CashFlows` and `Coupon::amount`). The first of these flows that is refused decides, by the
-/// causes of its index's fixing, for a settlement then those of its period, and then `TooLarge` of the owner. The index
-/// is given where the terms name one, and the curve that it is forecast from where a flow that is paid after today needs
+/// causes of its index's fixing, for a settlement then those of its period, and then `TooLarge` of the owner; it is told
+/// before memory is taken. The index is given where the terms name one, and the curve that it is forecast from where a flow that is paid after today needs
 /// a forecast.
 pub fn flows(
     alloc: Global,
@@ -46,17 +48,41 @@ pub fn flows(
     requires curve { live.needs_curve (views_of (option_copied index)) terms.now.flows today ≡ true → IsSome curve }
     ensures given { let seen = views_of (option_copied index.entry) in
         live.Gives (live.live_flows seen today after (option_copied curve.entry) owner terms.now.flows) result }
+    ensures cause { let seen = views_of (option_copied index.entry) in
+        IfErr (live.live_flows seen today after (option_copied curve.entry) owner terms.now.flows) (λ cause. result ≡ Err (Refused cause)) }
     ensures range { IfOk result (live.AreInRange terms.now.flows) }
 {
-    amounts_of(
-        alloc,
-        terms.flows.items(),
-        today,
-        after,
-        index,
-        curve,
-        owner,
-    )
+    let items = terms.flows.items();
+    match first_cause(items, today, after, index, curve, owner) {
+        Some(cause) => Err(FlowFault::Refused(cause)),
+        None => amounts_of(alloc, items, today, after, index, curve, owner),
+    }
+}
+
+// The cause of the first flow that is still to be paid and is refused.
+fn first_cause(
+    terms: &[FlowTerm],
+    today: Day,
+    after: Day,
+    index: Option<&IndexUse<'_>>,
+    curve: Option<&CurveValue>,
+    owner: ObjId,
+) -> Option<Cause>
+    requires range { All IsFlow terms.now }
+    requires index { All (λ flow. IsSome (fixed_on flow) → IsSome index) terms.now }
+    requires curve { live.needs_curve (views_of (option_copied index)) terms.now today ≡ true → IsSome curve }
+    ensures { let seen = views_of (option_copied index.entry) in
+        result ≡ live.cause_of (live.live_flows seen today after (option_copied curve.entry) owner terms.now) }
+{
+    for flow in terms {
+        if is_live(flow, today, after) {
+            match amount_of(flow, today, index, curve, owner) {
+                Ok(_) => {}
+                Err(cause) => return Some(cause),
+            }
+        }
+    }
+    None
 }
 
 // The same of flows each in range.

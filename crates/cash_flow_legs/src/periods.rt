@@ -1,9 +1,10 @@
 // A flow for each period of a schedule.
-ghost use Rattle.std.specs.Prelude.{◌≡◌, ◌≤◌, ◌≤ℤ◌, length, IfSome};
+ghost use Rattle.std.specs.Prelude.{◌≡◌, ◌≤◌, ◌≤ℤ◌, length, is_some, IfSome, IfNone, Err};
 ghost use Rattle.std.specs.List.{All};
 ghost use Rattle.std.specs.List.Sorted.{IsStrictlySortedBy};
 ghost use Rattle.std.specs.Ordering.{int_cmp};
 ghost use Rattle.flow_terms.specs.Ranges.{IsFlow};
+ghost use Rattle.cash_flow_legs.specs.declared.faults.LegFault.TheVariants.{DateRange};
 ghost use Rattle.cash_flow_legs.specs.Legs.{IsLeg, flow_of, each_period};
 ghost use Rattle.cash_flow_legs.specs.Appended.{Appends, Begins, AddsInRange};
 
@@ -37,7 +38,8 @@ pub struct Leg<'a> {
     pub coupon: Coupon<'a>,
 }
 
-/// Appends the flow of each period, or leaves the list as it was.
+/// Appends the flow of each period, or leaves the list as it was. That a day is not there is told before memory is
+/// taken.
 pub(crate) fn append_leg(
     leg: &Leg<'_>,
     days: &[Day],
@@ -47,14 +49,33 @@ pub(crate) fn append_leg(
     requires rising { IsStrictlySortedBy int_cmp days.now }
     requires count { 2 ≤ length days.now }
     ensures flows { Appends (each_period (flow_of leg.now) days.now) out.old out.new result }
+    ensures day { IfNone (each_period (flow_of leg.now) days.now) (result ≡ Err DateRange) }
     ensures range { AddsInRange out.old out.new }
 {
+    if !are_dated(leg, days) {
+        return Err(LegFault::DateRange);
+    }
     let count = out.len();
     let pushed = push_flows(leg, days, out);
     if pushed.is_err() {
         out.truncate(count);
     }
     pushed
+}
+
+// Whether there are days for the flow of each period.
+fn are_dated(leg: &Leg<'_>, days: &[Day]) -> bool
+    requires leg { IsLeg leg.now }
+    requires rising { IsStrictlySortedBy int_cmp days.now }
+    requires count { 2 ≤ length days.now }
+    ensures { result ≡ is_some (each_period (flow_of leg.now) days.now) }
+{
+    for at in 1..days.len() {
+        let Some(_) = period_flow(leg, days[at - 1], days[at]) else {
+            return false;
+        };
+    }
+    true
 }
 
 // Pushes the flows of periods, up to one for which a day or memory is wanting.

@@ -7,3 +7,5 @@ pub mod NodeLemmas
 pub mod BuiltLemmas
 pub mod LawLemmas
 pub mod Rows
+pub mod NodesLaw
+pub mod LedLemmas

@@ -96,6 +96,21 @@ coupons_by calendar reference helper None =
 coupons_by calendar reference helper (Some every) =
     swap_to calendar reference helper every (units_on helper.tenor.unit reference helper.tenor.count)
 
+-- the day that a helper's tenor leads to: a deposit's end, and a swap's before it is adjusted
+abbrev pub led_by : Calendar → ℤ → Helper → Option Tenor → Option ℤ
+led_by calendar reference helper None =
+    advanced (is_business_day calendar) helper.tenor.unit helper.conv helper.eom reference helper.tenor.count
+led_by calendar reference helper (Some every) = units_on helper.tenor.unit reference helper.tenor.count
+
+-- the same of a helper that starts at a reference day
+abbrev pub led_to : Calendar → ℤ → Helper → Option ℤ
+led_to calendar reference helper = led_by calendar reference helper helper.every
+
+-- the same of the first of helpers; where there is none, the day on which they start
+abbrev pub first_led : Calendar → ℤ → List Helper → Option ℤ
+first_led calendar reference [] = Some reference
+first_led calendar reference (helper ∷ helpers) = led_to calendar reference helper
+
 -- the coupons of a helper that starts at a reference day
 unfoldable pub coupons_of : Calendar → ℤ → Helper → Result (List Coupon) HelperFault
 coupons_of calendar reference helper = coupons_by calendar reference helper helper.every

@@ -1,5 +1,5 @@
 // A curve from its terms.
-ghost use Rattle.std.specs.Prelude.{◌≡◌, ◌≤◌, length, [], ◌<ℤ◌, IfOk, IfNone, Ok, Err};
+ghost use Rattle.std.specs.Prelude.{◌≡◌, ◌≤◌, length, [], ◌<ℤ◌, IfOk, IfSome, IfNone, Ok, Err};
 ghost use Rattle.std.specs.List.{All};
 ghost use Rattle.day_shift.specs.Business.{IsBusinessDay};
 ghost use Rattle.holiday_calendars.specs.Calendar.{is_business_day};
@@ -8,6 +8,7 @@ ghost use Rattle.curve_points.specs.Curve.{IsRisingFrom, origin};
 ghost use Rattle.curve_bootstrap.specs.Coupon.{AreCoupons};
 ghost use Rattle.curve_bootstrap.specs.Node.{last_of};
 ghost use Rattle.curve_bootstrap.specs.Built as due;
+ghost use Rattle.curve_bootstrap.specs.Laws.{IsBuilt};
 
 use crate::faults::{HelperFault, numbered};
 use crate::helpers::coupons_of;
@@ -24,7 +25,8 @@ use std::alloc::Global;
 
 /// The curve of terms on an evaluation date, by the rates of the helpers in their order. The reference day is the date
 /// with the settlement days added; every helper starts there. The factor at a helper's end is the least whole number of
-/// units from 1 to 4 * 10^12 at which the helper is worth 1 or more on the curve so far.
+/// units from 1 to 4 * 10^12 at which the helper is worth 1 or more on the curve so far. That the reference day, or the day
+/// that the first helper's tenor leads to, is out of range is told without memory.
 pub fn build(
     alloc: Global,
     owner: ObjId,
@@ -35,7 +37,10 @@ pub fn build(
     requires range { IsInRange terms.now }
     requires rates { length rates.now ≡ length terms.now.helpers }
     ensures curve { due.Gives (due.built_curve owner terms.now today rates.now) result }
+    ensures nodes { IfOk result (λ curve. IsBuilt terms.now today rates.now curve) }
     ensures reference { IfNone (due.reference_day terms.now today) (result ≡ Err BuildFault.DateRange) }
+    ensures day { IfSome (due.reference_day terms.now today) (λ reference.
+        IfNone (due.first_led terms.now.cal reference terms.now.helpers) (result ≡ Err BuildFault.DateRange)) }
 {
     let _number = today.number();
     let settlement = i32::from(terms.settlement);
@@ -63,8 +68,9 @@ fn built(
     requires range { IsInRange terms.now }
     requires rates { length rates.now ≡ length terms.now.helpers }
     requires business { IsBusinessDay (is_business_day terms.now.cal) reference }
-    ensures { due.Gives (due.curve_of owner reference
+    ensures given { due.Gives (due.curve_of owner reference
         (due.nodes_of (due.coupons_of terms.now.cal reference) (origin reference) 1 [] terms.now.helpers rates.now)) result }
+    ensures day { IfNone (due.first_led terms.now.cal reference terms.now.helpers) (result ≡ Err BuildFault.DateRange) }
 {
     match nodes_from(alloc, &terms.cal, reference, terms.helpers.items(), rates) {
         Ok(nodes) => Ok(CurveValue::new(owner, reference, nodes)),
@@ -86,6 +92,7 @@ fn nodes_from(
     requires rates { length rates.now ≡ length helpers.now }
     ensures given { due.Gives (due.nodes_of (due.coupons_of calendar.now reference) (origin reference) 1 [] helpers.now rates.now) result }
     ensures rising { IfOk result (λ nodes. IsRisingFrom reference nodes) }
+    ensures day { IfNone (due.first_led calendar.now reference helpers.now) (result ≡ Err BuildFault.DateRange) }
 {
     let first = CurveNode {
         day: reference,
@@ -129,6 +136,7 @@ fn next_node(
     requires last { last.now ≡ last_of from.now nodes.now }
     ensures given { due.GivesHelper (λ node. node) (due.node_by from.now nodes.now rate (due.coupons_of calendar.now from.now.day helper.now)) result }
     ensures after { IfOk result (λ node. last.now.day <ℤ node.day) }
+    ensures day { IfNone (due.led_to calendar.now from.now.day helper.now) (result ≡ Err HelperFault.DateRange) }
 {
     match coupons_of(alloc, calendar, from.day, helper) {
         Ok(coupons) => node_by(from, nodes, last, rate, &coupons),

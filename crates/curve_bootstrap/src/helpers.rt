@@ -1,5 +1,5 @@
 // The coupons of a helper.
-ghost use Rattle.std.specs.Prelude.{◌≡◌, ◌≤ℤ◌, pos, IfOk, Some, None, Ok};
+ghost use Rattle.std.specs.Prelude.{◌≡◌, ◌≤ℤ◌, pos, IfOk, IfNone, Some, None, Ok, Err};
 ghost use Rattle.std.specs.List.Sorted.{IsStrictlySortedBy};
 ghost use Rattle.std.specs.Ordering.{int_cmp};
 ghost use Rattle.day_counters.specs.Counter.{frac};
@@ -22,7 +22,7 @@ use schedule_rules::{Plan, PlanFault, Rule, make};
 use std::alloc::Global;
 use year_parts::Counter;
 
-/// The coupons of a helper that starts at the reference day.
+/// The coupons of a helper that starts at the reference day. That its tenor leads out of the range is told without memory.
 pub(crate) fn coupons_of(
     alloc: Global,
     calendar: &Calendar,
@@ -32,6 +32,7 @@ pub(crate) fn coupons_of(
     requires business { IsBusinessDay (is_business_day calendar.now) reference }
     requires range { IsHelper helper.now }
     ensures given { due.GivesHelper (λ cs. cs.items) (due.coupons_of calendar.now reference helper.now) result }
+    ensures day { IfNone (due.led_to calendar.now reference helper.now) (result ≡ Err HelperFault.DateRange) }
     ensures fits { IfOk result (λ cs. AreCoupons reference (due.end_of reference cs.items) cs.items) }
 {
     match helper.every {
@@ -50,6 +51,7 @@ fn deposit_coupons(
     requires business { IsBusinessDay (is_business_day calendar.now) reference }
     requires range { IsTenor helper.now.tenor }
     ensures given { due.GivesHelper (λ cs. cs.items) (due.coupons_by calendar.now reference helper.now None) result }
+    ensures day { IfNone (due.led_by calendar.now reference helper.now None) (result ≡ Err HelperFault.DateRange) }
     ensures fits { IfOk result (λ cs. AreCoupons reference (due.end_of reference cs.items) cs.items) }
 {
     let tenor = helper.tenor;
@@ -105,6 +107,7 @@ fn swap_coupons(
     requires tenor { IsOfMonths helper.now.tenor }
     requires every { IsOfMonths every }
     ensures given { due.GivesHelper (λ cs. cs.items) (due.coupons_by calendar.now reference helper.now (Some every)) result }
+    ensures day { IfNone (due.led_by calendar.now reference helper.now (Some every)) (result ≡ Err HelperFault.DateRange) }
     ensures fits { IfOk result (λ cs. AreCoupons reference (due.end_of reference cs.items) cs.items) }
 {
     let Some(end) = moved(reference, helper.tenor) else {

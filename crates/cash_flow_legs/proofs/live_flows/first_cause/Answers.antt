@@ -1,4 +1,4 @@
-use Rattle.std.proofs.Common.{◌≡◌, ◌∙◌, sym, ap, List, [], ◌∷◌, ◌++◌, Result, option_copied}
+use Rattle.std.proofs.Common.{◌∙◌, sym, ap, List, [], ◌∷◌, ◌++◌, Result, option_copied}
 use Rattle.desk_terms.specs.declared.cause.Cause.{Cause}
 use Rattle.flow_terms.specs.Flows.{paid_on}
 use Rattle.cash_flow_legs.specs.declared.live_flows.Flow.{Flow}

@@ -1,4 +1,4 @@
-use Rattle.std.proofs.Common.{◌≡◌, ◌∙◌, ap, sym, List, [], ◌∷◌, ◌++◌, Option, pos, is_some}
+use Rattle.std.proofs.Common.{◌∙◌, ap, sym, List, [], ◌∷◌, ◌++◌, Option, pos, is_some}
 use Rattle.flow_terms.specs.declared.flows.FlowTerm.{FlowTerm}
 use Rattle.cash_flow_legs.specs.Legs.{flow_of}
 use Rattle.cash_flow_legs.proofs.PeriodLemmas.{period_order, periods_more, periods_none, periods_done, periods_begin}

@@ -8,6 +8,7 @@ use Rattle.day_shift.proofs.OpenLemmas.{advanced_is_open}
 use Rattle.curve_bootstrap.specs.Built.{reference_day}
 use Rattle.curve_bootstrap.proofs.CouponLemmas.{found_day}
 use Rattle.curve_bootstrap.proofs.BuiltLemmas.{built_by, built_nowhere, gives_same, no_day}
+use Rattle.curve_bootstrap.proofs.NodesLaw.{built_is}
 use Rattle.curve_bootstrap.proofs.building.build.Goals as goal
 use Rattle.curve_bootstrap.proofs.building.build.Goals.{After-advance, In-Ok}
 
@@ -26,8 +27,18 @@ built-requires-clause-business c =
 
 pub returns-in-Ok-clause-curve : goal.returns-in-Ok-clause-curve
 returns-in-Ok-clause-curve c =
-    gives_same _ _ _ (sym (built_by c.args.owner c.args.terms.now c.args.today c.args.rates.now c.in-Ok.reference (reached c.before))) c.built.ensures
+    gives_same _ _ _ (sym (built_by c.args.owner c.args.terms.now c.args.today c.args.rates.now c.in-Ok.reference (reached c.before))) c.built.ensures.given
 
 pub returns-in-Err-clause-curve : goal.returns-in-Err-clause-curve
 returns-in-Err-clause-curve c =
     built_nowhere c.args.owner c.args.terms.now c.args.today c.args.rates.now (sym (day_by c.before) ∙ no_day _ c.in-Err.field-0 c.in-Err.ensures.value)
+
+pub returns-in-Ok-clause-nodes : goal.returns-in-Ok-clause-nodes
+returns-in-Ok-clause-nodes c =
+    built_is c.args.owner c.args.terms.now c.args.today c.args.rates.now c.built.result c.requires.rates (returns-in-Ok-clause-curve c)
+
+pub returns-in-Ok-clause-day : goal.returns-in-Ok-clause-day
+returns-in-Ok-clause-day c = rw (reached c.before) c.built.ensures.day
+
+pub returns-in-Err-clause-day : goal.returns-in-Err-clause-day
+returns-in-Err-clause-day c = rw (sym (day_by c.before) ∙ no_day _ c.in-Err.field-0 c.in-Err.ensures.value) tt

@@ -6,7 +6,16 @@ use Rattle.curve_bootstrap.specs.Built.{coupons_of, node_by}
 use Rattle.curve_bootstrap.proofs.NodeLemmas.{rising_push, last_push}
 use Rattle.curve_bootstrap.proofs.GivenLemmas.{gives_by}
 use Rattle.curve_bootstrap.proofs.BuiltLemmas.{nodes_more, nodes_fault, nodes_done}
+use Rattle.curve_bootstrap.proofs.LedLemmas.{led_anyway, led_on, led_fault, led_all}
 use Rattle.curve_bootstrap.proofs.building.nodes_from.Goals as goal
+
+pub returns-clause-day : goal.returns-clause-day
+returns-clause-day c = led_all _ c.args.calendar.now c.args.reference c.args.helpers.now c.loop-at.at c.loop-at-test.false c.loop-at.invariant.led
+
+pub returns-in-Err-clause-day : goal.returns-in-Err-clause-day
+returns-in-Err-clause-day c =
+    led_fault _ _ c.args.calendar.now c.args.reference c.args.helpers.now c.loop-at.at c.index-helpers-at.result c.in-Err.fault c.numbered.result
+    c.loop-at-test.true c.index-helpers-at.is c.loop-at.invariant.led c.in-Err.ensures.day c.numbered.ensures
 
 pub returns-clause-given : goal.returns-clause-given
 returns-clause-given c =
@@ -30,6 +39,7 @@ loop-at-preserved c =
     record {
       rising = subst (λ (ns : List CurveNode). IsRisingFrom c.args.reference ns) (sym pushed) (rising_push (origin c.args.reference) c.loop-at.nodes c.in-Ok.found c.loop-at.invariant.rising after);
       last = subst (λ (ns : List CurveNode). c.in-Ok.found ≡ last_of (origin c.args.reference) ns) (sym pushed) (last_push (origin c.args.reference) c.loop-at.nodes c.in-Ok.found);
+      led = led_on _ _ c.args.calendar.now c.args.reference c.args.helpers.now c.loop-at.at c.index-helpers-at.result c.in-Ok.found c.loop-at-test.true c.index-helpers-at.is c.loop-at.invariant.led c.in-Ok.ensures.day;
       due = c.loop-at.invariant.due ∙ nodes_more coupons (origin c.args.reference) c.loop-at.nodes c.push.new.self c.args.helpers.now c.args.rates.now c.loop-at.at c.index-helpers-at.result c.index-rates-at.result c.in-Ok.found
           c.loop-at-test.true c.index-helpers-at.is rates c.index-rates-at.is (sym same ∙ c.in-Ok.ensures.given) pushed;
     }

@@ -1,0 +1,61 @@
+-- Lemmas on the days that the tenors of helpers lead to.
+use Rattle.std.proofs.Common.{◌≡◌, ℕ, zero, suc, ◌+◌, ◌<◌, ◌≤◌, arith, refl, sym, ap, subst, ◌∙◌, ℤ, List, [], ◌∷◌, length, get_or, Option, Some, None, Result, Ok, Err, IfNone}
+use Rattle.holiday_calendars.specs.declared.calendars.Calendar.{Calendar}
+use Rattle.curve_terms.specs.declared.terms.Helper.{Helper}
+use Rattle.curve_bootstrap.specs.declared.faults.HelperFault.{HelperFault}
+use Rattle.curve_bootstrap.specs.declared.faults.HelperFault.TheVariants.{DateRange}
+use Rattle.curve_bootstrap.specs.declared.faults.BuildFault.{BuildFault}
+use Rattle.curve_bootstrap.specs.declared.faults.BuildFault.TheVariants as build
+use Rattle.curve_bootstrap.specs.Built.{led_to, first_led, numbered}
+
+-- what holds anyway
+pub led_anyway : (P : Type 0) (o : Option ℤ) → P → IfNone o P
+led_anyway P (Some day) p = tt
+led_anyway P None p = p
+
+-- what has a value is led to a day
+pub led_there : (X E P : Type 0) (o : Option ℤ) (x : X) (e : E) → IfNone o (◌≡◌ {A = Result X E} (Ok x) (Err e)) → IfNone o P
+led_there X E P (Some day) x e is = tt
+led_there X E P None x e is = absurd cc
+
+-- a fault stays
+pub led_away : (X Y E : Type 0) (o : Option ℤ) (fault e : E) → IfNone o (◌≡◌ {A = Result X E} (Err fault) (Err e)) → IfNone o (◌≡◌ {A = Result Y E} (Err fault) (Err e))
+led_away X Y E (Some day) fault e is = tt
+led_away X Y E None fault e is = let same : fault ≡ e = cc in ap (λ (f : E). Err f) same
+
+first_is : (first helper : Helper) (helpers : List Helper) (at : ℕ) → helper ≡ get_or (first ∷ helpers) at helper → at ≡ 0 → helper ≡ first
+first_is first helper helpers at is none = subst (λ (n : ℕ). helper ≡ get_or (first ∷ helpers) n helper) none is
+
+-- with a node for a helper the first is led to a day
+pub led_on : (X P : Type 0) (calendar : Calendar) (reference : ℤ) (helpers : List Helper) (at : ℕ) (helper : Helper) (found : X) → at < length helpers → helper ≡ get_or helpers at helper
+    → IfNone (first_led calendar reference helpers) (at ≡ 0) → IfNone (led_to calendar reference helper) (◌≡◌ {A = Result X HelperFault} (Ok found) (Err DateRange)) → IfNone (first_led calendar reference helpers) P
+led_on X P calendar reference [] at helper found h is led away = absurd (omega arith)
+led_on X P calendar reference (first ∷ helpers) at helper found h is led away = by_day (led_to calendar reference first) refl led where
+  by_day : (o : Option ℤ) → led_to calendar reference first ≡ o → IfNone o (at ≡ 0) → IfNone o P
+  by_day (Some day) e none = tt
+  by_day None e none = absurd (
+      let own = subst (λ (h : Helper). IfNone (led_to calendar reference h) (◌≡◌ {A = Result X HelperFault} (Ok found) (Err DateRange))) (first_is first helper helpers at is none) away in
+      let no : ◌≡◌ {A = Result X HelperFault} (Ok found) (Err DateRange) = rw e at own in cc)
+
+-- the fault of a helper is that of the first where that is led to no day
+pub led_fault : (X Y : Type 0) (calendar : Calendar) (reference : ℤ) (helpers : List Helper) (at : ℕ) (helper : Helper) (fault : HelperFault) (found : BuildFault) → at < length helpers → helper ≡ get_or helpers at helper
+    → IfNone (first_led calendar reference helpers) (at ≡ 0) → IfNone (led_to calendar reference helper) (◌≡◌ {A = Result X HelperFault} (Err fault) (Err DateRange)) → found ≡ numbered (at + 1) fault
+    → IfNone (first_led calendar reference helpers) (◌≡◌ {A = Result Y BuildFault} (Err found) (Err build.DateRange))
+led_fault X Y calendar reference [] at helper fault found h is led away numbered_so = absurd (omega arith)
+led_fault X Y calendar reference (first ∷ helpers) at helper fault found h is led away numbered_so = by_day (led_to calendar reference first) refl led where
+  by_day : (o : Option ℤ) → led_to calendar reference first ≡ o → IfNone o (at ≡ 0) → IfNone o (◌≡◌ {A = Result Y BuildFault} (Err found) (Err build.DateRange))
+  by_day (Some day) e none = tt
+  by_day None e none =
+      let own = subst (λ (h : Helper). IfNone (led_to calendar reference h) (◌≡◌ {A = Result X HelperFault} (Err fault) (Err DateRange))) (first_is first helper helpers at is none) away in
+      let no : ◌≡◌ {A = Result X HelperFault} (Err fault) (Err DateRange) = rw e at own in
+      let same : fault ≡ DateRange = cc in
+      ap (λ (f : BuildFault). Err f) (numbered_so ∙ ap (numbered (at + 1)) same)
+
+-- with all helpers behind, the first is led to a day
+pub led_all : (P : Type 0) (calendar : Calendar) (reference : ℤ) (helpers : List Helper) (at : ℕ) → length helpers ≤ at
+    → IfNone (first_led calendar reference helpers) (at ≡ 0) → IfNone (first_led calendar reference helpers) P
+led_all P calendar reference [] at h led = tt
+led_all P calendar reference (first ∷ helpers) at h led = by_day (led_to calendar reference first) led where
+  by_day : (o : Option ℤ) → IfNone o (at ≡ 0) → IfNone o P
+  by_day (Some day) none = tt
+  by_day None none = absurd (omega arith)

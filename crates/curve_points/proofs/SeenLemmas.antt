@@ -1,5 +1,5 @@
 -- Lemmas on curves that are seen from a later day.
-use Rattle.std.proofs.Common.{◌≡◌, ℕ, zero, suc, ◌+◌, ◌^◌, ◌<◌, ◌≤◌, ℤ, pos, ◌+ℤ◌, ◌<ℤ◌, ◌≤ℤ◌, Bool, true, false, refl, sym, ap, subst, ◌∙◌, arith, int_lt, int_eq, List, [], ◌∷◌, ◌++◌, length, get_or, take, drop, filter, Option, Some, None, Result, Ok, Err}
+use Rattle.std.proofs.Common.{◌≡◌, ℕ, zero, suc, ◌+◌, ◌^◌, ◌<◌, ◌≤◌, ℤ, pos, ◌+ℤ◌, ◌<ℤ◌, ◌≤ℤ◌, Bool, true, false, refl, sym, ap, subst, ◌∙◌, arith, int_lt, int_eq, List, [], ◌∷◌, ◌++◌, length, get_or, take, drop, filter, Option, Some, None, Result, Ok, Err, IfErr}
 use Rattle.std.specs.List.{All, AllWithin, position_from}
 use Rattle.std.proofs.lemmas.Int.{ints}
 use Rattle.std.proofs.lemmas.List.{map_more, take-append-drop, map-append, length-map, length-take-le}
@@ -133,30 +133,49 @@ pub implied_outside : (curve : Curve) (owner : ℕ) (reference : ℤ) (fault : P
 unfolding implied_curve
 implied_outside curve owner reference fault is = rw (sym is) refl
 
--- a node that is outside is the first, behind nodes that are not
-pub fault_at : (factor : ℤ) (nodes seen : List CurveNode) (at number : ℕ) (node : CurveNode) → at < length nodes → node ≡ get_or nodes at node
-    → seen ≡ all_seen factor (take at nodes) → position_from is_outside 1 seen ≡ None → is_outside (seen_from factor node) ≡ true → number ≡ at + 1
-    → within_range (all_seen factor nodes) ≡ Err (Node number)
-fault_at factor nodes seen at number node less is list none hit numbered =
+-- where none is outside, no node is
+pub none_at : (factor : ℤ) (k : ℕ) (nodes : List CurveNode) (at : ℕ) (node : CurveNode) → position_from is_outside k (all_seen factor nodes) ≡ None
+    → at < length nodes → node ≡ get_or nodes at node → is_outside (seen_from factor node) ≡ false
+none_at factor k [] at node none h is = absurd (omega arith)
+none_at factor k (n ∷ nodes) zero node none h is = rw is (by_test (is_outside (seen_from factor n)) refl none) where
+  by_test : (b : Bool) → is_outside (seen_from factor n) ≡ b → position_from is_outside k (all_seen factor (n ∷ nodes)) ≡ None → is_outside (seen_from factor n) ≡ false
+  by_test true e all = absurd (let some : Some k ≡ None = rw e at all in cc)
+  by_test false e all = e
+none_at factor k (n ∷ nodes) (suc at) node none h is =
+    by_test (is_outside (seen_from factor n)) refl none (λ rest. none_at factor (k + 1) nodes at node rest (omega arith) is) where
+      by_test : (b : Bool) → is_outside (seen_from factor n) ≡ b → position_from is_outside k (all_seen factor (n ∷ nodes)) ≡ None
+          → (position_from is_outside (k + 1) (all_seen factor nodes) ≡ None → is_outside (seen_from factor node) ≡ false) → is_outside (seen_from factor node) ≡ false
+      by_test true e all next = absurd (let some : Some k ≡ None = rw e at all in cc)
+      by_test false e all next = next (rw e at all)
+
+-- nodes none of which is outside
+pub within_none : (nodes : List CurveNode) → position_from is_outside 1 nodes ≡ None → within_range nodes ≡ Ok nodes
+within_none nodes none = ap (unless_outside nodes) none
+
+-- the number of a node that is outside is the first's
+pub number_at : (factor : ℤ) (nodes : List CurveNode) (at number : ℕ) (node : CurveNode) → at < length nodes → node ≡ get_or nodes at node
+    → position_from is_outside 1 (all_seen factor (take at nodes)) ≡ None → is_outside (seen_from factor node) ≡ true → number ≡ at + 1
+    → Some number ≡ position_from is_outside 1 (all_seen factor nodes)
+number_at factor nodes at number node less is none hit numbered =
     let parts : nodes ≡ take at nodes ++ node ∷ drop (suc at) nodes =
     sym (take-append-drop at nodes) ∙ ap (λ (xs : List CurveNode). take at nodes ++ xs) (drop-cons nodes at node less ∙ ap (λ (n : CurveNode). n ∷ drop (suc at) nodes) (sym is)) in
-    let all : all_seen factor nodes ≡ seen ++ seen_from factor node ∷ all_seen factor (drop (suc at) nodes) =
-    ap (all_seen factor) parts ∙ (map-append (seen_from factor) (take at nodes) (node ∷ drop (suc at) nodes)
-    ∙ ap (λ (xs : List CurveNode). xs ++ seen_from factor node ∷ all_seen factor (drop (suc at) nodes)) (sym list)) in
-    let size : length seen ≡ at = ap length list ∙ (length-map (take at nodes) (seen_from factor) ∙ length-take-le at nodes (omega arith)) in
-    let found = position_hit is_outside 1 seen (all_seen factor (drop (suc at) nodes)) (seen_from factor node) none hit in
-    rw (all, found) (ap (λ (k : ℕ). Err (Node k)) (omega (arith, size, numbered)))
+    let all : all_seen factor nodes ≡ all_seen factor (take at nodes) ++ seen_from factor node ∷ all_seen factor (drop (suc at) nodes) =
+    ap (all_seen factor) parts ∙ map-append (seen_from factor) (take at nodes) (node ∷ drop (suc at) nodes) in
+    let size : length (all_seen factor (take at nodes)) ≡ at = length-map (take at nodes) (seen_from factor) ∙ length-take-le at nodes (omega arith) in
+    let found = position_hit is_outside 1 (all_seen factor (take at nodes)) (all_seen factor (drop (suc at) nodes)) (seen_from factor node) none hit in
+    rw (all, found) (ap Some (omega (arith, size, numbered)))
 
--- one node more
-pub seen_more : (factor : ℤ) (nodes seen more : List CurveNode) (at : ℕ) (node found : CurveNode) → at < length nodes → node ≡ get_or nodes at node
-    → seen ≡ all_seen factor (take at nodes) → position_from is_outside 1 seen ≡ None → found ≡ seen_from factor node → is_outside (seen_from factor node) ≡ false
-    → more ≡ seen ++ found ∷ []
-    → (more ≡ all_seen factor (take (at + 1) nodes)) × (position_from is_outside 1 more ≡ None)
-seen_more factor nodes seen more at node found less is list none same miss pushed =
-    let front : all_seen factor (take (at + 1) nodes) ≡ all_seen factor (take at nodes) ++ seen_from factor (get_or nodes at node) ∷ [] = map_more (seen_from factor) nodes at node less in (
-      pushed ∙ (ap (λ (xs : List CurveNode). xs ++ found ∷ []) list ∙ ap (λ (y : CurveNode). all_seen factor (take at nodes) ++ y ∷ []) (same ∙ ap (seen_from factor) is) ∙ sym front),
-      rw (pushed, same) (position_push is_outside 1 seen (seen_from factor node) none miss),
-    )
+-- one node more, which is not outside
+pub seen_more : (factor : ℤ) (nodes : List CurveNode) (at : ℕ) (node : CurveNode) → at < length nodes → node ≡ get_or nodes at node
+    → all_seen factor (take (at + 1) nodes) ≡ all_seen factor (take at nodes) ++ seen_from factor node ∷ []
+seen_more factor nodes at node less is =
+    map_more (seen_from factor) nodes at node less ∙ ap (λ (n : CurveNode). all_seen factor (take at nodes) ++ seen_from factor n ∷ []) (sym is)
+
+pub none_more : (factor : ℤ) (nodes : List CurveNode) (at : ℕ) (node : CurveNode) → at < length nodes → node ≡ get_or nodes at node
+    → position_from is_outside 1 (all_seen factor (take at nodes)) ≡ None → is_outside (seen_from factor node) ≡ false
+    → position_from is_outside 1 (all_seen factor (take (at + 1) nodes)) ≡ None
+none_more factor nodes at node less is none miss =
+    rw (seen_more factor nodes at node less is) (position_push is_outside 1 (all_seen factor (take at nodes)) (seen_from factor node) none miss)
 
 -- the nodes after a day, from the place of the first on
 pub after_is_drop : (nodes : List CurveNode) (day : ℤ) (at : ℕ) → at ≤ length nodes → AllWithin (λ (n : CurveNode). n.day ≤ℤ day) nodes 0 at
@@ -174,3 +193,21 @@ pub fault_from : (owner : ℕ) (reference factor : ℤ) (nodes rest : List Curve
     → Gives (within_range (all_seen factor rest)) (Err fault) → Gives (curve_of owner reference (seen_nodes factor reference nodes)) (Err fault)
 fault_from owner reference factor nodes rest fault behind is =
     gives_fault owner reference (seen_nodes factor reference nodes) fault (subst (λ (ns : List CurveNode). Gives (within_range (all_seen factor ns)) (Err fault)) behind is)
+
+-- what answers with each fault of the nodes answers so with each of the curve
+pub fault_kept : (X Y : Type 0) (owner : ℕ) (reference : ℤ) (nodes : Result (List CurveNode) ImpliedFault) (fault : ImpliedFault)
+    → IfErr nodes (λ f. ◌≡◌ {A = Result X ImpliedFault} (Err fault) (Err f)) → IfErr (curve_of owner reference nodes) (λ f. ◌≡◌ {A = Result Y ImpliedFault} (Err fault) (Err f))
+fault_kept X Y owner reference (Ok nodes) fault is = tt
+fault_kept X Y owner reference (Err f) fault is = let same : fault ≡ f = cc in ap (λ (g : ImpliedFault). Err g) same
+
+-- nodes that are there have no fault
+pub no_fault : {X : Type 0} (due : Result Curve ImpliedFault) (curve : Curve) (r : Result X ImpliedFault) → due ≡ Ok curve → IfErr due (λ f. r ≡ Err f)
+no_fault {X} (Ok c) curve r is = tt
+no_fault {X} (Err f) curve r is = absurd cc
+
+-- nodes of which one is outside, and nodes of which none is
+pub outside_is : (X : Type 0) (nodes : List CurveNode) (number : ℕ) → Some number ≡ position_from is_outside 1 nodes → IfErr (within_range nodes) (λ f. ◌≡◌ {A = Result X ImpliedFault} (Err (Node number)) (Err f))
+outside_is X nodes number is = rw (← is) refl
+
+pub inside_is : {X : Type 0} (nodes : List CurveNode) (r : Result X ImpliedFault) → None ≡ position_from is_outside 1 nodes → IfErr (within_range nodes) (λ f. r ≡ Err f)
+inside_is {X} nodes r is = rw (← is) tt

@@ -1,6 +1,6 @@
 // A curve seen from a later day.
-ghost use Rattle.std.specs.Prelude.{◌≡◌, ◌≤◌, length, pos, ◌≤ℤ◌, ◌<ℤ◌, ◌*ℤ◌, ◌+ℤ◌, ◌+◌, unsigned_abs, int_le, IfErr, MatchOption, Err, true, false};
-ghost use Rattle.std.specs.List.{AllWithin};
+ghost use Rattle.std.specs.Prelude.{◌≡◌, ◌≤◌, length, pos, ◌≤ℤ◌, ◌<ℤ◌, ◌*ℤ◌, ◌+ℤ◌, ◌+◌, unsigned_abs, int_le, IfErr, MatchOption, None, Err, true, false};
+ghost use Rattle.std.specs.List.{AllWithin, position_from};
 ghost use Rattle.fixed_amount.specs.Rounding.{closest};
 ghost use Rattle.curve_points.specs.Curve.{IsRisingFrom};
 ghost use Rattle.curve_points.specs.Segment.{one};
@@ -16,7 +16,7 @@ use std::alloc::{AllocError, Global};
 use thiserror::Error;
 
 /// Why a curve is not seen from a day. The first that holds, in this order, is the answer; want of memory may come in
-/// place of `Node` and of a curve.
+/// place of a curve alone.
 #[derive(Clone, Copy, Debug, PartialEq, Eq, Error)]
 pub enum ImpliedFault {
     /// The day is before the reference day.
@@ -54,6 +54,7 @@ pub fn implied(
 ) -> Result<CurveValue, ImpliedFault>
     ensures curve { due.Gives (due.implied_curve curve.now owner reference) result }
     ensures outside { IfErr (discount_at curve.now reference) (λ fault. result ≡ Err (due.refusal fault)) }
+    ensures fault { IfErr (due.implied_curve curve.now owner reference) (λ fault. result ≡ Err fault) }
 {
     match discount(curve, reference) {
         Ok(factor) => seen_by(alloc, curve, owner, reference, factor),
@@ -70,7 +71,8 @@ fn seen_by(
     reference: Day,
     factor: Discount,
 ) -> Result<CurveValue, ImpliedFault>
-    ensures { due.Gives (due.curve_of owner reference (due.seen_nodes factor reference curve.now.nodes)) result }
+    ensures given { due.Gives (due.curve_of owner reference (due.seen_nodes factor reference curve.now.nodes)) result }
+    ensures fault { IfErr (due.curve_of owner reference (due.seen_nodes factor reference curve.now.nodes)) (λ fault. result ≡ Err fault) }
 {
     let nodes = curve.nodes.items();
     let (_, later) = nodes.split_at(place_after(nodes, reference, curve.reference));
@@ -98,7 +100,7 @@ fn place_after(nodes: &[CurveNode], day: Day, reference: Day) -> usize
     )
 }
 
-// The nodes as they are seen, or the first that is out of range.
+// The nodes as they are seen, or the first that is out of range, which is told before memory is taken.
 fn seen_nodes(
     alloc: Global,
     reference: Day,
@@ -106,14 +108,44 @@ fn seen_nodes(
     nodes: &[CurveNode],
 ) -> Result<NodeList, ImpliedFault>
     requires { IsRisingFrom reference nodes.now }
+    ensures given { due.Gives (due.within_range (due.all_seen factor nodes.now)) result }
+    ensures fault { IfErr (due.within_range (due.all_seen factor nodes.now)) (λ fault. result ≡ Err fault) }
+{
+    match first_outside(reference, factor, nodes) {
+        Some(number) => Err(ImpliedFault::Node(number)),
+        None => pushed_nodes(alloc, factor, nodes),
+    }
+}
+
+// The number of the first node that would be out of range, counted from 1.
+fn first_outside(reference: Day, factor: Discount, nodes: &[CurveNode]) -> Option<u32>
+    requires { IsRisingFrom reference nodes.now }
+    ensures { result ≡ position_from due.is_outside 1 (due.all_seen factor nodes.now) }
+{
+    for (at, node) in nodes.iter().enumerate() {
+        match seen_node(factor, node) {
+            Some(_) => {}
+            None => return Some(number_of(reference, node.day, at)),
+        }
+    }
+    None
+}
+
+// The nodes as they are seen, where each is in range.
+fn pushed_nodes(
+    alloc: Global,
+    factor: Discount,
+    nodes: &[CurveNode],
+) -> Result<NodeList, ImpliedFault>
+    requires { position_from due.is_outside 1 (due.all_seen factor nodes.now) ≡ None }
     ensures { due.Gives (due.within_range (due.all_seen factor nodes.now)) result }
 {
     let mut seen = NodeList::new(alloc);
-    for (at, node) in nodes.iter().enumerate() {
-        let Some(found) = seen_node(factor, node) else {
-            return Err(ImpliedFault::Node(number_of(reference, node.day, at)));
-        };
-        seen.push(found)?;
+    for node in nodes {
+        match seen_node(factor, node) {
+            Some(found) => seen.push(found)?,
+            None => unreachable!(),
+        }
     }
     Ok(seen)
 }

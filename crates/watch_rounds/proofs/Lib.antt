@@ -1,0 +1,4 @@
+pub mod Places
+pub mod Tallies
+pub mod Stays
+pub mod Courses

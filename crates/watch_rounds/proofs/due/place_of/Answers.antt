@@ -1,0 +1,35 @@
+use Rattle.std.proofs.Common.{◌≡◌, ◌<◌, ◌≤◌, ◌+◌, ◌-◌, ◌/◌, ℕ, length, get_or, sym, arith}
+use Rattle.watch_rounds.specs.declared.due.DueWatcher.{DueWatcher}
+use Rattle.watch_rounds.proofs.Places.{rising_at}
+use Rattle.watch_rounds.proofs.due.place_of.Goals as goal
+
+middle : (low high : ℕ) → low < high → low + (high - low) / 2 < high
+middle low high less = omega arith
+
+pub loop-low-preserved-then-place : goal.loop-low-preserved-then-place
+loop-low-preserved-then-place c =
+    let m = c.loop-low.low + (c.loop-low.high - c.loop-low.low) / 2 in
+    let within = middle c.loop-low.low c.loop-low.high c.loop-low-test.true in
+    let most = c.loop-low.invariant.high in record {
+      low = omega arith;
+      high = most;
+      before = λ i d low.
+          let le = rising_at c.args.due.now i m d c.index-due-middle.result c.requires (omega arith) (omega arith) in
+          let here = c.place.ensures in let there = c.place-in-loop-low.ensures in let less = c.if-place.true in
+          omega arith;
+      from = c.loop-low.invariant.from;
+    }
+
+pub loop-low-preserved : goal.loop-low-preserved
+loop-low-preserved c =
+    let m = c.loop-low.low + (c.loop-low.high - c.loop-low.low) / 2 in
+    let within = middle c.loop-low.low c.loop-low.high c.loop-low-test.true in
+    let most = c.loop-low.invariant.high in record {
+      low = omega arith;
+      high = omega arith;
+      before = c.loop-low.invariant.before;
+      from = λ i d high low.
+          let le = rising_at c.args.due.now m i c.index-due-middle.result d c.requires high low in
+          let here = c.place.ensures in let there = c.place-in-loop-low.ensures in let less = c.if-place.false in
+          omega arith;
+    }

@@ -1,0 +1,6 @@
+pub mod Order
+pub mod Due
+pub mod Round
+pub mod Course
+pub mod Stands
+pub mod Rows

@@ -1,0 +1,191 @@
+// The due watchers of a round, and the runs of each name.
+ghost use Rattle.std.specs.Prelude.{◌≡◌, ◌+◌, ◌<◌, ◌≤◌, ◌*◌, ◌==◌, length, OnOk, OnErr, OnSome, if◌then◌else◌, ◌++◌, replicate, vec_capacity, slice_index_or, slice_set, max};
+ghost use Rattle.watch_rounds.specs.Due.{IsOnly};
+ghost use Rattle.watch_rounds.specs.Round.{no_rounds, grown, begun, tally_at, with_notice, notice_of, watcher_at, with_run, gone, runs_left, IsRound, blank, one_more};
+ghost use Rattle.watch_rounds.specs.Stands.{IsTracked};
+
+use crate::due::{DueWatcher, put_in, take_out};
+use crate::notice::Notice;
+use crate::picker::Picker;
+use crate::tally::{MOST_RUNS, Tally};
+use desk_names::{NameId, ObjId};
+use std::alloc::{AllocError, Global};
+use std::marker::Model;
+
+/// The due watchers of a round by creation, and the runs of each name in it. A clause sees a `RoundsView`.
+#[derive(Drop)]
+pub struct Rounds {
+    due: Vec<DueWatcher>,
+    tallies: Vec<Tally>,
+    // The names of which a run began, each once: what `begin` has to clear.
+    ran: Vec<NameId>,
+    // Watchers below this number have room.
+    nodes: usize,
+}
+
+impl Model for Rounds {
+    ghost use Rattle.std.specs.Prelude.{◌≤◌, length, vec_capacity};
+    ghost use Rattle.watch_rounds.specs.Round.{RoundsView};
+    ghost use Rattle.watch_rounds.specs.Stands.{Stands};
+
+    ghost Value = { RoundsView };
+
+    ghost view = { λ r. record { round = record { due = r.due.items; tallies = r.tallies.items }; nodes = r.nodes } };
+
+    ghost invariant = { λ r. Stands r.due.items r.tallies.items r.ran.items r.nodes
+        × (r.nodes ≤ vec_capacity r.due) × (length r.tallies.items ≤ vec_capacity r.ran) };
+}
+
+impl Rounds {
+    /// Room for no name and no watcher. Later calls take memory from the allocator given here.
+    pub fn new(alloc: Global) -> Rounds
+        ensures { result ≡ no_rounds }
+    {
+        Rounds {
+            due: Vec::new(alloc),
+            tallies: Vec::new(alloc),
+            ran: Vec::new(alloc),
+            nodes: 0,
+        }
+    }
+
+    /// Finds the room for so many names, and for the watchers below this number. It lowers neither. Where memory is
+    /// wanting, nothing is changed. No other call takes memory.
+    pub fn grow(&mut self, names: u32, nodes: u32) -> Result<(), AllocError>
+        ensures ok { OnOk result (self.new ≡ grown names nodes self.old) }
+        ensures err { OnErr result (self.new ≡ self.old) }
+    {
+        let more = (names as usize).saturating_sub(self.tallies.len());
+        let nodes = greater(self.nodes, nodes as usize);
+        self.tallies.reserve(more)?;
+        self.ran
+            .reserve(self.tallies.len() + more - self.ran.len())?;
+        self.due.reserve(nodes - self.due.len())?;
+        self.nodes = nodes;
+        extend(&mut self.tallies, more);
+        Ok(())
+    }
+
+    /// The due watchers, by creation.
+    pub fn due(&self) -> &[DueWatcher]
+        ensures due { result.now ≡ self.now.round.due }
+        // At all times each of them has room and a run left, and no name has run more than 8 times.
+        ensures round { IsRound self.now }
+    {
+        self.due.as_slice()
+    }
+
+    /// A round begins: nobody is due, no name has run, and none is over. Takes time in proportion to the names that ran
+    /// in the round before, however many there are.
+    pub fn begin(&mut self)
+        ensures { self.new ≡ begun self.old }
+    {
+        clear_all(&mut self.tallies, &self.ran);
+        self.ran.clear();
+        self.due.clear();
+    }
+
+    /// A notice to a watcher, whose name this is: it is due, or its name has run as often as it may in this round. No
+    /// other due watcher was told by this name, and where this one is due, it was told by this name.
+    pub fn told(&mut self, watcher: ObjId, name: NameId) -> Notice
+        requires low { watcher < self.old.nodes }
+        requires named { name < length self.old.round.tallies }
+        requires only { IsOnly watcher name self.old.round.due }
+        ensures notice { result ≡ notice_of (tally_at self.old.round name) }
+        ensures told { self.new ≡ record self.old { round = with_notice watcher name self.old.round } }
+        ensures left { runs_left self.new.round ≡ runs_left self.old.round }
+    {
+        let tally = self.tallies[name.place()];
+        if tally.runs < MOST_RUNS {
+            put_in(&mut self.due, DueWatcher { watcher, name });
+            return Notice::Due;
+        }
+        if tally.over {
+            return Notice::OverAgain;
+        }
+        self.tallies[name.place()] = Tally {
+            runs: tally.runs,
+            over: true,
+        };
+        Notice::OverFirst
+    }
+
+    /// The watcher that runs next, if one is due: it is due no more, and a run more of its name has begun.
+    pub fn next_due<P: Picker>(&mut self, picker: &mut P) -> Option<ObjId>
+        ensures due { result ≡ watcher_at (P.at picker.old (length self.old.round.due)) self.old.round }
+        ensures ran { self.new ≡ record self.old {
+          round = with_run (P.at picker.old (length self.old.round.due)) self.old.round;
+        } }
+        ensures picker { picker.new
+            ≡ (if length self.old.round.due == 0 then picker.old else P.after picker.old (length self.old.round.due)) }
+        // Every round ends: a run takes one of the runs that are left, of which each name has 8 at first.
+        ensures left { OnSome result (runs_left self.new.round + 1 ≡ runs_left self.old.round) }
+        ensures most { runs_left self.old.round ≤ 8 * length self.old.round.tallies }
+        ensures round { IsRound self.new }
+    {
+        if self.due.is_empty() {
+            return None;
+        }
+        let at = picker.pick(self.due.len() as u32) as usize;
+        let next = self.due.remove(at);
+        count_run(&mut self.tallies, &mut self.ran, next.name);
+        Some(next.watcher)
+    }
+
+    /// The watcher is not due: it was dropped, or has no registration left.
+    pub fn gone(&mut self, watcher: ObjId)
+        requires { watcher < self.old.nodes }
+        ensures gone { self.new ≡ record self.old { round = gone watcher self.old.round } }
+        ensures left { runs_left self.new.round ≡ runs_left self.old.round }
+    {
+        take_out(&mut self.due, watcher);
+    }
+}
+
+// A run more of a name has begun.
+fn count_run(tallies: &mut Vec<Tally>, ran: &mut Vec<NameId>, name: NameId)
+    requires named { name < length tallies.old.items }
+    requires left { (slice_index_or tallies.old.items name blank).runs < 8 }
+    requires tracks { IsTracked tallies.old.items ran.old.items }
+    requires room { length tallies.old.items ≤ vec_capacity ran.old }
+    ensures counted { tallies.new.items
+        ≡ slice_set tallies.old.items name (one_more (slice_index_or tallies.old.items name blank)) }
+    ensures tracks { IsTracked tallies.new.items ran.new.items }
+    ensures room { vec_capacity ran.new ≡ vec_capacity ran.old }
+{
+    let tally = tallies[name.place()];
+    if tally.runs == 0 {
+        ran.push_reserved(name);
+    }
+    tallies[name.place()] = Tally {
+        runs: tally.runs + 1,
+        over: tally.over,
+    };
+}
+
+// The greater of two numbers.
+fn greater(one: usize, other: usize) -> usize
+    ensures { result ≡ max one other }
+{
+    if one < other { other } else { one }
+}
+
+// So many names more, none of which has run.
+fn extend(tallies: &mut Vec<Tally>, more: usize)
+    requires room { length tallies.old.items + more ≤ vec_capacity tallies.old }
+    ensures { tallies.new.items ≡ tallies.old.items ++ replicate more blank }
+{
+    for _ in 0..more {
+        tallies.push_reserved(Tally::default());
+    }
+}
+
+// None of these names has run.
+fn clear_all(tallies: &mut Vec<Tally>, names: &[NameId])
+    requires { IsTracked tallies.old.items names.now }
+    ensures { tallies.new.items ≡ replicate (length tallies.old.items) blank }
+{
+    for name in names {
+        tallies[name.place()] = Tally::default();
+    }
+}

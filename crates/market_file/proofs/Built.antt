@@ -21,13 +21,13 @@ use Rattle.flow_terms.specs.Fixings.{fixing_on}
 use Rattle.market_tables.specs.declared.fault.MarketKind.{MarketKind}
 use Rattle.market_tables.specs.declared.fault.MarketKind.TheVariants as fault
 use Rattle.market_tables.specs.Given.{◌>>=◌}
-use Rattle.market_tables.specs.Values.{name_of, day_of}
+use Rattle.market_tables.specs.Values.{day_of}
 use Rattle.market_tables.specs.Entries.{at_entry, next_entry, entries_from}
 use Rattle.market_records.specs.Row.{field}
 use Rattle.market_records.specs.Records.{record_step, behind_records}
 use Rattle.market_calendars.specs.Reader.{calendars_in}
 use Rattle.market_calendars.specs.Calendars.{Calendars}
-use Rattle.market_fields.specs.Earlier.{Earlier, named_object, served, untaken}
+use Rattle.market_fields.specs.Earlier.{Earlier, named_object, served, new_name}
 use Rattle.market_fields.specs.Limited.{rate_of}
 use Rattle.market_objects.specs.Board.{started, added, HasFlowsInRange, HaveFlowsInRange}
 use Rattle.market_objects.specs.Reader as object
@@ -42,7 +42,7 @@ use Rattle.market_file.specs.Top.{top_of}
 use Rattle.market_file.specs.Market.{tables_at, sized, table_sized, quotes_onto, objects_onto, fixings_onto, objects_of, board_of}
 use Rattle.market_file.specs.Standing.{AreServed, IsNext, AreInOrder, IsReady}
 use Rattle.market_file.proofs.Given.{Given, bound, past, holds, at_given}
-use Rattle.market_file.proofs.Served.{IsEntry, untaken_free, entry_in_fits}
+use Rattle.market_file.proofs.Served.{IsEntry, new_name_free, entry_in_fits}
 
 abbrev kinds_of : List (ℕ × Terms) → List Kind
 kinds_of [] = []
@@ -127,13 +127,12 @@ object_built b d built =
 quote_built : (b : Earlier) (row : List (List ℕ)) → IsBuilt b → Given IsBuilt (quote.behind b row)
 quote_built b row built = by_test (length row == 2)
   where
-    by_test : (is : Bool) → Given IsBuilt (if is then (name_of (field row 0) >>= (λ name. quote.value_of (field row 1) >>= (λ value. untaken b name >>= (λ n. added b n (terms.Quote value))))) else Err fault.Record)
+    by_test : (is : Bool) → Given IsBuilt (if is then (new_name b (field row 0) >>= (λ name. quote.value_of (field row 1) >>= (λ value. added b name (terms.Quote value)))) else Err fault.Record)
     by_test false = tt
     by_test true =
-        past IsBuilt (name_of (field row 0)) (λ name. quote.value_of (field row 1) >>= (λ value. untaken b name >>= (λ n. added b n (terms.Quote value))))
-        (λ name. past IsBuilt (quote.value_of (field row 1)) (λ value. untaken b name >>= (λ n. added b n (terms.Quote value)))
-        (λ value. bound (λ (n : List ℕ). has_text b.names n ≡ false) IsBuilt (untaken b name) (λ n. added b n (terms.Quote value)) (untaken_free b name)
-        (λ n h. added_built b n (terms.Quote value) built (h, ((λ _. tt), tt)))))
+        bound (λ (n : List ℕ). has_text b.names n ≡ false) IsBuilt (new_name b (field row 0)) (λ name. quote.value_of (field row 1) >>= (λ value. added b name (terms.Quote value))) (new_name_free b (field row 0))
+        (λ name free. past IsBuilt (quote.value_of (field row 1)) (λ value. added b name (terms.Quote value))
+        (λ value. added_built b name (terms.Quote value) built (free, ((λ _. tt), tt))))
 
 -- ---- one stored rate more
 

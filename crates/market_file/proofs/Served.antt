@@ -127,18 +127,22 @@ served_so e wanted n is_known = by_test (serves n.kind wanted) refl
     by_test false is = tt
     by_test true is = ap (λ (k : Option Kind). is_served k wanted) is_known ∙ is
 
-pub untaken_free : (e : Earlier) (name : List ℕ) → Given (IsFree e) (untaken e name)
+untaken_free : (e : Earlier) (name : List ℕ) → Given (IsFree e) (untaken e name)
 untaken_free e name = by_test (has_text e.names name) refl
   where
     by_test : (b : Bool) → has_text e.names name ≡ b → Given (IsFree e) (if b then Err fault.Taken else Ok name)
     by_test true is = tt
     by_test false is = is
 
+-- a new name is free
+pub new_name_free : (e : Earlier) (text : List ℕ) → Given (IsFree e) (new_name e text)
+new_name_free e text = past (IsFree e) (name_of text) (untaken e) (untaken_free e)
+
 name_fits : (e : Earlier) (d : Data) → Given (Fits e place.NewName) (name_field e d)
 name_fits e d =
     past (Fits e place.NewName) (text_in d) (λ text. new_name e text >>= (λ name. Ok (field.Name name)))
     (λ text. bound (IsFree e) (Fits e place.NewName) (new_name e text) (λ name. Ok (field.Name name))
-    (past (IsFree e) (name_of text) (untaken e) (untaken_free e)) (λ name h. h))
+    (new_name_free e text) (λ name h. h))
 
 object_fits : (e : Earlier) (wanted : Wanted) (d : Data) → Given (Fits e (place.Object wanted)) (object_field e wanted d)
 object_fits e wanted d =

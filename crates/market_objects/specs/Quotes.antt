@@ -5,9 +5,9 @@ use Rattle.desk_terms.specs.declared.terms.Terms.TheVariants as terms
 use Rattle.market_tables.specs.declared.fault.MarketKind.{MarketKind}
 use Rattle.market_tables.specs.declared.fault.MarketKind.TheVariants as fault
 use Rattle.market_tables.specs.Given.{◌>>=◌}
-use Rattle.market_tables.specs.Values.{name_of, decimal_of}
+use Rattle.market_tables.specs.Values.{decimal_of}
 use Rattle.market_records.specs.Row.{field}
-use Rattle.market_fields.specs.Earlier.{Earlier, untaken}
+use Rattle.market_fields.specs.Earlier.{Earlier, new_name}
 use Rattle.market_objects.specs.Board.{added}
 
 -- the first record is `name,value`
@@ -20,11 +20,9 @@ value_of text =
     if length text == 0 then Ok None
     else (decimal_of 9 1_000_000_000_000_000_000 text >>= (λ units. Ok (Some units)))
 
--- the objects with the quote that a record says: its fields in their order, then whether the name is taken
+-- the objects with the quote that a record says: its name, which is new, and then its value
 abbrev pub behind : Earlier → List (List ℕ) → Result Earlier MarketKind
 behind e row =
     if length row == 2
-    then (name_of (field row 0) >>= (λ name.
-    value_of (field row 1) >>= (λ value.
-    untaken e name >>= (λ untaken_name. added e untaken_name (terms.Quote value)))))
+    then (new_name e (field row 0) >>= (λ name. value_of (field row 1) >>= (λ value. added e name (terms.Quote value))))
     else Err fault.Record

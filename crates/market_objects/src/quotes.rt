@@ -37,7 +37,7 @@ fn value_of(text: &[u8]) -> Result<Option<Rate>, TableFault>
     Ok(Some(Rate(units)))
 }
 
-// Makes the quote that a record says: its fields are tested in their order, and then whether the name is taken.
+// Makes the quote that a record says: its name is tested, which is new, and then its value.
 fn take_quote(board: &mut Board, row: &ByteRecord) -> Result<(), TableFault>
     ensures { Gives (λ _. board.new) result (behind board.old (fields_of row.now)) }
 {
@@ -45,8 +45,8 @@ fn take_quote(board: &mut Board, row: &ByteRecord) -> Result<(), TableFault>
         return Err(TableFault::Kind(MarketKind::Record));
     }
     let name = NameText::read(board.alloc(), field(row, 0))?;
-    let value = value_of(field(row, 1))?;
     let name = board.earlier().untaken(name)?;
+    let value = value_of(field(row, 1))?;
     board.add(&name, Terms::Quote(value))
 }
 

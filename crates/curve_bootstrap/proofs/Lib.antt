@@ -9,3 +9,4 @@ pub mod LawLemmas
 pub mod Rows
 pub mod NodesLaw
 pub mod LedLemmas
+pub mod BuiltRows

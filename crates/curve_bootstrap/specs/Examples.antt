@@ -14,6 +14,8 @@ use Rattle.curve_terms.specs.declared.terms.CurveTerms.{CurveTerms}
 use Rattle.curve_bootstrap.specs.declared.coupons.Coupon.{Coupon}
 use Rattle.curve_bootstrap.specs.declared.faults.HelperFault.TheVariants as helper
 use Rattle.curve_bootstrap.specs.declared.faults.BuildFault.TheVariants as build
+use Rattle.curve_points.specs.Curve.{Curve, origin}
+use Rattle.curve_bootstrap.specs.Node.{node_of}
 use Rattle.curve_bootstrap.specs.Built.{coupons_of, reference_day, built_curve}
 
 abbrev pub tenor_of : ℤ → TimeUnit → Tenor
@@ -42,8 +44,12 @@ terms_of cal settlement helpers = record { cal = cal; settlement = settlement; h
 abbrev pub paid : ℤ → ℤ → Coupon
 paid day parts = record { day = day; parts = parts }
 
--- the days are 2024-01-02 (19,724), 2024-01-04 (19,726), 2024-02-29 (19,782), 2024-03-01 (19,783), 2024-03-28 to
--- 2024-04-02 (19,810 to 19,815, with Good Friday and Easter Monday), 2024-04-29 (19,842), 2024-04-30 (19,843),
+-- a curve from 2024-03-28 to a node
+abbrev pub curve_to : ℤ → ℤ → Curve
+curve_to day factor = record { owner = 1; reference = pos 19_810; nodes = record { day = day; factor = factor } ∷ [] }
+
+-- the days are 2024-01-02 (19,724), 2024-01-04 (19,726), 2024-02-29 (19,782), 2024-03-01 (19,783), 2024-03-27 to
+-- 2024-04-02 (19,809 to 19,815, with Good Friday and Easter Monday), 2024-04-29 (19,842), 2024-04-30 (19,843),
 -- 2024-08-28 (19,963), 2024-08-30 to 2024-09-02 (19,965 to 19,968, with a weekend), 2025-02-28 (20,147), 2025-03-01
 -- (20,148, a Saturday), 2025-03-03 (20,150), 2199-12-05 (83,979) and 2199-12-31 (84,005)
 pub record AreWorked : Type 0 where
@@ -85,3 +91,11 @@ pub record AreWorked : Type 0 where
   pub second_rate_beyond : built_curve 1 (terms_of (One Null) 0 (deposit Following false ∷ days (pos 31) ∷ []))
       (pos 19_782) (pos 36_000_000 ∷ pos 10_000_000_001 ∷ [])
       ≡ Err build.RateRange
+  pub node_at_a_month_end : node_of (origin (pos 19_810)) [] (pos 19_843) (pos 36_000_000) (paid (pos 19_843) (pos 146_949) ∷ [])
+      ≡ Ok (pos 996_710_854_182)
+  pub node_by_the_day : node_of (origin (pos 19_810)) [] (pos 19_842) (pos 36_000_000) (paid (pos 19_842) (pos 142_496) ∷ [])
+      ≡ Ok (pos 996_810_207_337)
+  pub built_at_a_month_end : built_curve 1 (terms_of (One Target) 1 (deposit ModifiedFollowing true ∷ [])) (pos 19_809) (pos 36_000_000 ∷ [])
+      ≡ Ok (curve_to (pos 19_843) (pos 996_710_854_182))
+  pub built_by_the_day : built_curve 1 (terms_of (One Target) 1 (deposit ModifiedFollowing false ∷ [])) (pos 19_809) (pos 36_000_000 ∷ [])
+      ≡ Ok (curve_to (pos 19_842) (pos 996_810_207_337))

@@ -1,4 +1,4 @@
-use Rattle.std.proofs.Common.{refl}
+use Rattle.std.proofs.Common.{refl, true, false, pos}
 use Rattle.jiff_core.specs.Calendar.{days_from_civil, day_count, days_of_years, days_of_months, weekday_number}
 use Rattle.day_number.specs.Day.{civil_number, date_of, date_after, date_in_year}
 use Rattle.day_number.specs.Shift.{months_later, last_of_month}
@@ -16,6 +16,7 @@ use Rattle.curve_points.specs.Point.{beyond}
 use Rattle.curve_bootstrap.specs.Coupon.{total}
 use Rattle.curve_bootstrap.specs.Node.{excess, node_of}
 use Rattle.curve_bootstrap.specs.Built.{coupons_of, nodes_of, built_curve}
+use Rattle.curve_bootstrap.proofs.BuiltRows.{node_at_a_month_end, node_by_the_day, built_to}
 use Rattle.curve_bootstrap.proofs.laws.curves_are_worked_through.Goals as goal
 
 pub returns : goal.returns
@@ -42,4 +43,8 @@ returns c = record {
   built_past = refl;
   month_end_not_passed = refl;
   second_rate_beyond = refl;
+  node_at_a_month_end = node_at_a_month_end;
+  node_by_the_day = node_by_the_day;
+  built_at_a_month_end = built_to 19_843 146_949 true (pos 996_710_854_182) refl node_at_a_month_end;
+  built_by_the_day = built_to 19_842 142_496 false (pos 996_810_207_337) refl node_by_the_day;
 }

@@ -1,9 +1,12 @@
 -- What a bench answers where curves are built and seen.
-use Rattle.std.proofs.Common.{◌≡◌, ℕ, suc, ℤ, List, [], ◌∷◌, length, Result, Ok, Err, IfErr, IsOk, refl, ap}
+use Rattle.std.proofs.Common.{◌≡◌, ℕ, suc, ℤ, List, [], ◌∷◌, length, Option, Some, None, Result, Ok, Err, IfErr, IsOk, refl, ap}
+use Rattle.std.specs.List.{position_from}
 use Rattle.curve_terms.specs.declared.terms.Helper.{Helper}
 use Rattle.curve_points.specs.declared.points.PointFault.{PointFault}
 use Rattle.curve_points.specs.declared.points.PointFault.TheVariants as point
+use Rattle.curve_points.specs.declared.curves.CurveNode.{CurveNode}
 use Rattle.curve_points.specs.Curve.{Curve}
+use Rattle.curve_points.specs.Point.{discount_at}
 use Rattle.curve_points.specs.Implied as see
 use Rattle.curve_points.specs.declared.seen.ImpliedFault.{ImpliedFault}
 use Rattle.curve_points.specs.declared.seen.ImpliedFault.TheVariants as implied
@@ -14,7 +17,6 @@ use Rattle.desk_terms.specs.declared.bench.BenchFault.{BenchFault}
 use Rattle.desk_terms.specs.declared.bench.BenchFault.TheVariants.{Refused, NoMemory}
 use Rattle.desk_terms.specs.declared.value.Input as input
 use Rattle.desk_terms.specs.Bench.{Answers}
-use Rattle.desk_terms.specs.Point.{point_cause}
 use Rattle.desk_terms.specs.Reading.{Outcome, AreRates}
 use Rattle.desk_terms.specs.declared.value.Value.{Value}
 use Rattle.discount_engines.specs.declared.faults.PriceFault.{PriceFault}
@@ -48,26 +50,42 @@ gives_seen o base day is (Err implied.Past) gives = ap (seen o base day) gives
 gives_seen o base day is (Err (implied.Node k)) gives = ap (seen o base day) gives
 gives_seen o base day is (Err implied.NoMemory) gives = tt
 
--- a day outside the base curve
-pub is_outside : (o base : ℕ) (day : ℤ) (d : Result ℤ PointFault) (r : Result Curve ImpliedFault)
-    → IfErr d (λ fault. r ≡ Err (see.refusal fault))
-    → IfErr d (λ fault. seen_answer o base day r ≡ Err (Refused (point_cause base day fault)))
-is_outside o base day (Ok factor) r is = tt
-is_outside o base day (Err point.Before) r is = ap (seen_answer o base day) is
-is_outside o base day (Err point.Past) r is = ap (seen_answer o base day) is
-
 -- an instrument that is priced, or is refused
 pub gives_priced : (is : Outcome) (r : Result Value PriceFault) → r ≡ answer_of is → Answers is (priced_answer r)
 gives_priced (Ok value) r gives = rw gives refl
 gives_priced (Err cause) r gives = rw gives refl
 
--- want of memory comes only of a day on the base curve
-pub wants_inside : (base : ℕ) (day : ℤ) (d : Result ℤ PointFault) (r : Result Value BenchFault)
-    → IfErr d (λ fault. r ≡ Err (Refused (point_cause base day fault))) → WantsOnly (IsOk d) r
-wants_inside base day (Ok factor) (Ok value) is = tt
-wants_inside base day (Ok factor) (Err (Refused cause)) is = tt
-wants_inside base day (Ok factor) (Err NoMemory) is = refl
-wants_inside base day (Err fault) r is = rw is tt
+-- no definition of a curve that is seen gives want of memory
+never_within : (o : ℕ) (day : ℤ) (nodes : List CurveNode) (found : Option ℕ) → see.curve_of o day (see.unless_outside nodes found) ≡ Err implied.NoMemory → ⊥
+never_within o day nodes None is = absurd cc
+never_within o day nodes (Some k) is = absurd cc
+
+never_at : (o : ℕ) (day : ℤ) (nodes : List CurveNode) (d : Result ℤ PointFault) → see.curve_of o day (see.seen_at d day nodes) ≡ Err implied.NoMemory → ⊥
+never_at o day nodes (Ok factor) is =
+    never_within o day (see.all_seen factor (see.nodes_after day nodes)) (position_from see.is_outside 1 (see.all_seen factor (see.nodes_after day nodes))) is
+never_at o day nodes (Err point.Before) is = absurd cc
+never_at o day nodes (Err point.Past) is = absurd cc
+
+never_memory : (curve : Curve) (o : ℕ) (day : ℤ) → see.implied_curve curve o day ≡ Err implied.NoMemory → ⊥
+unfolding see.implied_curve
+never_memory curve o day is = never_at o day curve.nodes (discount_at curve day) is
+
+-- want of memory comes only where there is a curve to be seen
+wants_by : (o base : ℕ) (day : ℤ) (is r : Result Curve ImpliedFault) → (is ≡ Err implied.NoMemory → ⊥) → IfErr is (λ fault. r ≡ Err fault)
+    → WantsOnly (IsOk is) (seen_answer o base day r)
+wants_by o base day (Ok curve) (Ok found) never same = tt
+wants_by o base day (Ok curve) (Err implied.Before) never same = tt
+wants_by o base day (Ok curve) (Err implied.Past) never same = tt
+wants_by o base day (Ok curve) (Err (implied.Node k)) never same = tt
+wants_by o base day (Ok curve) (Err implied.NoMemory) never same = refl
+wants_by o base day (Err implied.Before) r never same = rw same tt
+wants_by o base day (Err implied.Past) r never same = rw same tt
+wants_by o base day (Err (implied.Node k)) r never same = rw same tt
+wants_by o base day (Err implied.NoMemory) r never same = absurd (never refl)
+
+pub wants_seen : (curve : Curve) (o base : ℕ) (day : ℤ) (r : Result Curve ImpliedFault) → IfErr (see.implied_curve curve o day) (λ fault. r ≡ Err fault)
+    → WantsOnly (IsOk (see.implied_curve curve o day)) (seen_answer o base day r)
+wants_seen curve o base day r same = wants_by o base day (see.implied_curve curve o day) r (never_memory curve o day) same
 
 -- and never of an instrument
 pub wants_none : (is : Outcome) (r : Result Value PriceFault) → r ≡ answer_of is → WantsOnly ⊥ (priced_answer r)

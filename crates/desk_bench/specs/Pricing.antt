@@ -10,7 +10,6 @@ use Rattle.desk_terms.specs.declared.value.Input as input
 use Rattle.curve_terms.specs.declared.terms.CurveTerms.{CurveTerms}
 use Rattle.curve_points.specs.Curve.{Curve as CurveView}
 use Rattle.curve_points.specs.Implied.{implied_curve}
-use Rattle.curve_points.specs.Point.{discount_at}
 use Rattle.curve_points.specs.declared.seen.ImpliedFault.{ImpliedFault}
 use Rattle.curve_points.specs.declared.seen.ImpliedFault.TheVariants as implied
 use Rattle.curve_bootstrap.specs.Built.{built_curve}
@@ -111,23 +110,23 @@ price_of (Engine curve) reading = instrument_price reading
 abbrev pub desk_calc : Calc
 desk_calc reading = price_of reading.terms reading
 
--- where a curve that is seen from a day may want memory: the day is on its base curve
-abbrev pub MayWantSeen : ℤ → List input.Input → Type 0
-MayWantSeen reference (input.TheVariants.Curve curve ∷ []) = IsOk (discount_at curve reference)
-MayWantSeen reference inputs = ⊥
+-- where a curve that o sees from a day may want memory: there is such a curve
+abbrev pub MayWantSeen : ℕ → ℤ → List input.Input → Type 0
+MayWantSeen o reference (input.TheVariants.Curve curve ∷ []) = IsOk (implied_curve curve o reference)
+MayWantSeen o reference inputs = ⊥
 
--- where a price may want memory: a curve's, and that of a curve seen from a day; an instrument's takes none
-abbrev pub MayWant : Terms → List input.Input → Type 0
-MayWant (Curve terms) inputs = Unit {0}
-MayWant (Implied curve reference) inputs = MayWantSeen reference inputs
-MayWant (Stock quote) inputs = ⊥
-MayWant (Composite parts) inputs = ⊥
-MayWant (Flows flows engine) inputs = ⊥
-MayWant (Quote value) inputs = ⊥
-MayWant (Derived minus first second) inputs = ⊥
-MayWant (Handle kind target) inputs = ⊥
-MayWant (Index terms fixings) inputs = ⊥
-MayWant (Engine curve) inputs = ⊥
+-- where the price of o may want memory: a curve's, and that of a curve seen from a day; an instrument's takes none
+abbrev pub MayWant : ℕ → Terms → List input.Input → Type 0
+MayWant o (Curve terms) inputs = Unit {0}
+MayWant o (Implied curve reference) inputs = MayWantSeen o reference inputs
+MayWant o (Stock quote) inputs = ⊥
+MayWant o (Composite parts) inputs = ⊥
+MayWant o (Flows flows engine) inputs = ⊥
+MayWant o (Quote value) inputs = ⊥
+MayWant o (Derived minus first second) inputs = ⊥
+MayWant o (Handle kind target) inputs = ⊥
+MayWant o (Index terms fixings) inputs = ⊥
+MayWant o (Engine curve) inputs = ⊥
 
 -- want of memory is the answer of a bench only where it may be
 abbrev pub WantsOnly : Type 0 → Result Value BenchFault → Type 0

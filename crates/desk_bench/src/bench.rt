@@ -42,7 +42,7 @@ impl Bench for DeskBench {
         requires { IsWellFormed (reading_of job.now) }
         ensures answer { Answers (desk_calc (reading_of job.now)) result }
         ensures count { self.new.calls ≡ counted self.old.calls 1 }
-        ensures memory { WantsOnly (MayWant job.now.terms.now job.now.inputs.now) result }
+        ensures memory { WantsOnly (MayWant job.now.object job.now.terms.now job.now.inputs.now) result }
     {
         self.calls = next_count(self.calls);
         price_of(alloc, job)

@@ -1,10 +1,7 @@
 // The prices of curves.
-ghost use Rattle.std.specs.Prelude.{◌≡◌, Some, Err, IfOk, IfErr};
+ghost use Rattle.std.specs.Prelude.{◌≡◌, Some, IfOk, IsOk};
 ghost use Rattle.curve_terms.specs.Terms.{IsInRange};
 ghost use Rattle.desk_terms.specs.Bench.{Answers};
-ghost use Rattle.desk_terms.specs.Point.{point_cause};
-ghost use Rattle.desk_terms.specs.declared.bench.BenchFault.TheVariants.{Refused};
-ghost use Rattle.curve_points.specs.Point.{discount_at};
 ghost use Rattle.desk_terms.specs.Reading.{AreRates};
 ghost use Rattle.desk_bench.specs.Pricing.{rates_of, build_cause, implied_cause, fault_of, built_answer, seen_answer, seen, curve_price, implied_price, MayWantSeen, WantsOnly};
 ghost use Rattle.curve_points.specs.Implied.{implied_curve};
@@ -36,9 +33,7 @@ pub fn curve_price(
     built_answer(object, curve)
 }
 
-/// The curve of an object that sees another from its own reference day. A day outside that curve is refused without
-/// memory.
-#[tactic(auto, using(crate::proofs::Answered::wants_inside))]
+/// The curve of an object that sees another from its own reference day. What is refused is refused without memory.
 pub fn implied_price(
     alloc: Global,
     object: ObjId,
@@ -46,7 +41,7 @@ pub fn implied_price(
     inputs: &[Input],
 ) -> Result<Value, BenchFault>
     ensures price { Answers (implied_price object reference inputs.now) result }
-    ensures memory { WantsOnly (MayWantSeen reference inputs.now) result }
+    ensures memory { WantsOnly (MayWantSeen object reference inputs.now) result }
 {
     match inputs {
         [Input::Curve(base)] => seen_from(alloc, object, base, reference),
@@ -54,8 +49,8 @@ pub fn implied_price(
     }
 }
 
-// A curve seen from a day. A day outside the base curve is refused without memory.
-#[tactic(auto, using(crate::proofs::Answered::gives_seen, crate::proofs::Answered::is_outside))]
+// A curve seen from a day. What is refused is refused without memory.
+#[tactic(auto, using(crate::proofs::Answered::gives_seen, crate::proofs::Answered::wants_seen))]
 fn seen_from(
     alloc: Global,
     object: ObjId,
@@ -63,7 +58,7 @@ fn seen_from(
     reference: Day,
 ) -> Result<Value, BenchFault>
     ensures price { Answers (seen object base.now.owner reference (implied_curve base.now object reference)) result }
-    ensures outside { IfErr (discount_at base.now reference) (λ fault. result ≡ Err (Refused (point_cause base.now.owner reference fault))) }
+    ensures memory { WantsOnly (IsOk (implied_curve base.now object reference)) result }
 {
     let curve = implied(alloc, base, object, reference);
     seen_answer(object, base.owner(), reference, curve)

@@ -14,7 +14,7 @@ use std::alloc::Global;
 pub fn price_of(alloc: Global, job: &Job<'_>) -> Result<Value, BenchFault>
     requires { IsWellFormed (reading_of job.now) }
     ensures price { Answers (desk_calc (reading_of job.now)) result }
-    ensures memory { WantsOnly (MayWant job.now.terms.now job.now.inputs.now) result }
+    ensures memory { WantsOnly (MayWant job.now.object job.now.terms.now job.now.inputs.now) result }
 {
     let inputs = job.inputs.items();
     match job.terms {

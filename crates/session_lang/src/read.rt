@@ -1,10 +1,12 @@
 // Scripts, read.
-ghost use Rattle.std.specs.Prelude.{◌≡◌, ◌<◌, ◌^◌, ◌+◌, ◌∷◌, ℕ, List, length, None, IfOk};
+ghost use Rattle.std.specs.Prelude.{◌≡◌, ◌<◌, ◌^◌, ◌+◌, ◌∷◌, ℕ, List, length, None, IfOk, IsErrOf};
 ghost use Rattle.std.specs.Str.Lines.{lines};
 ghost use Rattle.session_lang.specs.Given.{GivesAt, at_number};
 ghost use Rattle.script_words.specs.Given.{Grows};
 ghost use Rattle.desk_names.specs.Names.{IsNames};
 ghost use Rattle.session_commands.specs.Whole.{IsScript};
+ghost use Rattle.session_commands.specs.declared.script_kind.ScriptKind.TheVariants.{TooLong};
+ghost use Rattle.session_lang.specs.declared.fault.ScriptFault.TheVariants.{At};
 ghost use Rattle.session_lang.specs.FirstFault.{ToldFirst, FaultKeeps, names_after};
 ghost use Rattle.session_lang.specs.Reading.{onto, Takes, Leaves, AreLeft, lines_meaning, names_left, together_of, script_meaning, script_left};
 
@@ -133,6 +135,7 @@ fn finished(alloc: Global, names: &Names, begun: &Names, read: &Read) -> Result<
 fn read_text(alloc: Global, text: &[u8], names: &mut Names) -> Result<Script, ScriptFault>
     ensures gives { GivesAt (λ s. (s, names.new)) result (script_meaning names.old text.now) }
     ensures left { AreLeft result names.new (script_left names.old text.now) }
+    ensures long { MOST_BYTES < length text.now → IsErrOf result (At 0 TooLong) }
     ensures paired { IfOk result (λ s. length s.actions ≡ length s.action_names) }
     ensures grows { Grows names.old names.new }
 {
@@ -155,6 +158,8 @@ fn read_text(alloc: Global, text: &[u8], names: &mut Names) -> Result<Script, Sc
 /// It takes time in proportion to the text, with a few look-ups of a name for each word.
 pub fn read_script(alloc: Global, text: &[u8], names: &mut Names) -> Result<Script, ScriptFault>
     ensures gives { GivesAt (λ s. (s, names.new)) result (script_meaning names.old text.now) }
+    // A text that is too long is told whatever memory there is.
+    ensures long { MOST_BYTES < length text.now → IsErrOf result (At 0 TooLong) }
     ensures whole { IsNames names.old → IfOk result (λ s. IsScript names.new s) }
     ensures paired { IfOk result (λ s. length s.actions ≡ length s.action_names) }
     ensures fault { IsNames names.old → ToldFirst names.old text.now result }

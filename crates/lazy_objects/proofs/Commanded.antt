@@ -20,11 +20,11 @@ use Rattle.desk_model.specs.Effect.{notified, revised, number_eq, target_set, re
 use Rattle.desk_model.proofs.Commands.{TermsOf, terms_hold, kind_there, same_handle}
 use Rattle.desk_model.proofs.Changes.{today_keeps}
 use Rattle.desk_model.proofs.Carried.{sound_kept}
-use Rattle.lazy_objects.specs.Slots.{market_of, state_of}
-use Rattle.lazy_objects.specs.Shape.{Shape, IsJoined}
-use Rattle.lazy_objects.specs.Scratch.{ScratchView}
+use Rattle.object_store.specs.Slots.{market_of, state_of}
+use Rattle.object_store.specs.Shape.{Shape, IsJoined}
+use Rattle.object_store.specs.Scratch.{ScratchView}
 use Rattle.lazy_objects.specs.Stands.{Stands}
-use Rattle.lazy_objects.proofs.Joined.{notified_market}
+use Rattle.object_store.proofs.Joined.{notified_market}
 use Rattle.lazy_objects.proofs.Revised.{Changed, stands_as, revised_stands}
 
 -- the graph of a market has no day in it

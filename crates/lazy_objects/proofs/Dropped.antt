@@ -17,9 +17,9 @@ use Rattle.desk_model.proofs.Births.{dropped_keeps}
 use Rattle.desk_model.proofs.KindsKept.{dropped_kinded}
 use Rattle.desk_model.proofs.Carried.{sound_kept}
 use Rattle.desk_model.proofs.Users.{none_uses}
-use Rattle.lazy_objects.specs.Slots.{market_of, state_of}
-use Rattle.lazy_objects.specs.Scratch.{ScratchView, IsEmpty}
-use Rattle.lazy_objects.specs.Store.{StoreView, TakesObject}
+use Rattle.object_store.specs.Slots.{market_of, state_of}
+use Rattle.object_store.specs.Scratch.{ScratchView, IsEmpty}
+use Rattle.object_store.specs.Store.{StoreView, TakesObject}
 use Rattle.lazy_objects.specs.Stands.{Stands}
 
 -- an object is there

@@ -18,13 +18,13 @@ use Rattle.desk_model.proofs.Births.{old_slot, new_slot, added_keeps}
 use Rattle.desk_model.proofs.KindsKept.{may_be_made, added_kinded}
 use Rattle.desk_model.proofs.Starts.{whole_start, kinded_start}
 use Rattle.desk_model.proofs.Carried.{keeps_itself, sound_kept}
-use Rattle.lazy_objects.specs.Slots.{state_of}
-use Rattle.lazy_objects.specs.Scratch.{ScratchView, IsEmpty}
+use Rattle.object_store.specs.Slots.{state_of}
+use Rattle.object_store.specs.Scratch.{ScratchView, IsEmpty}
 use Rattle.observer_graph.specs.declared.node.Role.{Role}
-use Rattle.lazy_objects.specs.Store.{StoreView, AddsObject}
-use Rattle.lazy_objects.specs.Asks.{MayAsk, Stays}
+use Rattle.object_store.specs.Store.{StoreView, AddsObject}
+use Rattle.ask_walk.specs.Asks.{MayAsk, Stays}
 use Rattle.lazy_objects.specs.Stands.{Stands}
-use Rattle.lazy_objects.proofs.Touched.{pushed_default}
+use Rattle.object_store.proofs.Touched.{pushed_default}
 
 pub empty_none : (scratch : ScratchView) → scratch.entries ≡ [] → scratch.positions ≡ [] → scratch.touched ≡ [] → IsEmpty 0 scratch
 empty_none scratch entries positions touched = record { entries = λ x. ap (λ l. slice_index_or l x None) entries; positions = λ x. ap (λ l. slice_index_or l x 0) positions; long = ap length entries; as_long = ap length positions; touched = touched }

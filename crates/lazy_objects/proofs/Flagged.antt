@@ -13,13 +13,13 @@ use Rattle.desk_model.proofs.Carried.{sound_kept}
 use Rattle.desk_model.proofs.Changes.{lazy_within}
 use Rattle.desk_model.proofs.Flags.{freeze_keeps, forward_keeps, defer_keeps, resume_keeps}
 use Rattle.desk_model.proofs.Thaw.{thaw_keeps}
-use Rattle.lazy_objects.specs.Slots.{market_of, state_of}
-use Rattle.lazy_objects.specs.Shape.{IsJoined}
-use Rattle.lazy_objects.specs.Store.{StoreView, Notices, HasNoMarkWhereOff, stored_at, stored_as}
-use Rattle.lazy_objects.specs.Scratch.{ScratchView}
+use Rattle.object_store.specs.Slots.{market_of, state_of}
+use Rattle.object_store.specs.Shape.{IsJoined}
+use Rattle.object_store.specs.Store.{StoreView, Notices, HasNoMarkWhereOff, stored_at, stored_as}
+use Rattle.object_store.specs.Scratch.{ScratchView}
 use Rattle.lazy_objects.specs.Stands.{Stands}
-use Rattle.lazy_objects.proofs.Joined.{notified_market}
-use Rattle.lazy_objects.proofs.Telling.{IsNotice, tells_shape, notified_state, no_marks, stored_marks, resumed_state, resumed_shape}
+use Rattle.object_store.proofs.Joined.{notified_market}
+use Rattle.object_store.proofs.Telling.{IsNotice, tells_shape, notified_state, no_marks, stored_marks, resumed_state, resumed_shape}
 use Rattle.lazy_objects.proofs.Revised.{Changed, After, stands_as}
 
 -- what a command leaves that does not change the market

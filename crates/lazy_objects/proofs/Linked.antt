@@ -22,13 +22,13 @@ use Rattle.desk_model.proofs.Commands.{relink_keeps}
 use Rattle.desk_model.proofs.KindsKept.{relink_kinded}
 use Rattle.observer_graph.specs.declared.node.Role.{Role}
 use Rattle.observer_graph.specs.declared.node.Role.TheVariants.{Forwarder}
-use Rattle.lazy_objects.specs.Slots.{market_of, state_of}
-use Rattle.lazy_objects.specs.Shape.{IsJoined, role_at, observed_by, slot_role}
-use Rattle.lazy_objects.specs.Store.{StoreView, JoinsAny, LeavesAny}
-use Rattle.lazy_objects.specs.Scratch.{ScratchView}
+use Rattle.object_store.specs.Slots.{market_of, state_of}
+use Rattle.object_store.specs.Shape.{IsJoined, role_at, observed_by, slot_role}
+use Rattle.object_store.specs.Store.{StoreView, JoinsAny, LeavesAny}
+use Rattle.object_store.specs.Scratch.{ScratchView}
 use Rattle.lazy_objects.specs.Stands.{Stands}
-use Rattle.lazy_objects.proofs.Joined.{joined_set, there_seen, revised_market}
-use Rattle.lazy_objects.proofs.Telling.{IsKept}
+use Rattle.object_store.proofs.Joined.{joined_set, there_seen, revised_market}
+use Rattle.object_store.proofs.Telling.{IsKept}
 use Rattle.lazy_objects.proofs.Revised.{Changed}
 use Rattle.lazy_objects.proofs.Commanded.{link_stands, commanded}
 

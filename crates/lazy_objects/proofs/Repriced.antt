@@ -34,15 +34,15 @@ use Rattle.desk_model.proofs.Commands.{kind_there, engine_keeps}
 use Rattle.desk_model.proofs.KindsKept.{engine_kinded}
 use Rattle.observer_graph.specs.declared.node.Role.{Role}
 use Rattle.observer_graph.specs.declared.node.Role.TheVariants.{Lazy}
-use Rattle.lazy_objects.specs.Slots.{market_of, state_of, outdated, engine_in}
-use Rattle.lazy_objects.specs.Shape.{IsJoined, role_at, observed_by, slot_role}
-use Rattle.lazy_objects.specs.Store.{StoreView, JoinsAny, LeavesAny, Moves}
-use Rattle.lazy_objects.specs.Scratch.{ScratchView}
+use Rattle.object_store.specs.Slots.{market_of, state_of, outdated, engine_in}
+use Rattle.object_store.specs.Shape.{IsJoined, role_at, observed_by, slot_role}
+use Rattle.object_store.specs.Store.{StoreView, JoinsAny, LeavesAny, Moves}
+use Rattle.object_store.specs.Scratch.{ScratchView}
 use Rattle.lazy_objects.specs.Stands.{Stands}
-use Rattle.lazy_objects.proofs.Joined.{joined_set, there_seen}
+use Rattle.object_store.proofs.Joined.{joined_set, there_seen}
 use Rattle.lazy_objects.proofs.Linked.{same_target, joins_pairs, leaves_pairs, joins_roles, leaves_roles, joins_switch, leaves_switch, linked_before}
 use Rattle.lazy_objects.proofs.Revised.{Changed, After, kind_within}
-use Rattle.lazy_objects.proofs.Telling.{revised_told, kept_state}
+use Rattle.object_store.proofs.Telling.{revised_told, kept_state}
 use Rattle.lazy_objects.proofs.Commanded.{engine_stands, commanded}
 
 -- what is named as a member is named as nothing else

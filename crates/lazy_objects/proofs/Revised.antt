@@ -27,12 +27,12 @@ use Rattle.desk_model.proofs.KindsKept.{revised_kinded}
 use Rattle.desk_terms.specs.Reading.{Calc}
 use Rattle.desk_model.specs.Sound.{IsSound, KeepsCurrent, HasNoSourceWhereOff}
 use Rattle.desk_model.proofs.Carried.{sound_kept}
-use Rattle.lazy_objects.specs.Slots.{market_of, state_of, holds_value}
-use Rattle.lazy_objects.specs.Shape.{Shape, IsJoined}
-use Rattle.lazy_objects.specs.Scratch.{ScratchView, IsEmpty}
+use Rattle.object_store.specs.Slots.{market_of, state_of, holds_value}
+use Rattle.object_store.specs.Shape.{Shape, IsJoined}
+use Rattle.object_store.specs.Scratch.{ScratchView, IsEmpty}
 use Rattle.lazy_objects.specs.Stands.{Stands}
-use Rattle.lazy_objects.proofs.Joined.{revised_market}
-use Rattle.lazy_objects.proofs.Telling.{ranged_set, unwatched_set}
+use Rattle.object_store.proofs.Joined.{revised_market}
+use Rattle.object_store.proofs.Telling.{ranged_set, unwatched_set}
 
 -- an object of a kind is there
 pub kind_within : (m : List Slot) (today : ℤ) (x : ℕ) (k : Kind) → kind_at (market_of today m) x ≡ Some k → x < length m

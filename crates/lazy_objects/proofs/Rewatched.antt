@@ -10,8 +10,8 @@ use Rattle.desk_terms.specs.Terms.{part_references}
 use Rattle.desk_model.specs.Market.{named}
 use Rattle.desk_model.specs.Held.{has_member, without_member, reweighted, with_member}
 use Rattle.observer_graph.proofs.Members.{among_last}
-use Rattle.lazy_objects.specs.Shape.{observed_by}
-use Rattle.lazy_objects.specs.Store.{StoreView, Joins, Leaves, IsRewatched}
+use Rattle.object_store.specs.Shape.{observed_by}
+use Rattle.object_store.specs.Store.{StoreView, Joins, Leaves, IsRewatched}
 
 abbrev members : List Part → List ℕ
 members parts = named (part_references parts)

@@ -23,22 +23,17 @@ use Rattle.desk_model.specs.Effect.{notified, revised, fixing_stored, fixing_add
 use Rattle.desk_model.proofs.Commands.{fixing_keeps}
 use Rattle.desk_model.proofs.KindsKept.{fixing_kinded}
 use Rattle.observer_graph.specs.declared.node.Role.TheVariants.{Forwarder}
-use Rattle.lazy_objects.specs.Slots.{market_of, state_of, outdated, has_fixings}
-use Rattle.lazy_objects.specs.Shape.{Shape, IsJoined, slot_role}
-use Rattle.lazy_objects.specs.Store.{StoreView}
-use Rattle.lazy_objects.specs.Scratch.{ScratchView}
+use Rattle.object_store.specs.Slots.{market_of, state_of, outdated, has_fixings}
+use Rattle.object_store.specs.Shape.{Shape, IsJoined, slot_role}
+use Rattle.object_store.specs.Store.{StoreView}
+use Rattle.object_store.specs.Scratch.{ScratchView}
 use Rattle.lazy_objects.specs.Stands.{Stands}
-use Rattle.lazy_objects.proofs.Joined.{joined_set}
+use Rattle.object_store.proofs.Indexes.{same_terms}
+use Rattle.object_store.proofs.Joined.{joined_set}
 use Rattle.lazy_objects.proofs.Linked.{linked_before}
 use Rattle.lazy_objects.proofs.Revised.{Changed, After}
-use Rattle.lazy_objects.proofs.Telling.{revised_told}
+use Rattle.object_store.proofs.Telling.{revised_told}
 use Rattle.lazy_objects.proofs.Commanded.{fixing_stands, commanded}
-
-pub same_terms : (a b : Terms) → Some a ≡ Some b → a ≡ b
-same_terms a b e = cc
-
-pub same_fixings : (a b : IndexTerms) (f g : Stored) → terms_of.Index a f ≡ terms_of.Index b g → f ≡ g
-same_fixings a b f g e = cc
 
 -- the terms of an index
 pub index_there : (m : Market) (x : ℕ) → kind_at m x ≡ Some kind.Index → (terms : IndexTerms) × (fixings : Stored) × (terms_at m x ≡ Some (terms_of.Index terms fixings))

@@ -22,9 +22,9 @@ use Rattle.desk_model.specs.Sound.{IsSound, KeepsCurrent}
 use Rattle.desk_model.proofs.Carried.{sound_kept}
 use Rattle.desk_model.proofs.Commands.{member_keeps}
 use Rattle.desk_model.proofs.KindsKept.{member_kinded}
-use Rattle.lazy_objects.specs.Slots.{market_of, state_of}
-use Rattle.lazy_objects.specs.Scratch.{ScratchView}
-use Rattle.lazy_objects.specs.Parts.{parts_in}
+use Rattle.object_store.specs.Slots.{market_of, state_of}
+use Rattle.object_store.specs.Scratch.{ScratchView}
+use Rattle.object_store.specs.Parts.{parts_in}
 use Rattle.lazy_objects.specs.Stands.{Stands}
 use Rattle.lazy_objects.proofs.Linked.{linked_before}
 use Rattle.lazy_objects.proofs.Revised.{Changed, revised_stands}

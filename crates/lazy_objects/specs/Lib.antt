@@ -1,12 +1,1 @@
-pub mod Asks
-pub mod Begun
-pub mod Late
-pub mod Objects
-pub mod Parts
-pub mod Reads
-pub mod Recalcs
-pub mod Scratch
-pub mod Shape
-pub mod Slots
 pub mod Stands
-pub mod Store

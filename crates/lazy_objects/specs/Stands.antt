@@ -4,7 +4,7 @@ use Rattle.desk_model.specs.Market.{slot_at, is_watcher}
 use Rattle.desk_model.specs.State.{State}
 use Rattle.desk_model.specs.Links.{IsWhole, IsKinded, AreRanged}
 use Rattle.desk_model.specs.Sound.{HasNoSourceWhereOff}
-use Rattle.lazy_objects.specs.Scratch.{ScratchView, IsEmpty}
+use Rattle.object_store.specs.Scratch.{ScratchView, IsEmpty}
 
 -- THE INVARIANT of a desk: its state is whole, no notice is held back where deferral is off, each object names others of
 -- the right kinds, its terms are in range, there are no watchers, at most 65,536 numbers are given, and nothing is

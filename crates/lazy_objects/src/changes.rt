@@ -7,17 +7,15 @@ ghost use Rattle.desk_model.specs.Market.{is_given};
 ghost use Rattle.desk_model.specs.Links.{IsLinked};
 ghost use Rattle.desk_model.specs.Effect.{with_terms, revised, notified};
 ghost use Rattle.desk_model.specs.declared.slot.Slot.TheVariants.{Live, Free, Today};
-ghost use Rattle.lazy_objects.specs.Slots.{market_of, state_of, outdated, AreUnwatched};
-ghost use Rattle.lazy_objects.specs.Objects.{has_quote};
-ghost use Rattle.lazy_objects.specs.Shape.{IsJoined};
-ghost use Rattle.lazy_objects.specs.Store.{HasNoMarkWhereOff};
+ghost use Rattle.object_store.specs.Slots.{market_of, state_of, outdated, AreUnwatched};
+ghost use Rattle.object_store.specs.Objects.{has_quote};
+ghost use Rattle.object_store.specs.Shape.{IsJoined};
+ghost use Rattle.object_store.specs.Store.{HasNoMarkWhereOff};
 
-use crate::edges::TODAY;
-use crate::objects::Objects;
-use crate::store::Store;
 use day_number::Day;
 use desk_names::ObjId;
 use desk_terms::Terms;
+use object_store::{Objects, Store, TODAY};
 
 /// An object that is no quote has other terms and is not current. Its observers are told, or it holds its notice back.
 /// The graph is that of the new terms. It takes no memory, and costs what it tells.

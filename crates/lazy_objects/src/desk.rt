@@ -16,28 +16,21 @@ ghost use Rattle.flow_terms.specs.declared.fixings.FixFault.TheVariants.{Exists}
 ghost use Rattle.desk_terms.specs.declared.terms.HandleKind.{HandleKind};
 ghost use Rattle.desk_terms.specs.declared.terms.Terms.TheVariants.{Handle};
 ghost use Rattle.desk_model.specs.Laws.{MayLink};
-ghost use Rattle.lazy_objects.specs.Slots.{is_handle, engine_in};
-ghost use Rattle.lazy_objects.specs.Parts.{parts_in};
+ghost use Rattle.object_store.specs.Slots.{is_handle, engine_in};
+ghost use Rattle.object_store.specs.Parts.{parts_in};
 ghost use Rattle.desk_model.specs.Held.{changeable, weight_of};
-ghost use Rattle.lazy_objects.specs.Asks.{Asks, Stops};
-ghost use Rattle.lazy_objects.specs.Recalcs.{RecalcEnds, RecalcStops};
+ghost use Rattle.ask_walk.specs.Asks.{Asks, Stops};
+ghost use Rattle.ask_walk.specs.Recalcs.{RecalcEnds, RecalcStops};
 
-use crate::asking::ask;
 use crate::changes::{revise, tell_changed, tell_today};
-use crate::edges::watched;
-use crate::engines::{engine_of, watch_instead};
-use crate::links::{link_of, unwatch_any, watch_any};
-use crate::objects::Objects;
-use crate::recalced::Recalced;
-use crate::recalculating::recalc;
-use crate::scratch::Scratch;
-use crate::store::Store;
-use crate::uses::index_of;
+use crate::links::{link_of, unwatch_any, watch_any, watch_instead};
 use crate::weights::{has_weight, parts_of, rewatch, with_member};
+use ask_walk::{Recalced, ask, recalc};
 use day_number::Day;
 use desk_names::ObjId;
 use desk_terms::{Asked, Bench, FixFault, Kind, Terms, Value};
 use fixed_amount::Rate;
+use object_store::{Objects, Scratch, Store, engine_of, index_of, watched};
 use observer_graph::Role;
 use std::alloc::{AllocError, Global};
 use std::marker::Model;
@@ -55,8 +48,8 @@ pub struct Desk {
 
 impl Model for Desk {
     ghost use Rattle.desk_model.specs.State.{State};
-    ghost use Rattle.lazy_objects.specs.Slots.{market_of, state_of};
-    ghost use Rattle.lazy_objects.specs.Shape.{IsJoined};
+    ghost use Rattle.object_store.specs.Slots.{market_of, state_of};
+    ghost use Rattle.object_store.specs.Shape.{IsJoined};
     ghost use Rattle.lazy_objects.specs.Stands.{Stands};
 
     ghost Value = { State };

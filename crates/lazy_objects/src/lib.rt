@@ -4,22 +4,10 @@
 //! `Desk`, which a clause sees as its `State`; `Recalced`.
 #![tactic(auto)]
 
-mod asking;
 mod changes;
 mod desk;
-mod edges;
-mod engines;
-mod fixings;
 mod links;
-mod objects;
-mod reader;
-mod recalced;
-mod recalculating;
-mod scratch;
-mod steps;
-mod store;
-mod uses;
 mod weights;
 
+pub use ask_walk::Recalced;
 pub use desk::Desk;
-pub use recalced::Recalced;

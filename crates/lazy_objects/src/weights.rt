@@ -3,17 +3,16 @@ ghost use Rattle.std.specs.Prelude.{◌≡◌, ◌↔◌, ℕ, true, is_some, So
 ghost use Rattle.walks.specs.Walk.{Among};
 ghost use Rattle.desk_terms.specs.Terms.{part_references};
 ghost use Rattle.desk_model.specs.Market.{named};
-ghost use Rattle.lazy_objects.specs.Shape.{observed_by, role_at};
-ghost use Rattle.lazy_objects.specs.Store.{IsRewatched};
+ghost use Rattle.object_store.specs.Shape.{observed_by, role_at};
+ghost use Rattle.object_store.specs.Store.{IsRewatched};
 ghost use Rattle.std.specs.Ordering.{int_eq};
 ghost use Rattle.desk_model.specs.Held.{changeable, weight_of, has_member, without_member, reweighted, with_member};
 ghost use Rattle.desk_model.specs.declared.slot.Slot.TheVariants.{Free};
-ghost use Rattle.lazy_objects.specs.Parts.{parts_in, parts_held};
+ghost use Rattle.object_store.specs.Parts.{parts_in, parts_held};
 
-use crate::objects::Objects;
-use crate::store::Store;
 use desk_names::ObjId;
 use desk_terms::{Part, PartList, Terms};
+use object_store::{Objects, Store};
 use std::alloc::{AllocError, Global};
 
 /// The parts of a composite; none where something else stands.

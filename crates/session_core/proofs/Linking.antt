@@ -15,7 +15,7 @@ use Rattle.desk_model.specs.declared.slot.Slot.TheVariants.{Free, Today, Watcher
 use Rattle.desk_model.specs.Market.{Market, slot_at, terms_in, terms_at, kind_in, kind_at, is_observable}
 use Rattle.desk_model.specs.Links.{AreOfKind, reaches, serves_as}
 use Rattle.desk_model.specs.Laws.{MayLink}
-use Rattle.lazy_objects.specs.Slots.{is_handle}
+use Rattle.object_store.specs.Slots.{is_handle}
 use Rattle.session_model.specs.declared.place.Place.TheVariants as place
 use Rattle.session_model.specs.Place.{takes_found}
 use Rattle.session_core.specs.Allowed.{IsTarget}

@@ -15,10 +15,10 @@ use Rattle.desk_model.specs.Visit.{log_of, value_in, or_value, value_among, with
 use Rattle.desk_model.specs.Recalc.{inputs_walk, reruns}
 use Rattle.desk_model.proofs.Stores.{each_at}
 use Rattle.desk_model.proofs.Visits.{value_more}
-use Rattle.lazy_objects.specs.declared.recalced.Recalced.{Recalced}
-use Rattle.lazy_objects.specs.declared.recalced.Recalced.TheVariants.{Deferred, Done}
-use Rattle.lazy_objects.specs.Asks as asks
-use Rattle.lazy_objects.specs.Recalcs as recalcs
+use Rattle.ask_walk.specs.declared.recalced.Recalced.{Recalced}
+use Rattle.ask_walk.specs.declared.recalced.Recalced.TheVariants.{Deferred, Done}
+use Rattle.ask_walk.specs.Asks as asks
+use Rattle.ask_walk.specs.Recalcs as recalcs
 use Rattle.session_model.specs.Standing.{Standing}
 use Rattle.session_core.specs.Pricing.{Pricing, asking, recalculating, Prices, StopsShort}
 use Rattle.session_core.proofs.Naming.{none_some, AreAlike}

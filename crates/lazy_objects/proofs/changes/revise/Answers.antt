@@ -5,9 +5,9 @@ use Rattle.desk_model.specs.declared.slot.Slot.{Slot}
 use Rattle.desk_model.specs.declared.slot.Slot.TheVariants.{Live, Free}
 use Rattle.desk_model.specs.Market.{is_given}
 use Rattle.desk_model.specs.Links.{IsLinked}
-use Rattle.lazy_objects.specs.Slots.{market_of, state_of, AreUnwatched}
-use Rattle.lazy_objects.specs.Shape.{IsJoined}
-use Rattle.lazy_objects.proofs.Telling.{revised_told, unwatched_set}
+use Rattle.object_store.specs.Slots.{market_of, state_of, AreUnwatched}
+use Rattle.object_store.specs.Shape.{IsJoined}
+use Rattle.object_store.proofs.Telling.{revised_told, unwatched_set}
 use Rattle.lazy_objects.proofs.changes.revise.Goals as goal
 
 pub tell_changed-requires-clause-live : goal.tell_changed-requires-clause-live

@@ -2,11 +2,11 @@ use Rattle.std.proofs.Common.{false, ℕ, ◌<◌, length, refl, sym, ◌∙◌,
 use Rattle.std.specs.Prelude.{is_some}
 use Rattle.std.proofs.lemmas.List.{length-set}
 use Rattle.desk_model.specs.Effect.{notified}
-use Rattle.lazy_objects.specs.Slots.{market_of, state_of}
-use Rattle.lazy_objects.specs.Shape.{IsJoined, role_at}
-use Rattle.lazy_objects.specs.Store.{StoreView, HasNoMarkWhereOff, stored_at}
-use Rattle.lazy_objects.proofs.Joined.{there_given}
-use Rattle.lazy_objects.proofs.Telling.{notified_state, tells_shape, stored_marks}
+use Rattle.object_store.specs.Slots.{market_of, state_of}
+use Rattle.object_store.specs.Shape.{IsJoined, role_at}
+use Rattle.object_store.specs.Store.{StoreView, HasNoMarkWhereOff, stored_at}
+use Rattle.object_store.proofs.Joined.{there_given}
+use Rattle.object_store.proofs.Telling.{notified_state, tells_shape, stored_marks}
 use Rattle.lazy_objects.proofs.changes.tell_changed.Goals as goal
 
 pub outdate-requires : goal.outdate-requires

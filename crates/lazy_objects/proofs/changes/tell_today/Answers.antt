@@ -1,5 +1,5 @@
 use Rattle.std.proofs.Common.{ℕ, ◌<◌, sym, subst}
-use Rattle.lazy_objects.proofs.Telling.{notified_state, tells_shape}
+use Rattle.object_store.proofs.Telling.{notified_state, tells_shape}
 use Rattle.lazy_objects.proofs.changes.tell_today.Goals as goal
 
 pub returns-clause-state : goal.returns-clause-state

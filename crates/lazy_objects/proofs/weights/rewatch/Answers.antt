@@ -1,7 +1,7 @@
 use Rattle.std.proofs.Common.{sym, ◌∙◌, w64}
 use Rattle.std.proofs.lemmas.Int.{to_z-of_z}
 use Rattle.std.proofs.lemmas.Result.{on_ok_weaker}
-use Rattle.lazy_objects.specs.Store.{Joins}
+use Rattle.object_store.specs.Store.{Joins}
 use Rattle.lazy_objects.proofs.Reweighted.{not_zero}
 use Rattle.lazy_objects.proofs.Rewatched.{is_zero, no_member, rewatched_less, rewatched_same, rewatched_more}
 use Rattle.lazy_objects.proofs.weights.rewatch.Goals as goal

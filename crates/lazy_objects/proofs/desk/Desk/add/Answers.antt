@@ -5,15 +5,15 @@ use Rattle.desk_model.specs.State.{State}
 use Rattle.desk_model.specs.Links.{AreOfKind}
 use Rattle.desk_model.specs.Sound.{IsSound, KeepsCurrent}
 use Rattle.desk_model.specs.Effect.{made}
-use Rattle.lazy_objects.specs.Slots.{state_of}
+use Rattle.object_store.specs.Slots.{state_of}
 use Rattle.lazy_objects.specs.Stands.{Stands}
 use Rattle.walks.specs.Walk.{Among}
-use Rattle.lazy_objects.specs.Slots.{market_of}
-use Rattle.lazy_objects.specs.Shape.{node_role}
+use Rattle.object_store.specs.Slots.{market_of}
+use Rattle.object_store.specs.Shape.{node_role}
 use Rattle.desk_model.specs.Market.{role_of}
-use Rattle.lazy_objects.specs.Store.{AddsObject}
+use Rattle.object_store.specs.Store.{AddsObject}
 use Rattle.desk_model.proofs.KindsKept.{may_be_made}
-use Rattle.lazy_objects.proofs.Joined.{joined_added, may_watch}
+use Rattle.object_store.proofs.Joined.{joined_added, may_watch}
 use Rattle.lazy_objects.proofs.Ends.{add_stands, add_keeps, add_sound, added_state, empty_grown}
 use Rattle.lazy_objects.proofs.desk.Desk.add.Goals as goal
 

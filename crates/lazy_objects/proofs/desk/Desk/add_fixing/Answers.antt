@@ -13,9 +13,9 @@ use Rattle.desk_model.specs.State.{State}
 use Rattle.desk_model.specs.Links.{IsLinked}
 use Rattle.desk_model.specs.Sound.{IsSound, KeepsCurrent}
 use Rattle.desk_model.specs.Effect.{fixing_added}
-use Rattle.lazy_objects.specs.Slots.{market_of, state_of, AreUnwatched}
-use Rattle.lazy_objects.specs.Shape.{IsJoined}
-use Rattle.lazy_objects.proofs.Telling.{given_set, unwatched_set, no_marks}
+use Rattle.object_store.specs.Slots.{market_of, state_of, AreUnwatched}
+use Rattle.object_store.specs.Shape.{IsJoined}
+use Rattle.object_store.proofs.Telling.{given_set, unwatched_set, no_marks}
 use Rattle.lazy_objects.proofs.Revised.{kind_within}
 use Rattle.lazy_objects.proofs.Ends.{keeps_same}
 use Rattle.lazy_objects.proofs.Stored.{index_there, fixings_are, refused_as, joined_fixing, fixing_links, fixing_left}

@@ -3,9 +3,9 @@ use Rattle.std.specs.Prelude.{IsOk, IfOk, OnErr}
 use Rattle.desk_terms.specs.declared.asked.Asked.{Asked}
 use Rattle.desk_model.specs.State.{State, kept_at, held}
 use Rattle.desk_model.specs.Sound.{IsSound}
-use Rattle.lazy_objects.specs.Asks.{Asks, Stops}
-use Rattle.lazy_objects.specs.Shape.{Shape, IsJoined}
-use Rattle.lazy_objects.specs.Slots.{market_of, state_of}
+use Rattle.ask_walk.specs.Asks.{Asks, Stops}
+use Rattle.object_store.specs.Shape.{Shape, IsJoined}
+use Rattle.object_store.specs.Slots.{market_of, state_of}
 use Rattle.lazy_objects.specs.Stands.{Stands}
 use Rattle.lazy_objects.proofs.Ends.{stands_then}
 use Rattle.lazy_objects.proofs.desk.Desk.ask.Goals as goal

@@ -2,7 +2,7 @@ use Rattle.std.proofs.Common.{sym, ◌∙◌, ap, subst}
 use Rattle.desk_model.specs.State.{State}
 use Rattle.desk_model.specs.Sound.{IsSound, KeepsCurrent}
 use Rattle.desk_model.specs.Effect.{deferred}
-use Rattle.lazy_objects.specs.Slots.{state_of}
+use Rattle.object_store.specs.Slots.{state_of}
 use Rattle.lazy_objects.proofs.Flagged.{deferred_left}
 use Rattle.lazy_objects.proofs.desk.Desk.defer.Goals as goal
 

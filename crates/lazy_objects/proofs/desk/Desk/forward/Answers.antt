@@ -3,8 +3,8 @@ use Rattle.desk_model.specs.State.{State}
 use Rattle.desk_model.specs.Links.{is_lazy_at}
 use Rattle.desk_model.specs.Sound.{IsSound, KeepsCurrent}
 use Rattle.desk_model.specs.Effect.{forward_set}
-use Rattle.lazy_objects.specs.Slots.{market_of, state_of}
-use Rattle.lazy_objects.proofs.Joined.{lazy_there}
+use Rattle.object_store.specs.Slots.{market_of, state_of}
+use Rattle.object_store.proofs.Joined.{lazy_there}
 use Rattle.lazy_objects.proofs.Flagged.{forward_left}
 use Rattle.lazy_objects.proofs.desk.Desk.forward.Goals as goal
 

@@ -2,12 +2,12 @@ use Rattle.std.proofs.Common.{◌≡◌, true, refl, sym, ◌∙◌, ap, subst}
 use Rattle.std.specs.Prelude.{is_some}
 use Rattle.desk_model.specs.State.{State, least_source}
 use Rattle.desk_model.specs.Links.{is_lazy_at}
-use Rattle.lazy_objects.specs.Slots.{market_of, state_of}
-use Rattle.lazy_objects.specs.Shape.{IsJoined}
-use Rattle.lazy_objects.specs.Store.{StoreView}
+use Rattle.object_store.specs.Slots.{market_of, state_of}
+use Rattle.object_store.specs.Shape.{IsJoined}
+use Rattle.object_store.specs.Store.{StoreView}
 use Rattle.lazy_objects.specs.Stands.{Stands}
-use Rattle.lazy_objects.proofs.Joined.{lazy_there}
-use Rattle.lazy_objects.proofs.Lateness.{least_is}
+use Rattle.object_store.proofs.Joined.{lazy_there}
+use Rattle.object_store.proofs.Lateness.{least_is}
 use Rattle.lazy_objects.proofs.desk.Desk.late.Goals as goal
 
 pub late-requires : goal.late-requires

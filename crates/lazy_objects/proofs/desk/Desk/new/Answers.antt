@@ -6,9 +6,9 @@ use Rattle.desk_model.specs.State.{State, unpriced}
 use Rattle.desk_model.specs.Sound.{IsSound}
 use Rattle.desk_model.proofs.Starts.{sound_start}
 use Rattle.lazy_objects.specs.Stands.{Stands}
-use Rattle.lazy_objects.specs.Slots.{market_of}
-use Rattle.lazy_objects.specs.Shape.{IsJoined}
-use Rattle.lazy_objects.proofs.Joined.{joined_start}
+use Rattle.object_store.specs.Slots.{market_of}
+use Rattle.object_store.specs.Shape.{IsJoined}
+use Rattle.object_store.proofs.Joined.{joined_start}
 use Rattle.lazy_objects.proofs.Ends.{started, start_state, empty_none, empty_grown}
 use Rattle.lazy_objects.proofs.desk.Desk.new.Goals as goal
 

@@ -2,8 +2,8 @@ use Rattle.std.proofs.Common.{inl, inr, Bool, sym, ◌∙◌, ap}
 use Rattle.std.specs.Prelude.{◌==◌, ◌||◌}
 use Rattle.desk_model.specs.State.{State}
 use Rattle.desk_model.specs.Links.{reaches}
-use Rattle.lazy_objects.specs.Slots.{market_of}
-use Rattle.lazy_objects.proofs.Joined.{reaches_is, reaches_gone}
+use Rattle.object_store.specs.Slots.{market_of}
+use Rattle.object_store.proofs.Joined.{reaches_is, reaches_gone}
 use Rattle.lazy_objects.proofs.desk.Desk.reaches.Goals as goal
 use Rattle.lazy_objects.proofs.desk.Desk.reaches.Goals.{then-not-has-via-then-not-has, then-not-has-via-else-not-has+then-not-has-2}
 

@@ -1,11 +1,11 @@
 use Rattle.std.proofs.Common.{Bool, sym, subst}
 use Rattle.std.specs.Prelude.{IfOk, OnErr}
-use Rattle.lazy_objects.specs.declared.recalced.Recalced.{Recalced}
+use Rattle.ask_walk.specs.declared.recalced.Recalced.{Recalced}
 use Rattle.desk_model.specs.State.{State}
 use Rattle.desk_model.specs.Sound.{IsSound}
-use Rattle.lazy_objects.specs.Recalcs.{RecalcEnds, RecalcStops}
-use Rattle.lazy_objects.specs.Shape.{Shape, IsJoined}
-use Rattle.lazy_objects.specs.Slots.{market_of, state_of}
+use Rattle.ask_walk.specs.Recalcs.{RecalcEnds, RecalcStops}
+use Rattle.object_store.specs.Shape.{Shape, IsJoined}
+use Rattle.object_store.specs.Slots.{market_of, state_of}
 use Rattle.lazy_objects.specs.Stands.{Stands}
 use Rattle.lazy_objects.proofs.Ends.{stands_then}
 use Rattle.lazy_objects.proofs.desk.Desk.recalc.Goals as goal

@@ -10,10 +10,10 @@ use Rattle.desk_model.specs.Laws.{MayLink}
 use Rattle.desk_model.specs.Sound.{IsSound, KeepsCurrent}
 use Rattle.desk_model.specs.Effect.{revised, relinked}
 use Rattle.observer_graph.specs.declared.node.Role.{Role}
-use Rattle.lazy_objects.specs.Slots.{market_of, state_of}
-use Rattle.lazy_objects.specs.Shape.{Shape, IsJoined}
-use Rattle.lazy_objects.proofs.Telling.{kept_state, kept_marks, no_marks}
-use Rattle.lazy_objects.proofs.Joined.{revised_market}
+use Rattle.object_store.specs.Slots.{market_of, state_of}
+use Rattle.object_store.specs.Shape.{Shape, IsJoined}
+use Rattle.object_store.proofs.Telling.{kept_state, kept_marks, no_marks}
+use Rattle.object_store.proofs.Joined.{revised_market}
 use Rattle.lazy_objects.proofs.Linked.{target_itself, same_handle, handle_there, target_there, held_there, target_new, joined_linked, linked_kept, joins_roles, link_as, link_links, link_changed}
 use Rattle.lazy_objects.proofs.desk.Desk.relink.Goals as goal
 

@@ -3,9 +3,9 @@ use Rattle.desk_model.specs.Market.{is_given, slot_at, least_user}
 use Rattle.desk_model.specs.State.{State}
 use Rattle.desk_model.specs.Sound.{IsSound, KeepsCurrent}
 use Rattle.desk_model.specs.Effect.{dropped}
-use Rattle.lazy_objects.specs.Slots.{state_of}
+use Rattle.object_store.specs.Slots.{state_of}
 use Rattle.lazy_objects.proofs.Dropped.{drops, given_within}
-use Rattle.lazy_objects.proofs.Joined.{joined_dropped}
+use Rattle.object_store.proofs.Joined.{joined_dropped}
 use Rattle.lazy_objects.proofs.desk.Desk.remove.Goals as goal
 
 pub invariant_of-self : goal.invariant_of-self

@@ -14,9 +14,9 @@ use Rattle.desk_model.specs.State.{State}
 use Rattle.desk_model.specs.Links.{IsLinked, Serve}
 use Rattle.desk_model.specs.Sound.{IsSound, KeepsCurrent}
 use Rattle.desk_model.specs.Effect.{engine_set}
-use Rattle.lazy_objects.specs.Slots.{market_of, state_of, engine_in, AreUnwatched}
-use Rattle.lazy_objects.specs.Shape.{IsJoined}
-use Rattle.lazy_objects.proofs.Telling.{given_set, unwatched_set, kept_marks, no_marks}
+use Rattle.object_store.specs.Slots.{market_of, state_of, engine_in, AreUnwatched}
+use Rattle.object_store.specs.Shape.{IsJoined}
+use Rattle.object_store.proofs.Telling.{given_set, unwatched_set, kept_marks, no_marks}
 use Rattle.lazy_objects.proofs.Revised.{kind_within}
 use Rattle.lazy_objects.proofs.Repriced.{priced_there, engine_watched, engine_new, joined_repriced, engine_links, engine_left}
 use Rattle.lazy_objects.proofs.desk.Desk.set_engine.Goals as goal

@@ -14,12 +14,12 @@ use Rattle.desk_model.specs.State.{State}
 use Rattle.desk_model.specs.Held.{weight_of, with_member}
 use Rattle.desk_model.specs.Sound.{IsSound, KeepsCurrent}
 use Rattle.desk_model.specs.Effect.{revised, member_set}
-use Rattle.lazy_objects.specs.Slots.{market_of, state_of}
-use Rattle.lazy_objects.specs.Shape.{Shape, IsJoined, observed_by}
-use Rattle.lazy_objects.specs.Parts.{parts_in}
-use Rattle.lazy_objects.specs.Store.{IsRewatched}
-use Rattle.lazy_objects.proofs.Joined.{joined_composite, composite_watches, revised_market}
-use Rattle.lazy_objects.proofs.Telling.{kept_state, kept_marks, no_marks}
+use Rattle.object_store.specs.Slots.{market_of, state_of}
+use Rattle.object_store.specs.Shape.{Shape, IsJoined, observed_by}
+use Rattle.object_store.specs.Parts.{parts_in}
+use Rattle.object_store.specs.Store.{IsRewatched}
+use Rattle.object_store.proofs.Joined.{joined_composite, composite_watches, revised_market}
+use Rattle.object_store.proofs.Telling.{kept_state, kept_marks, no_marks}
 use Rattle.lazy_objects.proofs.Revised.{kind_within}
 use Rattle.lazy_objects.proofs.Weighed.{MayWeigh, weight_as, member_links, member_changed}
 use Rattle.lazy_objects.proofs.desk.Desk.set_member.Goals as goal

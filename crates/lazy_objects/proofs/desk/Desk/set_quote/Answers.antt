@@ -9,15 +9,15 @@ use Rattle.desk_model.specs.State.{State}
 use Rattle.desk_model.specs.Links.{IsLinked}
 use Rattle.desk_model.specs.Sound.{IsSound, KeepsCurrent}
 use Rattle.desk_model.specs.Effect.{quote_set}
-use Rattle.lazy_objects.specs.Slots.{market_of, state_of, holds_value}
+use Rattle.object_store.specs.Slots.{market_of, state_of, holds_value}
 use Rattle.desk_model.specs.Market.{Market}
-use Rattle.lazy_objects.specs.Shape.{Shape, IsJoined}
-use Rattle.lazy_objects.proofs.Joined.{joined_quote, revised_market}
-use Rattle.lazy_objects.proofs.Telling.{revised_told, no_marks}
+use Rattle.object_store.specs.Shape.{Shape, IsJoined}
+use Rattle.object_store.proofs.Joined.{joined_quote, revised_market}
+use Rattle.object_store.proofs.Telling.{revised_told, no_marks}
 use Rattle.lazy_objects.proofs.Revised.{change_links, kind_within, quote_may, quote_changed, value_held}
 use Rattle.desk_model.proofs.Carried.{keeps_itself}
 use Rattle.lazy_objects.specs.Stands.{Stands}
-use Rattle.lazy_objects.proofs.Boarded.{kind_quote, held_same, unless_not, if_not}
+use Rattle.object_store.proofs.Boarded.{kind_quote, held_same, unless_not, if_not}
 use Rattle.lazy_objects.proofs.desk.Desk.set_quote.Goals as goal
 
 pub set-requires : goal.set-requires

@@ -2,9 +2,9 @@ use Rattle.std.proofs.Common.{◌≡◌, sym, ◌∙◌, ap, subst}
 use Rattle.desk_model.specs.State.{State}
 use Rattle.desk_model.specs.Sound.{IsSound, KeepsCurrent}
 use Rattle.desk_model.specs.Effect.{today_set}
-use Rattle.lazy_objects.specs.Slots.{market_of, state_of}
-use Rattle.lazy_objects.specs.Shape.{Shape, IsJoined}
-use Rattle.lazy_objects.proofs.Telling.{no_marks}
+use Rattle.object_store.specs.Slots.{market_of, state_of}
+use Rattle.object_store.specs.Shape.{Shape, IsJoined}
+use Rattle.object_store.proofs.Telling.{no_marks}
 use Rattle.lazy_objects.proofs.Commanded.{joined_day, links_day, today_same, today_changed}
 use Rattle.lazy_objects.proofs.desk.Desk.set_today.Goals as goal
 

@@ -4,10 +4,10 @@ use Rattle.desk_model.specs.State.{State}
 use Rattle.desk_model.specs.Links.{is_lazy_at}
 use Rattle.desk_model.specs.Sound.{IsSound, KeepsCurrent}
 use Rattle.desk_model.specs.Effect.{thawed}
-use Rattle.lazy_objects.specs.Slots.{market_of, state_of}
-use Rattle.lazy_objects.specs.Shape.{role_at}
-use Rattle.lazy_objects.specs.Store.{StoreView}
-use Rattle.lazy_objects.proofs.Joined.{lazy_there}
+use Rattle.object_store.specs.Slots.{market_of, state_of}
+use Rattle.object_store.specs.Shape.{role_at}
+use Rattle.object_store.specs.Store.{StoreView}
+use Rattle.object_store.proofs.Joined.{lazy_there}
 use Rattle.lazy_objects.proofs.Flagged.{thawed_left, idle_left}
 use Rattle.lazy_objects.proofs.desk.Desk.thaw.Goals as goal
 

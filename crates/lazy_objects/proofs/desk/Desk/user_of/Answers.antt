@@ -1,8 +1,8 @@
 use Rattle.std.proofs.Common.{sym, ◌∙◌, ap}
 use Rattle.desk_model.specs.Market.{least_user}
 use Rattle.desk_model.specs.State.{State}
-use Rattle.lazy_objects.specs.Slots.{market_of}
-use Rattle.lazy_objects.proofs.Joined.{least_is, least_gone}
+use Rattle.object_store.specs.Slots.{market_of}
+use Rattle.object_store.proofs.Joined.{least_is, least_gone}
 use Rattle.lazy_objects.proofs.desk.Desk.user_of.Goals as goal
 
 pub returns-then-not-has : goal.returns-then-not-has

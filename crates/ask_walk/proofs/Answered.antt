@@ -1,0 +1,114 @@
+-- Asks that are answered at once, and what makes a walk an ask: its mark.
+use Rattle.std.proofs.Common.{◌≡◌, ℕ, suc, Bool, true, false, List, [], length, Option, Some, None, refl, sym, ◌∙◌, ap, subst}
+use Rattle.std.specs.Prelude.{◌||◌, is_some, if◌then◌else◌}
+use Rattle.std.proofs.lemmas.List.{append-nil}
+use Rattle.std.proofs.lemmas.Bool.{or_left, or_right}
+use Rattle.desk_terms.specs.declared.value.Value.{Value}
+use Rattle.desk_terms.specs.declared.asked.Asked.{Asked}
+use Rattle.desk_terms.specs.declared.asked.Mark.{Mark}
+use Rattle.desk_terms.specs.declared.asked.Mark.TheVariants.{Fresh, Frozen, Late, Held}
+use Rattle.desk_terms.specs.Asked.{Shows}
+use Rattle.desk_terms.specs.Reading.{Outcome, Calc}
+use Rattle.desk_terms.specs.Bench.{counted, logged}
+use Rattle.desk_model.specs.declared.kept.Kept.{Kept}
+use Rattle.desk_model.specs.State.{State, kept_at, last_of, last_answer, held, seen, is_frozen, is_late, is_clear, mark_of}
+use Rattle.desk_model.specs.Links.{IsLinked}
+use Rattle.desk_model.specs.Visit.{Visit, log_of, is_idle, stored, runs, asked}
+use Rattle.desk_model.proofs.Shown.{free_held, seen_held, shows_last}
+use Rattle.desk_model.proofs.Steps.{idle_visit}
+use Rattle.desk_model.proofs.Clear.{shows_seen}
+use Rattle.ask_walk.specs.Asks.{Asks, Walks, MayAsk, lacking, walk_mark}
+use Rattle.ask_walk.proofs.Loop.{each_id, fit_of, current_last}
+
+-- the marks
+module _ (s : State) (o : ℕ) where
+  pub frozen_mark : (kept_at s o).frozen ≡ true → mark_of s o ≡ Frozen
+  unfolding mark_of is_frozen
+  frozen_mark frozen = ap (λ (b : Bool). if b then Frozen else if is_late s o then Late else if is_clear s o then Fresh else Held) frozen
+
+  pub late_mark : (kept_at s o).frozen ≡ false → is_late s o ≡ true → mark_of s o ≡ Late
+  unfolding mark_of is_frozen
+  late_mark thawed late =
+      ap (λ (b : Bool). if b then Frozen else if is_late s o then Late else if is_clear s o then Fresh else Held) thawed
+      ∙ ap (λ (b : Bool). if b then Late else if is_clear s o then Fresh else Held) late
+
+  pub free_mark : (kept_at s o).frozen ≡ false → is_late s o ≡ false → (clear : Bool) → clear ≡ is_clear s o → walk_mark clear ≡ mark_of s o
+  unfolding mark_of is_frozen
+  free_mark thawed early clear is =
+      ap walk_mark is
+      ∙ sym (ap (λ (b : Bool). if b then Frozen else if is_late s o then Late else if is_clear s o then Fresh else Held) thawed
+      ∙ ap (λ (b : Bool). if b then Late else if is_clear s o then Fresh else Held) early)
+
+  pub not_held : (kept_at s o).frozen ≡ false → is_late s o ≡ false → held s o ≡ None
+  unfolding is_frozen
+  not_held thawed early = free_held s o thawed early
+
+  held_last : (is_frozen s o || is_late s o) ≡ true → held s o ≡ Some (last_answer s o)
+  unfolding held
+  held_last is = ap (λ (b : Bool). if b then Some (last_answer s o) else None) is
+
+module _ (calc : Calc) (s : State) (o : ℕ) (count0 : ℕ) (log0 : Option (List (ℕ × Bool))) where
+  log_none : (log : Option (List (ℕ × Bool))) → log ≡ logged log []
+  log_none None = refl
+  log_none (Some entries) = ap Some (sym (append-nil entries))
+
+  -- an idle object ends it at once
+  idle_asks : MayAsk calc s o → is_idle s [] o ≡ true → (answer : Asked) → Shows answer.cause (kept_at s o).last (seen calc s o) → answer.mark ≡ mark_of s o → answer.runs ≡ 0
+      → Asks calc o s s answer count0 count0 log0 log0
+  unfolding runs asked stored
+  idle_asks may idle answer shown mark number =
+      let run : runs calc s o ≡ [] = ap (λ (v : Visit). v.calls) (idle_visit calc s (suc (length s.market.objects)) [] o idle) in
+      record {
+        state = ap (λ (k : List Kept). record s { kept = k }) (sym (each_id 0 s.kept)) ∙ ap (stored s) (sym run);
+        shown = subst (λ (r : Outcome). Shows answer.cause (kept_at s o).last r) (sym (shows_seen s may.whole.links calc o)) shown;
+        mark = mark;
+        number = number ∙ ap length (sym run);
+        count = ap (λ (c : List (ℕ × Outcome)). counted count0 (length c)) (sym run);
+        log = log_none log0 ∙ ap (λ (c : List (ℕ × Outcome)). logged log0 (log_of c)) (sym run);
+      }
+
+  lacks : (last : Option Value) → Shows (lacking o last) last (last_of o last)
+  lacks None = refl
+  lacks (Some value) = refl
+
+  -- a frozen or late object answers its last value
+  held_asks : MayAsk calc s o → (is_frozen s o || is_late s o) ≡ true → (mark : Mark) → mark_of s o ≡ mark → (answer : Asked)
+      → answer ≡ record { cause = lacking o (kept_at s o).last; mark = mark; runs = 0 } → Asks calc o s s answer count0 count0 log0 log0
+  held_asks may is mark marks answer said =
+      let last = held_last s o is in
+      idle_asks may (or_left (is_some (held s o)) _ (ap is_some last)) answer
+      (subst (λ (a : Asked). Shows a.cause (kept_at s o).last (seen calc s o)) (sym said)
+      (subst (Shows (lacking o (kept_at s o).last) (kept_at s o).last) (sym (seen_held calc s may.whole.links o (last_answer s o) last)) (lacks (kept_at s o).last)))
+      (ap (λ (a : Asked). a.mark) said ∙ sym marks) (ap (λ (a : Asked). a.runs) said)
+
+  pub frozen_asks : MayAsk calc s o → (kept_at s o).frozen ≡ true → (answer : Asked)
+      → answer ≡ record { cause = lacking o (kept_at s o).last; mark = Frozen; runs = 0 } → Asks calc o s s answer count0 count0 log0 log0
+  unfolding is_frozen
+  frozen_asks may frozen = held_asks may (or_left (is_frozen s o) (is_late s o) frozen) Frozen (frozen_mark s o frozen)
+
+  pub late_asks : MayAsk calc s o → (kept_at s o).frozen ≡ false → is_late s o ≡ true → (answer : Asked)
+      → answer ≡ record { cause = lacking o (kept_at s o).last; mark = Late; runs = 0 } → Asks calc o s s answer count0 count0 log0 log0
+  late_asks may thawed late = held_asks may (or_right (is_frozen s o) (is_late s o) late) Late (late_mark s o thawed late)
+
+  -- so does a current one that is neither
+  pub current_asks : MayAsk calc s o → held s o ≡ None → (kept_at s o).current ≡ true → (mark : Mark) → mark ≡ mark_of s o → (answer : Asked)
+      → answer ≡ record { cause = None; mark = mark; runs = 0 } → Asks calc o s s answer count0 count0 log0 log0
+  current_asks may free current mark marks answer said =
+      let last = current_last calc s o may free current in
+      idle_asks may (or_right (is_some (held s o)) _ (or_left (kept_at s o).current false current)) answer
+      (subst (λ (a : Asked). Shows a.cause (kept_at s o).last (seen calc s o)) (sym said)
+      (subst (λ (l : Option Value). Shows None l (seen calc s o)) (sym last.1)
+      (shows_last calc s may.whole.links (fit_of calc s o may) may.sound.current o current free ∙ ap (last_of o) last.1)))
+      (ap (λ (a : Asked). a.mark) said ∙ marks) (ap (λ (a : Asked). a.runs) said)
+
+-- a walk with the mark of the object is an ask of it
+pub walks_ask : (calc : Calc) (s : State) (o : ℕ) (new : State) (mark : Mark) (count0 : ℕ) (log0 : Option (List (ℕ × Bool))) (count : ℕ) (log : Option (List (ℕ × Bool))) → IsLinked s.market → mark ≡ mark_of s o
+    → (answer : Asked) → Walks calc o s new mark answer count0 count log0 log → Asks calc o s new answer count0 count log0 log
+walks_ask calc s o new mark count0 log0 count log links marks answer w = record {
+  state = w.state;
+  shown = subst (λ (r : Outcome). Shows answer.cause (kept_at new o).last r) (sym (shows_seen s links calc o)) w.shown;
+  mark = w.mark ∙ marks;
+  number = w.number;
+  count = w.count;
+  log = w.log;
+}

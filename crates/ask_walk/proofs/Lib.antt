@@ -1,0 +1,13 @@
+pub mod Announced
+pub mod Answered
+pub mod Empty
+pub mod Extends
+pub mod Fronted
+pub mod Fronts
+pub mod Inputs
+pub mod Loop
+pub mod Members
+pub mod Remembered
+pub mod Restarts
+pub mod Settling
+pub mod Stacks

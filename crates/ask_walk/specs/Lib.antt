@@ -1,0 +1,4 @@
+pub mod Asks
+pub mod Begun
+pub mod Reads
+pub mod Recalcs

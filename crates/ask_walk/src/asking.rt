@@ -1,0 +1,180 @@
+// An ask: what it uses and has no current value is computed, by an explicit stack.
+ghost use Rattle.std.specs.Prelude.{◌≡◌, ◌≢◌, ◌⊎◌, ◌<◌, ◌^◌, true, false, length, None, Some, Ok, Err, IsOk, IfOk, OnErr, slice_index_or};
+ghost use Rattle.std.specs.Option.{option_copied};
+ghost use Rattle.desk_terms.specs.declared.terms.Terms.{Terms};
+ghost use Rattle.desk_terms.specs.Bench.{counted};
+ghost use Rattle.desk_terms.specs.Reading.{IsWellFormed};
+ghost use Rattle.desk_model.specs.Market.{terms_at};
+ghost use Rattle.desk_model.specs.Links.{is_lazy_at};
+ghost use Rattle.desk_model.specs.Uses.{reading_at};
+ghost use Rattle.desk_model.specs.State.{unpriced, held};
+ghost use Rattle.object_store.specs.Slots.{market_of, state_of, is_now};
+ghost use Rattle.object_store.specs.Scratch.{AreClear, IsEmpty};
+ghost use Rattle.object_store.specs.Shape.{IsJoined, role_at};
+ghost use Rattle.observer_graph.specs.declared.node.Role.TheVariants as role;
+ghost use Rattle.ask_walk.specs.Reads.{Remembers};
+ghost use Rattle.ask_walk.specs.Begun.{Begun};
+ghost use Rattle.ask_walk.specs.Asks.{Asks, Walks, Stops, MayAsk, Stays, Computes, lacking, walk_mark};
+
+use crate::steps::next;
+use crate::uses::index_named;
+use day_number::Day;
+use desk_model::Next;
+use desk_names::ObjId;
+use desk_terms::{Asked, Bench, Cause, InputList, Job, Mark, Terms, Value};
+use object_store::{Objects, Scratch, Store};
+use std::alloc::{AllocError, Global};
+
+/// Asks a lazy object. It computes only what it uses and has no current value, and reads each quote at most once.
+pub fn ask<B: Bench>(
+    alloc: Global,
+    today: Day,
+    objects: &Objects,
+    store: &mut Store,
+    scratch: &mut Scratch,
+    object: ObjId,
+    bench: &mut B,
+) -> Result<Asked, AllocError>
+    requires may { MayAsk (B.calc bench.old) (state_of today objects.now store.old.kept store.old.deferring) object }
+    requires empty { IsEmpty (length objects.now) scratch.old }
+    requires joined { IsJoined (market_of today objects.now) store.old.shape }
+    ensures same { B.calc bench.new ≡ B.calc bench.old }
+    ensures asks { IfOk result (λ answer. Asks (B.calc bench.old) object (state_of today objects.now store.old.kept store.old.deferring) (state_of today objects.now store.new.kept store.old.deferring) answer
+        (B.count bench.old) (B.count bench.new) (B.log bench.old) (B.log bench.new)) }
+    ensures stops { OnErr result (Stops (B.calc bench.old) object (state_of today objects.now store.old.kept store.old.deferring) (state_of today objects.now store.new.kept store.old.deferring)
+        (B.count bench.old) (B.count bench.new) (B.log bench.old) (B.log bench.new)) }
+    ensures stays { Stays (B.calc bench.old) (state_of today objects.now store.new.kept store.old.deferring) }
+    ensures ready { (held (state_of today objects.now store.old.kept store.old.deferring) object ≢ None) ⊎ (is_now store.old.kept object ≡ true) → IsOk result }
+    ensures empty { IsEmpty (length objects.now) scratch.new }
+    ensures shape { store.new.shape ≡ store.old.shape }
+    ensures switch { store.new.deferring ≡ store.old.deferring }
+{
+    if store.is_frozen(object) {
+        return Ok(last_answer(store, object, Mark::Frozen));
+    }
+    if store.late(object).is_some() {
+        return Ok(last_answer(store, object, Mark::Late));
+    }
+    let mark = walk_mark(store.clear(object));
+    if store.is_current(object) {
+        return Ok(answered(None, mark, 0));
+    }
+    let answer = compute_all(alloc, today, objects, store, scratch, object, mark, bench);
+    scratch.clear();
+    answer
+}
+
+// The mark of an object that is neither frozen nor late.
+fn walk_mark(clear: bool) -> Mark
+    ensures { result ≡ walk_mark clear }
+{
+    if clear { Mark::Fresh } else { Mark::Held }
+}
+
+// An answer without a computation: the last value of the object, or that it has none.
+fn last_answer(store: &Store, object: ObjId, mark: Mark) -> Asked
+    ensures { result ≡ record { cause = lacking object (slice_index_or store.now.kept object unpriced).last; mark = mark; runs = 0 } }
+{
+    match store.last(object) {
+        Some(_) => answered(None, mark, 0),
+        None => answered(Some(Cause::Unpriced(object)), mark, 0),
+    }
+}
+
+/// The walk of an ask, of an object that is neither held nor current.
+pub fn compute_all<B: Bench>(
+    alloc: Global,
+    today: Day,
+    objects: &Objects,
+    store: &mut Store,
+    scratch: &mut Scratch,
+    object: ObjId,
+    mark: Mark,
+    bench: &mut B,
+) -> Result<Asked, AllocError>
+    requires may { MayAsk (B.calc bench.old) (state_of today objects.now store.old.kept store.old.deferring) object }
+    requires free { held (state_of today objects.now store.old.kept store.old.deferring) object ≡ None }
+    requires stale { is_now store.old.kept object ≡ false }
+    requires remembers { Remembers (market_of today objects.now) scratch.old.entries }
+    requires begun { Begun objects.now store.old.kept scratch.old.positions }
+    requires joined { IsJoined (market_of today objects.now) store.old.shape }
+    ensures same { B.calc bench.new ≡ B.calc bench.old }
+    ensures walks { IfOk result (λ answer. Walks (B.calc bench.old) object (state_of today objects.now store.old.kept store.old.deferring) (state_of today objects.now store.new.kept store.old.deferring) mark answer
+        (B.count bench.old) (B.count bench.new) (B.log bench.old) (B.log bench.new)) }
+    ensures few { IfOk result (λ answer. answer.runs < 2 ^ 17) }
+    ensures stops { OnErr result (Stops (B.calc bench.old) object (state_of today objects.now store.old.kept store.old.deferring) (state_of today objects.now store.new.kept store.old.deferring)
+        (B.count bench.old) (B.count bench.new) (B.log bench.old) (B.log bench.new)) }
+    ensures stays { Stays (B.calc bench.old) (state_of today objects.now store.new.kept store.old.deferring) }
+    ensures shape { store.new.shape ≡ store.old.shape }
+    ensures switch { store.new.deferring ≡ store.old.deferring }
+    ensures remembers { Remembers (market_of today objects.now) scratch.new.entries }
+    ensures begun { Begun objects.now store.new.kept scratch.new.positions }
+{
+    let mut stack: Vec<ObjId> = Vec::new(alloc);
+    stack.push(object)?;
+    let mut runs: u64 = 0;
+    while let Some(top) = stack.pop() {
+        match next(alloc, today, objects, store, scratch, top)? {
+            Next::Stops(cause) => return Ok(answered(Some(cause), mark, runs)),
+            Next::First(needed) => {
+                stack.push(top)?;
+                stack.push(needed)?;
+            }
+            Next::Ready(inputs) => {
+                let cause = compute(alloc, today, objects, store, top, &inputs, bench)?;
+                runs += 1;
+                if cause.is_some() {
+                    return Ok(answered(cause, mark, runs));
+                }
+            }
+        }
+    }
+    Ok(answered(None, mark, runs))
+}
+
+/// One computation: the value is stored, or the cause is answered.
+pub fn compute<'a, B: Bench>(
+    alloc: Global,
+    today: Day,
+    objects: &'a Objects,
+    store: &mut Store,
+    object: ObjId,
+    inputs: &'a InputList,
+    bench: &mut B,
+) -> Result<Option<Cause>, AllocError>
+    requires lazy { is_lazy_at (market_of today objects.now) object ≡ true }
+    requires role { role_at store.old.shape object ≡ Some role.Lazy }
+    requires fits { (terms : Terms) → terms_at (market_of today objects.now) object ≡ Some terms → IsWellFormed (reading_at (market_of today objects.now) object terms inputs.now) }
+    ensures same { B.calc bench.new ≡ B.calc bench.old }
+    ensures computes { IfOk result (λ cause. Computes (B.calc bench.old) (market_of today objects.now) object inputs.now store.old.kept store.new.kept cause
+        (B.count bench.old) (B.count bench.new) (B.log bench.old) (B.log bench.new)) }
+    ensures err { OnErr result ((store.new.kept ≡ store.old.kept) × (B.count bench.new ≡ counted (B.count bench.old) 1) × (B.log bench.new ≡ B.log bench.old)) }
+    ensures shape { store.new.shape ≡ store.old.shape }
+    ensures switch { store.new.deferring ≡ store.old.deferring }
+{
+    let terms = objects.own_terms(object);
+    let job = Job {
+        object,
+        terms,
+        inputs,
+        today,
+        index: index_named(today, objects, terms),
+    };
+    match bench.price(alloc, &job) {
+        Ok(value) => {
+            store.keep(object, value);
+            Ok(None)
+        }
+        Err(fault) => match fault.cause() {
+            Some(cause) => Ok(Some(cause)),
+            None => Err(AllocError),
+        },
+    }
+}
+
+/// An answer.
+pub fn answered(cause: Option<Cause>, mark: Mark, runs: u64) -> Asked
+    ensures { result ≡ record { cause = cause; mark = mark; runs = runs } }
+{
+    Asked { cause, mark, runs }
+}

@@ -1,0 +1,180 @@
+// What objects give where others name them, by an explicit stack: each is worked out at most once in an ask.
+ghost use Rattle.std.specs.Prelude.{◌≡◌, ◌<◌, length, None, Some, IfOk, slice_index_or};
+ghost use Rattle.desk_model.specs.Market.{terms_in};
+ghost use Rattle.desk_model.specs.declared.slot.Slot.TheVariants.{Free};
+ghost use Rattle.desk_model.specs.Uses.{input_at, derived_entry, rate_entry};
+ghost use Rattle.desk_model.specs.Links.{IsLinked};
+ghost use Rattle.std.specs.Prelude.{ℤ, ◌-ℤ◌, ◌+ℤ◌, if◌then◌else◌};
+ghost use Rattle.object_store.specs.Slots.{market_of};
+ghost use Rattle.object_store.specs.Objects.{quoted};
+ghost use Rattle.ask_walk.specs.Reads.{recalled, Remembers, given_by, quote_entry, and_sum, and_is};
+
+use day_number::Day;
+use desk_model::Entry;
+use desk_names::ObjId;
+use desk_terms::{Cause, Terms};
+use fixed_amount::Rate;
+use object_store::{Objects, Scratch};
+use std::alloc::{AllocError, Global};
+
+/// What one look at an object tells.
+#[derive(Clone, Copy, Debug, PartialEq, Eq)]
+pub enum Look {
+    /// What it gives.
+    Is(Entry),
+    /// This object has to be read first.
+    First(ObjId),
+}
+
+/// What an object gives where another names it. What was read before is remembered.
+pub fn read(
+    alloc: Global,
+    today: Day,
+    objects: &Objects,
+    scratch: &mut Scratch,
+    object: ObjId,
+) -> Result<Entry, AllocError>
+    requires linked { IsLinked (market_of today objects.now) }
+    requires within { object < length objects.now }
+    requires remembers { Remembers (market_of today objects.now) scratch.old.entries }
+    ensures entry { IfOk result (λ entry. entry ≡ input_at (market_of today objects.now) object) }
+    ensures remembers { Remembers (market_of today objects.now) scratch.new.entries }
+    ensures positions { scratch.new.positions ≡ scratch.old.positions }
+{
+    match scratch.entry(object) {
+        Some(entry) => return Ok(entry),
+        None => {}
+    }
+    let mut stack: Vec<ObjId> = Vec::new(alloc);
+    stack.push(object)?;
+    while let Some(top) = stack.pop() {
+        match look_at(objects, scratch, top) {
+            Look::First(needed) => {
+                stack.push(top)?;
+                stack.push(needed)?;
+            }
+            Look::Is(entry) => scratch.remember(top, entry)?,
+        }
+    }
+    match scratch.entry(object) {
+        Some(entry) => Ok(entry),
+        None => unreachable!(),
+    }
+}
+
+// What an object gives over what is remembered, or the first object that has to be read before.
+fn look_at(objects: &Objects, scratch: &Scratch, object: ObjId) -> Look
+    ensures { result ≡ given_by (recalled scratch.now.entries) object (terms_in (slice_index_or objects.now object Free)) }
+{
+    match objects.terms(object) {
+        None => Look::Is(Entry::Refuses(Cause::Unset(object))),
+        Some(terms) => match terms {
+            Terms::Quote(_) => Look::Is(quoted(object, objects.value(object))),
+            Terms::Derived { .. }
+            | Terms::Handle { .. }
+            | Terms::Index(..)
+            | Terms::Engine { .. }
+            | Terms::Curve(_)
+            | Terms::Implied { .. }
+            | Terms::Stock { .. }
+            | Terms::Composite(_)
+            | Terms::Flows(..) => given_by(scratch, object, terms),
+        },
+    }
+}
+
+// What a quote with this value gives.
+fn quoted(object: ObjId, value: Option<Rate>) -> Entry
+    ensures { result ≡ quote_entry object value }
+{
+    match value {
+        None => Entry::Refuses(Cause::Unset(object)),
+        Some(rate) => Entry::Gives(rate),
+    }
+}
+
+// What an object that is no quote gives, with these terms.
+fn given_by(scratch: &Scratch, object: ObjId, terms: &Terms) -> Look
+    requires { quoted terms.now ≡ None }
+    ensures { result ≡ given_by (recalled scratch.now.entries) object (Some terms.now) }
+{
+    match terms {
+        Terms::Quote(_) => unreachable!(),
+        Terms::Derived {
+            minus,
+            first,
+            second,
+        } => summed(scratch, object, *minus, *first, *second),
+        Terms::Handle { target, .. } => match target {
+            None => Look::Is(Entry::Refuses(Cause::Empty(object))),
+            Some(reached) => passed(scratch, *reached),
+        },
+        Terms::Index(index, _) => passed(scratch, index.curve),
+        Terms::Engine { curve } => passed(scratch, *curve),
+        Terms::Curve(_) => Look::Is(Entry::Needs(object)),
+        Terms::Implied { .. } => Look::Is(Entry::Needs(object)),
+        Terms::Stock { .. } => Look::Is(Entry::Needs(object)),
+        Terms::Composite(_) => Look::Is(Entry::Needs(object)),
+        Terms::Flows(..) => Look::Is(Entry::Needs(object)),
+    }
+}
+
+// What another object gives.
+fn passed(scratch: &Scratch, object: ObjId) -> Look
+    ensures { result ≡ and_is (recalled scratch.now.entries object) object }
+{
+    match scratch.entry(object) {
+        Some(entry) => Look::Is(entry),
+        None => Look::First(object),
+    }
+}
+
+// The sum or difference of what two objects give.
+fn summed(scratch: &Scratch, object: ObjId, minus: bool, first: ObjId, second: ObjId) -> Look
+    ensures { result ≡ and_sum object minus (recalled scratch.now.entries first) first (recalled scratch.now.entries second) second }
+{
+    match scratch.entry(first) {
+        None => Look::First(first),
+        Some(a) => match scratch.entry(second) {
+            None => Look::First(second),
+            Some(b) => Look::Is(derived(object, minus, &a, &b)),
+        },
+    }
+}
+
+// The sum or difference of what two inputs give.
+fn derived(object: ObjId, minus: bool, first: &Entry, second: &Entry) -> Entry
+    ensures { result ≡ derived_entry object minus first.now second.now }
+{
+    match first {
+        Entry::Refuses(cause) => Entry::Refuses(*cause),
+        Entry::Gives(a) => match second {
+            Entry::Refuses(cause) => Entry::Refuses(*cause),
+            Entry::Gives(b) => combined(object, minus, *a, *b),
+            Entry::Needs(_) => Entry::Refuses(Cause::Unset(object)),
+        },
+        Entry::Needs(_) => Entry::Refuses(Cause::Unset(object)),
+    }
+}
+
+// The sum or difference of two rates.
+fn combined(object: ObjId, minus: bool, first: Rate, second: Rate) -> Entry
+    ensures { result ≡ rate_entry object (if minus then first -ℤ second else first +ℤ second) }
+{
+    if minus {
+        rated(object, first.0 - second.0)
+    } else {
+        rated(object, first.0 + second.0)
+    }
+}
+
+// A rate of these units, or that there is none.
+fn rated(object: ObjId, units: i64) -> Entry
+    ensures { result ≡ rate_entry object units }
+{
+    if -1_000_000_000_000_000_000 <= units && units <= 1_000_000_000_000_000_000 {
+        Entry::Gives(Rate(units))
+    } else {
+        Entry::Refuses(Cause::TooLarge(object))
+    }
+}

@@ -1,0 +1,159 @@
+// What an ask does next at an object.
+ghost use Rattle.std.specs.Prelude.{◌≡◌, true, ◌<◌, ◌≤◌, take, length, Some, None, Ok, Err, IfOk, slice_index_or};
+ghost use Rattle.desk_terms.specs.declared.value.Value.{Value};
+ghost use Rattle.desk_model.specs.Uses.{member_entries, uses};
+ghost use Rattle.desk_model.specs.Fresh.{input_of};
+ghost use Rattle.desk_model.specs.Next.{next_of};
+ghost use Rattle.desk_model.specs.Links.{IsLinked, IsKinded, is_lazy_at};
+ghost use Rattle.ask_walk.specs.Reads.{Remembers};
+ghost use Rattle.ask_walk.specs.Begun.{AreSettled, Begun};
+ghost use Rattle.object_store.specs.Slots.{market_of, answer_of, answered, answered_of, is_at_hand};
+
+use crate::reader::read;
+use crate::uses::{flow_entries, helper_entries};
+use curve_points::copy_curve;
+use day_number::Day;
+use desk_model::{Entry, Next};
+use desk_names::ObjId;
+use desk_terms::{Cause, Input, InputList, Part, Terms, Value};
+use object_store::{Objects, Scratch, Store};
+use std::alloc::{AllocError, Global};
+
+// A value as the input of another price.
+fn as_input(alloc: Global, value: &Value) -> Result<Input, AllocError>
+    ensures { IfOk result (λ input. input ≡ input_of value.now) }
+{
+    match value {
+        Value::Money(amount) => Ok(Input::Money(*amount)),
+        Value::Curve(curve) => Ok(Input::Curve(copy_curve(alloc, curve)?)),
+    }
+}
+
+// The last value of an object that is at hand, or that it has none; none where it has to be computed first.
+fn answer(store: &Store, object: ObjId) -> Option<Result<&Value, Cause>>
+    ensures { answered result ≡ answered_of (is_at_hand store.now.kept object) (answer_of store.now.kept object) }
+{
+    if !store.is_at_hand(object) {
+        return None;
+    }
+    match store.last(object) {
+        Some(value) => Some(Ok(value)),
+        None => Some(Err(Cause::Unpriced(object))),
+    }
+}
+
+// What an ask does next at a composite of these parts, of which the first were read and are settled. It reads on from
+// there, and all of them once more when all are settled.
+fn next_member(
+    alloc: Global,
+    store: &Store,
+    parts: &[Part],
+    begun: &mut usize,
+) -> Result<Next, AllocError>
+    requires low { begun.old ≤ length parts.now }
+    requires settled { AreSettled store.now.kept (take begun.old parts.now) }
+    ensures next { IfOk result (λ next. next ≡ next_of (is_at_hand store.now.kept) (answer_of store.now.kept) (member_entries parts.now)) }
+    ensures low { begun.new ≤ length parts.now }
+    ensures settled { AreSettled store.now.kept (take begun.new parts.now) }
+{
+    while *begun < parts.len() {
+        let part = &parts[*begun];
+        match answer(store, part.member) {
+            Some(outcome) => match outcome {
+                Ok(_) => *begun += 1,
+                Err(cause) => return Ok(Next::Stops(cause)),
+            },
+            None => return Ok(Next::First(part.member)),
+        }
+    }
+    all_members(alloc, store, parts)
+}
+
+// What an ask does next at a composite of these parts.
+fn all_members(alloc: Global, store: &Store, parts: &[Part]) -> Result<Next, AllocError>
+    ensures { IfOk result (λ next. next ≡ next_of (is_at_hand store.now.kept) (answer_of store.now.kept) (member_entries parts.now)) }
+{
+    let mut inputs = InputList::new(alloc);
+    for at in 0..parts.len() {
+        let part = &parts[at];
+        match answer(store, part.member) {
+            Some(outcome) => match outcome {
+                Ok(value) => inputs.push(as_input(alloc, value)?)?,
+                Err(cause) => return Ok(Next::Stops(cause)),
+            },
+            None => return Ok(Next::First(part.member)),
+        }
+    }
+    Ok(Next::Ready(inputs))
+}
+
+// What an ask does next where a price takes these entries.
+fn next_entries(alloc: Global, store: &Store, entries: &[Entry]) -> Result<Next, AllocError>
+    ensures { IfOk result (λ next. next ≡ next_of (is_at_hand store.now.kept) (answer_of store.now.kept) entries.now) }
+{
+    let mut inputs = InputList::new(alloc);
+    for at in 0..entries.len() {
+        match entries[at] {
+            Entry::Gives(rate) => inputs.push(Input::Rate(rate))?,
+            Entry::Refuses(cause) => return Ok(Next::Stops(cause)),
+            Entry::Needs(object) => match answer(store, object) {
+                Some(outcome) => match outcome {
+                    Ok(held) => inputs.push(as_input(alloc, held)?)?,
+                    Err(cause) => return Ok(Next::Stops(cause)),
+                },
+                None => return Ok(Next::First(object)),
+            },
+        }
+    }
+    Ok(Next::Ready(inputs))
+}
+
+/// What an ask does next at a lazy object.
+pub fn next(
+    alloc: Global,
+    today: Day,
+    objects: &Objects,
+    store: &Store,
+    scratch: &mut Scratch,
+    object: ObjId,
+) -> Result<Next, AllocError>
+    requires lazy { is_lazy_at (market_of today objects.now) object ≡ true }
+    requires kinds { IsKinded (market_of today objects.now) }
+    requires linked { IsLinked (market_of today objects.now) }
+    requires remembers { Remembers (market_of today objects.now) scratch.old.entries }
+    requires begun { Begun objects.now store.now.kept scratch.old.positions }
+    ensures remembers { Remembers (market_of today objects.now) scratch.new.entries }
+    ensures begun { Begun objects.now store.now.kept scratch.new.positions }
+    ensures next { IfOk result (λ next. next ≡ next_of (is_at_hand store.now.kept) (answer_of store.now.kept) (uses (market_of today objects.now) object)) }
+{
+    match objects.own_terms(object) {
+        Terms::Stock { quote } => {
+            let entry = read(alloc, today, objects, scratch, *quote)?;
+            next_entries(alloc, store, &[entry])
+        }
+        Terms::Composite(parts) => {
+            let mut at = scratch.position(object);
+            let next = next_member(alloc, store, parts.items(), &mut at)?;
+            scratch.advance(object, at)?;
+            Ok(next)
+        }
+        Terms::Implied { curve, .. } => {
+            let entry = read(alloc, today, objects, scratch, *curve)?;
+            next_entries(alloc, store, &[entry])
+        }
+        Terms::Curve(curve) => {
+            let helpers = curve.helpers.items();
+            let entries = helper_entries(alloc, today, objects, scratch, helpers)?;
+            next_entries(alloc, store, &entries)
+        }
+        Terms::Flows(flows, engine) => {
+            let entries = flow_entries(alloc, today, objects, scratch, object, flows, *engine)?;
+            next_entries(alloc, store, &entries)
+        }
+        Terms::Quote(_)
+        | Terms::Derived { .. }
+        | Terms::Handle { .. }
+        | Terms::Index(..)
+        | Terms::Engine { .. } => unreachable!(),
+    }
+}

@@ -1,6 +1,0 @@
-use Rattle.std.proofs.Common.{◌≡◌, drop, length}
-use Rattle.lazy_objects.specs.Scratch.{AreTouched}
-use Rattle.lazy_objects.proofs.scratch.clear_all.Given as goal
-
-abbrev pub invariant-loop-at : goal.invariant-loop-at
-invariant-loop-at l = AreTouched l.entries l.positions (drop l.at l.touched) × (length l.entries ≡ length l.initial.entries) × (length l.positions ≡ length l.entries)

@@ -1,0 +1,102 @@
+-- What was touched, and clearing it.
+use Rattle.std.proofs.Common.{◌≡◌, ◌≢◌, ◌⊎◌, inl, inr, ◌<◌, ℕ, zero, suc, ◌+◌, drop, List, [], ◌∷◌, ◌++◌, length, Option, Some, None, refl, sym, ◌∙◌, ap, subst, arith}
+use Rattle.std.specs.Prelude.{slice_index_or, slice_set}
+use Rattle.std.proofs.lemmas.List.{get_or-set_same, get_or-set_other, length-set, length-append, drop_more}
+use Rattle.std.proofs.Math.ListN.{get_or}
+use Rattle.std.proofs.lemmas.Bool.{cases_eq}
+use Rattle.walks.specs.Walk.{Among}
+use Rattle.desk_model.specs.declared.entry.Entry.{Entry}
+use Rattle.object_store.specs.Scratch.{AreTouched}
+
+pub among_front : (x : ℕ) (xs ys : List ℕ) → Among x xs → Among x (xs ++ ys)
+among_front x [] ys among = absurd among
+among_front x (y ∷ xs) ys (inl same) = inl same
+among_front x (y ∷ xs) ys (inr more) = inr (among_front x xs ys more)
+
+pub among_last : (x y : ℕ) (xs : List ℕ) → x ≡ y → Among x (xs ++ y ∷ [])
+among_last x y [] same = inl same
+among_last x y (z ∷ xs) same = inr (among_last x y xs same)
+
+pub among_split : (x y : ℕ) (xs : List ℕ) → Among x (xs ++ y ∷ []) → Among x xs ⊎ (x ≡ y)
+among_split x y [] (inl same) = inr same
+among_split x y [] (inr none) = absurd none
+among_split x y (z ∷ xs) (inl same) = inl (inl same)
+among_split x y (z ∷ xs) (inr more) = elim (among_split x y xs more) [ inl there ↦ inl (inr there) | inr same ↦ inr same ]
+
+within_more : (t : List ℕ) (o n : ℕ) → ((x : ℕ) → Among x t → x < n) → o < n → (x : ℕ) → Among x (t ++ o ∷ []) → x < n
+within_more t o n low here x among = elim (among_split x o t among) [ inl there ↦ low x there | inr same ↦ subst (λ (y : ℕ). y < n) (sym same) here ]
+
+pub touched_entry : (e : List (Option Entry)) (p t : List ℕ) (o : ℕ) (entry : Entry) → AreTouched e p t → o < length e → AreTouched (slice_set e o (Some entry)) p (t ++ o ∷ [])
+touched_entry e p t o entry a within = record {
+  entry = λ x there. elim (cases_eq x o) [
+    | inl same ↦ among_last x o t same
+    | inr other ↦ among_front x t (o ∷ []) (a.entry x (λ none. there (get_or-set_other e o x (Some entry) None other ∙ none)))
+  ];
+  position = λ x there. among_front x t (o ∷ []) (a.position x there);
+  within = λ x among. subst (λ (n : ℕ). x < n) (sym (length-set e o (Some entry))) (within_more t o (length e) a.within within x among);
+}
+
+pub touched_position : (e : List (Option Entry)) (p t : List ℕ) (o position : ℕ) → AreTouched e p t → o < length e → AreTouched e (slice_set p o position) (t ++ o ∷ [])
+touched_position e p t o position a within = record {
+  entry = λ x there. among_front x t (o ∷ []) (a.entry x there);
+  position = λ x there. elim (cases_eq x o) [
+    | inl same ↦ among_last x o t same
+    | inr other ↦ among_front x t (o ∷ []) (a.position x (λ none. there (get_or-set_other p o x position 0 other ∙ none)))
+  ];
+  within = λ x among. within_more t o (length e) a.within within x among;
+}
+
+rest_of : (x o : ℕ) (rest : List ℕ) → x ≢ o → Among x (o ∷ rest) → Among x rest
+rest_of x o rest other (inl same) = absurd (other same)
+rest_of x o rest other (inr more) = more
+
+-- one of them is cleared
+pub cleared : (e : List (Option Entry)) (p rest : List ℕ) (o : ℕ) → AreTouched e p (o ∷ rest) → length p ≡ length e → AreTouched (slice_set e o None) (slice_set p o 0) rest
+cleared e p rest o a same = record {
+  entry = λ x there. elim (cases_eq x o) [
+    | inl here ↦ absurd (there (ap (λ (n : ℕ). slice_index_or (slice_set e o None) n None) here ∙ get_or-set_same e o None None (a.within o (inl refl))))
+    | inr other ↦ rest_of x o rest other (a.entry x (λ none. there (get_or-set_other e o x None None other ∙ none)))
+  ];
+  position = λ x there. elim (cases_eq x o) [
+    | inl here ↦ absurd (there (ap (λ (n : ℕ). slice_index_or (slice_set p o 0) n 0) here ∙ get_or-set_same p o 0 0 (let w = a.within o (inl refl) in omega arith)))
+    | inr other ↦ rest_of x o rest other (a.position x (λ none. there (get_or-set_other p o x 0 0 other ∙ none)))
+  ];
+  within = λ x among. subst (λ (n : ℕ). x < n) (sym (length-set e o None)) (a.within x (inr among));
+}
+
+none_from : (entry : Option Entry) → (entry ≢ None → ⊥) → entry ≡ None
+none_from None not = refl
+none_from (Some entry) not = absurd (not (λ e. absurd (cc)))
+
+zero_from : (n : ℕ) → (n ≢ 0 → ⊥) → n ≡ 0
+zero_from n not = elim (cases_eq n 0) [ inl is ↦ is | inr other ↦ absurd (not other) ]
+
+pub nothing_left : (e : List (Option Entry)) (p : List ℕ) → AreTouched e p [] → (x : ℕ) → slice_index_or e x None ≡ None
+nothing_left e p a x = none_from (slice_index_or e x None) (λ there. a.entry x there)
+
+pub nowhere_left : (e : List (Option Entry)) (p : List ℕ) → AreTouched e p [] → (x : ℕ) → slice_index_or p x 0 ≡ 0
+nowhere_left e p a x = zero_from (slice_index_or p x 0) (λ there. a.position x there)
+
+pub touched_none : (e : List (Option Entry)) (p : List ℕ) → ((x : ℕ) → slice_index_or e x None ≡ None) → ((x : ℕ) → slice_index_or p x 0 ≡ 0) → AreTouched e p []
+touched_none e p entries positions = record {
+  entry = λ x there. absurd (there (entries x));
+  position = λ x there. absurd (there (positions x));
+  within = λ x among. absurd among;
+}
+
+-- a list with the default at its end
+pub pushed_default : {X : Type 0} (xs : List X) (d : X) (i : ℕ) → slice_index_or (xs ++ d ∷ []) i d ≡ slice_index_or xs i d
+pushed_default [] d zero = refl
+pushed_default [] d (suc i) = refl
+pushed_default (x ∷ xs) d zero = refl
+pushed_default (x ∷ xs) d (suc i) = pushed_default xs d i
+
+pub touched_grown : (e : List (Option Entry)) (p t : List ℕ) → AreTouched e p t → AreTouched (e ++ None ∷ []) (p ++ 0 ∷ []) t
+touched_grown e p t a = record {
+  entry = λ x there. a.entry x (λ none. there (pushed_default e None x ∙ none));
+  position = λ x there. a.position x (λ none. there (pushed_default p 0 x ∙ none));
+  within = λ x among. let w = a.within x among in let l = length-append e (None ∷ []) in omega arith;
+}
+
+pub first_left : (xs : List ℕ) (at x : ℕ) → at < length xs → x ≡ get_or xs at x → drop at xs ≡ x ∷ drop (at + 1) xs
+first_left xs at x within is = drop_more xs at x within ∙ ap (λ (y : ℕ). y ∷ drop (at + 1) xs) (sym is)

@@ -1,0 +1,7 @@
+pub mod Late
+pub mod Objects
+pub mod Parts
+pub mod Scratch
+pub mod Shape
+pub mod Slots
+pub mod Store

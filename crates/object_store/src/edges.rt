@@ -1,0 +1,100 @@
+// Whom an object observes, and how it takes a notice.
+ghost use Rattle.std.specs.Prelude.{◌≡◌, ◌∷◌, ◌++◌, Some, IfOk};
+ghost use Rattle.desk_terms.specs.Terms.{helper_references, part_references, optional_reference};
+ghost use Rattle.desk_terms.specs.declared.kind.Wanted.TheVariants.{Engine, Index};
+ghost use Rattle.desk_model.specs.Market.{named, role_of};
+ghost use Rattle.object_store.specs.Shape.{node_role, watched, linked};
+
+use desk_names::ObjId;
+use desk_terms::{Helper, Part, Terms};
+use observer_graph::Role;
+use std::alloc::{AllocError, Global};
+
+/// The evaluation date.
+pub const TODAY: ObjId = ObjId(0);
+
+/// How an object with these terms takes a notice.
+pub fn role_of(terms: &Terms) -> Role
+    ensures { result ≡ node_role (role_of (Some terms.now)) }
+{
+    match terms {
+        Terms::Quote(_) => Role::Source,
+        Terms::Derived { .. } => Role::Forwarder,
+        Terms::Handle { .. } => Role::Forwarder,
+        Terms::Index(..) => Role::Forwarder,
+        Terms::Engine { .. } => Role::Forwarder,
+        Terms::Curve(_) => Role::Lazy,
+        Terms::Implied { .. } => Role::Lazy,
+        Terms::Stock { .. } => Role::Lazy,
+        Terms::Composite(_) => Role::Lazy,
+        Terms::Flows(..) => Role::Lazy,
+    }
+}
+
+/// The objects that an object with these terms observes, in order.
+pub fn watched(alloc: Global, terms: &Terms) -> Result<Vec<ObjId>, AllocError>
+    ensures { IfOk result (λ objects. objects.items ≡ watched terms.now) }
+{
+    match terms {
+        Terms::Quote(_) => Ok(Vec::new(alloc)),
+        Terms::Derived { first, second, .. } => Ok(vec![in alloc; *first, *second]?),
+        Terms::Handle { target, .. } => linked(alloc, *target),
+        Terms::Index(index, _) => Ok(vec![in alloc; TODAY, index.curve]?),
+        Terms::Engine { curve } => Ok(vec![in alloc; *curve]?),
+        Terms::Curve(curve) => quotes(alloc, curve.helpers.items()),
+        Terms::Implied { curve, .. } => Ok(vec![in alloc; *curve]?),
+        Terms::Stock { quote } => Ok(vec![in alloc; *quote]?),
+        Terms::Composite(parts) => members(alloc, parts.items()),
+        Terms::Flows(flows, engine) => priced_by(alloc, *engine, flows.index),
+    }
+}
+
+// The target of a handle, if it has one.
+fn linked(alloc: Global, target: Option<ObjId>) -> Result<Vec<ObjId>, AllocError>
+    ensures { IfOk result (λ objects. objects.items ≡ linked target) }
+{
+    match target {
+        None => Ok(Vec::new(alloc)),
+        Some(object) => Ok(vec![in alloc; object]?),
+    }
+}
+
+// The evaluation date and the quotes of these helpers.
+fn quotes(alloc: Global, helpers: &[Helper]) -> Result<Vec<ObjId>, AllocError>
+    ensures { IfOk result (λ quotes. quotes.items ≡ 0 ∷ named (helper_references helpers.now)) }
+{
+    let mut quotes: Vec<ObjId> = vec![in alloc; TODAY]?;
+    for helper in helpers {
+        quotes.push(helper.quote)?;
+    }
+    Ok(quotes)
+}
+
+// The evaluation date, and the engine and the index of an instrument, where it has these.
+fn priced_by(
+    alloc: Global,
+    engine: Option<ObjId>,
+    index: Option<ObjId>,
+) -> Result<Vec<ObjId>, AllocError>
+    ensures { IfOk result (λ objects. objects.items ≡ 0 ∷ named (optional_reference Engine engine ++ optional_reference Index index)) }
+{
+    let mut objects: Vec<ObjId> = vec![in alloc; TODAY]?;
+    if let Some(engine) = engine {
+        objects.push(engine)?;
+    }
+    if let Some(index) = index {
+        objects.push(index)?;
+    }
+    Ok(objects)
+}
+
+// The members of these parts.
+fn members(alloc: Global, parts: &[Part]) -> Result<Vec<ObjId>, AllocError>
+    ensures { IfOk result (λ members. members.items ≡ named (part_references parts.now)) }
+{
+    let mut members: Vec<ObjId> = Vec::new(alloc);
+    for part in parts {
+        members.push(part.member)?;
+    }
+    Ok(members)
+}

@@ -1,0 +1,298 @@
+// What is stored of each object, and who observes whom: the flags stand in the graph of observers, the last values beside
+// it. Notices may be held back.
+ghost use Rattle.std.specs.Prelude.{◌≡◌, ◌↔◌, ◌⊎◌, ◌==◌, ◌<◌, ◌^◌, ℕ, [], true, false, Some, None, length, is_some, IsTrue, OnOk, OnErr, slice_index_or, slice_set};
+ghost use Rattle.std.specs.Option.{option_copied};
+ghost use Rattle.walks.specs.Walk.{Among, Below};
+ghost use Rattle.observer_graph.specs.Notice.{IsLeast};
+ghost use Rattle.observer_graph.specs.declared.node.Role.TheVariants as role;
+ghost use Rattle.desk_model.specs.State.{unpriced};
+ghost use Rattle.desk_model.specs.Visit.{with_value};
+ghost use Rattle.object_store.specs.Slots.{is_now, is_at_hand};
+ghost use Rattle.object_store.specs.Late.{IsLateOf, IsClear};
+ghost use Rattle.object_store.specs.Shape.{role_at, observed_by, edges_at};
+ghost use Rattle.object_store.specs.Store.{AddsObject, TakesObject, Joins, Leaves, Notices, stored_at, marked, stored_as};
+
+use deferred_sources::Deferral;
+use desk_names::ObjId;
+use desk_terms::Value;
+use observer_graph::{Flags, Graph, Role};
+use std::alloc::{AllocError, Global};
+use std::marker::Model;
+
+/// What is stored of each object by number, the graph of observers, and whether its notices are held back.
+#[derive(Drop)]
+pub struct Store {
+    deferral: Deferral,
+    lasts: Vec<Option<Value>>,
+}
+
+impl Model for Store {
+    ghost use Rattle.std.specs.Prelude.{◌≡◌, length};
+    ghost use Rattle.object_store.specs.Shape.{kept_of, shape_of};
+    ghost use Rattle.object_store.specs.Store.{StoreView};
+
+    ghost Value = { StoreView };
+
+    ghost view = { λ s. record { kept = kept_of s.deferral.graph s.lasts.items; shape = shape_of s.deferral.graph; deferring = s.deferral.on } };
+
+    ghost invariant = { λ s. (length s.deferral.graph.nodes ≡ length s.lasts.items) × (length s.deferral.graph.sources ≡ length s.lasts.items) };
+}
+
+impl Store {
+    /// Nothing is stored, of no object, and no notice is held back.
+    pub fn new(alloc: Global) -> Store
+        ensures kept { result.kept ≡ [] }
+        ensures switch { result.deferring ≡ false }
+        ensures roles { result.shape.roles ≡ [] }
+        ensures subjects { result.shape.subjects ≡ [] }
+    {
+        Store {
+            deferral: Deferral::new(Graph::new(alloc)),
+            lasts: Vec::new(alloc),
+        }
+    }
+
+    /// One object more, of which nothing is stored. It observes these. After want of memory nothing is changed.
+    pub fn add(&mut self, role: Role, named: &[ObjId]) -> Result<(), AllocError>
+        requires room { length self.old.kept < 2 ^ 16 }
+        requires live { (x : ℕ) → Among x named.now → is_some (role_at self.old.shape x) ≡ true }
+        ensures added { OnOk result (AddsObject role named.now self.old self.new) }
+        ensures same { OnErr result (self.new ≡ self.old) }
+    {
+        self.lasts.reserve(1)?;
+        self.deferral.graph().add_watching(role, named)?;
+        self.lasts.push_reserved(None);
+        Ok(())
+    }
+
+    /// Nothing is stored of an object any more; it observes nothing, and nothing observes it.
+    pub fn forget(&mut self, object: ObjId)
+        requires { is_some (role_at self.old.shape object) ≡ true }
+        ensures { TakesObject object self.old self.new }
+    {
+        self.deferral.graph().remove(object);
+        self.lasts[object.place()] = None;
+    }
+
+    /// Whether an object has this number.
+    pub fn has(&self, object: ObjId) -> bool
+        ensures { result ≡ is_some (role_at self.now.shape object) }
+    {
+        self.deferral.as_graph().is_live(object)
+    }
+
+    /// Whether the value of an object is current.
+    pub fn is_current(&self, object: ObjId) -> bool
+        ensures { result ≡ is_now self.now.kept object }
+    {
+        self.deferral.as_graph().is_current(object)
+    }
+
+    /// The last value of an object, if it has one.
+    pub fn last(&self, object: ObjId) -> Option<&Value>
+        ensures { option_copied result ≡ (slice_index_or self.now.kept object unpriced).last }
+    {
+        last_in(&self.lasts, object)
+    }
+
+    /// A lazy object has this value, and it is current.
+    pub fn keep(&mut self, object: ObjId, value: Value)
+        requires { role_at self.old.shape object ≡ Some role.Lazy }
+        ensures kept { self.new.kept ≡ slice_set self.old.kept object (with_value (slice_index_or self.old.kept object unpriced) (Some value)) }
+        ensures shape { self.new.shape ≡ self.old.shape }
+        ensures switch { self.new.deferring ≡ self.old.deferring }
+    {
+        let flags = self.deferral.as_graph().flags(object);
+        self.deferral.graph().set_flags(object, settled(flags));
+        self.lasts[object.place()] = Some(value);
+    }
+
+    /// An object is not current.
+    pub fn outdate(&mut self, object: ObjId)
+        requires { is_some (role_at self.old.shape object) ≡ true }
+        ensures { self.new ≡ stored_as object (record (stored_at self.old object) { current = false }) self.old }
+    {
+        self.deferral.graph().outdate(object);
+    }
+
+    /// An object is frozen: it takes notices without passing them on. Nobody is told.
+    pub fn freeze(&mut self, object: ObjId)
+        requires { role_at self.old.shape object ≡ Some role.Lazy }
+        ensures { self.new ≡ stored_as object (record (stored_at self.old object) { frozen = true }) self.old }
+    {
+        let flags = self.deferral.as_graph().flags(object);
+        self.deferral
+            .graph()
+            .set_flags(object, frozen_as(flags, true));
+    }
+
+    /// An object is frozen no more; whether it was. Nobody is told.
+    pub fn thaw(&mut self, object: ObjId) -> bool
+        requires { role_at self.old.shape object ≡ Some role.Lazy }
+        ensures answer { result ≡ (stored_at self.old object).frozen }
+        ensures thawed { result ≡ true → self.new ≡ stored_as object (record (stored_at self.old object) { frozen = false }) self.old }
+        ensures same { result ≡ false → self.new ≡ self.old }
+    {
+        let flags = self.deferral.as_graph().flags(object);
+        if flags.frozen {
+            self.deferral
+                .graph()
+                .set_flags(object, frozen_as(flags, false));
+        }
+        flags.frozen
+    }
+
+    /// An object passes each notice on, or does so no more. Nobody is told.
+    pub fn forward(&mut self, object: ObjId, on: bool)
+        requires { role_at self.old.shape object ≡ Some role.Lazy }
+        ensures { self.new ≡ stored_as object (record (stored_at self.old object) { forward = on }) self.old }
+    {
+        let flags = self.deferral.as_graph().flags(object);
+        self.deferral
+            .graph()
+            .set_flags(object, forwarding(flags, on));
+    }
+
+    /// An object was changed: those whom its notice reaches are not current. Where notices are held back, the object is
+    /// marked and nobody is told. It takes no memory, and costs what it tells.
+    pub fn changed(&mut self, object: ObjId)
+        requires { is_some (role_at self.old.shape object) ≡ true }
+        ensures switch { self.new.deferring ≡ self.old.deferring }
+        ensures held { self.old.deferring ≡ true → self.new ≡ marked object self.old }
+        ensures told { self.old.deferring ≡ false → Notices (marked object self.old) self.new }
+    {
+        self.deferral.changed(object);
+    }
+
+    /// Notices are held back from now on.
+    pub fn defer(&mut self)
+        ensures { self.new ≡ record self.old { deferring = true } }
+    {
+        self.deferral.defer();
+    }
+
+    /// Notices are held back no more: those whom a notice from all marked objects reaches are not current, and none is
+    /// marked any more. Nothing where none is held back. It takes no memory, and costs what it tells.
+    pub fn resume(&mut self)
+        ensures switch { self.new.deferring ≡ false }
+        ensures told { self.old.deferring ≡ true → Notices self.old self.new }
+        ensures same { self.old.deferring ≡ false → self.new ≡ self.old }
+    {
+        self.deferral.resume();
+    }
+
+    /// An object observes another too. After want of memory nothing is changed.
+    pub fn watch(&mut self, subject: ObjId, observer: ObjId) -> Result<(), AllocError>
+        requires subject { is_some (role_at self.old.shape subject) ≡ true }
+        requires observer { is_some (role_at self.old.shape observer) ≡ true }
+        requires new { Among subject (observed_by self.old.shape observer) → ⊥ }
+        ensures joins { OnOk result (Joins self.old self.new subject observer) }
+        ensures same { OnErr result (self.new ≡ self.old) }
+    {
+        self.deferral.graph().watch(subject, observer)
+    }
+
+    /// An object does not observe another.
+    pub fn unwatch(&mut self, subject: ObjId, observer: ObjId)
+        requires subject { is_some (role_at self.old.shape subject) ≡ true }
+        requires observer { is_some (role_at self.old.shape observer) ≡ true }
+        ensures { Leaves self.old self.new subject observer }
+    {
+        self.deferral.graph().unwatch(subject, observer);
+    }
+
+    /// Whether an object is another, or reaches it by edges.
+    pub fn reaches(&mut self, from: ObjId, to: ObjId) -> bool
+        requires from { is_some (role_at self.old.shape from) ≡ true }
+        requires to { is_some (role_at self.old.shape to) ≡ true }
+        ensures answer { IsTrue result ↔ ((from ≡ to) ⊎ Below (edges_at self.old.shape) (λ y. y == to) (λ y. true) from) }
+        ensures same { self.new ≡ self.old }
+    {
+        self.deferral.graph().reaches(from, to)
+    }
+
+    /// The least object that has another among its edges, if any has.
+    pub fn least_observer(&self, object: ObjId) -> Option<ObjId>
+        requires { is_some (role_at self.now.shape object) ≡ true }
+        ensures { IsLeast (λ o. Among object (edges_at self.now.shape o)) result }
+    {
+        self.deferral.as_graph().least_observer(object)
+    }
+
+    /// Whether an object is frozen.
+    pub fn is_frozen(&self, object: ObjId) -> bool
+        ensures { result ≡ (slice_index_or self.now.kept object unpriced).frozen }
+    {
+        if !self.deferral.as_graph().is_live(object) {
+            return false;
+        }
+        self.deferral.as_graph().flags(object).frozen
+    }
+
+    /// Whether an object answers its last value where another needs it.
+    pub fn is_at_hand(&self, object: ObjId) -> bool
+        ensures { result ≡ is_at_hand self.now.kept object }
+    {
+        self.is_current(object) || self.is_frozen(object)
+    }
+
+    /// The least deferred source that makes an object late, if any does. It costs what lies beneath; nothing where no
+    /// object holds its notice back.
+    pub fn late(&mut self, object: ObjId) -> Option<ObjId>
+        requires { is_some (role_at self.old.shape object) ≡ true }
+        ensures answer { IsLeast (IsLateOf self.old object) result }
+        ensures same { self.new ≡ self.old }
+    {
+        self.deferral.late(object)
+    }
+
+    /// Whether neither an object nor any beneath it is frozen or holds its notice back. It costs what lies beneath;
+    /// nothing where no object does either.
+    pub fn clear(&mut self, object: ObjId) -> bool
+        requires { is_some (role_at self.old.shape object) ≡ true }
+        ensures answer { IsTrue result ↔ IsClear self.old object }
+        ensures same { self.new ≡ self.old }
+    {
+        self.deferral.clear(object)
+    }
+}
+
+// The last value of an object, if it has one.
+fn last_in(lasts: &[Option<Value>], object: ObjId) -> Option<&Value>
+    ensures { option_copied result ≡ slice_index_or lasts.now object None }
+{
+    match lasts.get(object.place()) {
+        Some(last) => last.as_ref(),
+        None => None,
+    }
+}
+
+// The flags of an object that is current.
+fn settled(flags: Flags) -> Flags
+    ensures { result ≡ record flags { current = true } }
+{
+    Flags {
+        current: true,
+        ..flags
+    }
+}
+
+// Flags, of which this one says whether the object is frozen.
+fn frozen_as(flags: Flags, on: bool) -> Flags
+    ensures { result ≡ record flags { frozen = on } }
+{
+    Flags {
+        frozen: on,
+        ..flags
+    }
+}
+
+// Flags, of which this one says whether the object passes each notice on.
+fn forwarding(flags: Flags, on: bool) -> Flags
+    ensures { result ≡ record flags { forward = on } }
+{
+    Flags {
+        forward: on,
+        ..flags
+    }
+}

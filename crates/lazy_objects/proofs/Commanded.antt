@@ -1,6 +1,6 @@
 -- What stands after a link, an engine, a fixing and another day.
-use Rattle.std.proofs.Common.{◌≡◌, ℕ, Bool, true, false, List, Option, Some, sym, ◌∙◌, ap, subst}
-use Rattle.std.specs.Prelude.{ℤ, if◌then◌else◌}
+use Rattle.std.proofs.Common.{◌≡◌, ◌<◌, ℕ, Bool, true, false, List, [], ◌∷◌, length, Option, Some, sym, ◌∙◌, ap, subst, arith}
+use Rattle.std.specs.Prelude.{ℤ, if◌then◌else◌, slice_index_or}
 use Rattle.std.specs.Option.{option_eq}
 use Rattle.std.specs.Ordering.{int_eq}
 use Rattle.desk_terms.specs.declared.terms.Terms.{Terms}
@@ -9,6 +9,7 @@ use Rattle.desk_terms.specs.Terms.{kind_of}
 use Rattle.flow_terms.specs.Fixings.{with_fixing}
 use Rattle.desk_model.specs.declared.kept.Kept.{Kept}
 use Rattle.desk_model.specs.declared.slot.Slot.{Slot}
+use Rattle.desk_model.specs.declared.slot.Slot.TheVariants.{Free, Today}
 use Rattle.desk_model.specs.Market.{terms_at, kind_at}
 use Rattle.desk_model.specs.State.{State}
 use Rattle.desk_model.specs.Held.{Changeable, changeable}
@@ -23,8 +24,10 @@ use Rattle.desk_model.proofs.Carried.{sound_kept}
 use Rattle.object_store.specs.Slots.{market_of, state_of}
 use Rattle.object_store.specs.Shape.{Shape, IsJoined}
 use Rattle.object_store.specs.Scratch.{ScratchView}
+use Rattle.object_store.specs.Store.{StoreView}
 use Rattle.lazy_objects.specs.Stands.{Stands}
 use Rattle.object_store.proofs.Joined.{notified_market}
+use Rattle.object_store.proofs.Telling.{IsNotice, notified_state, no_marks}
 use Rattle.lazy_objects.proofs.Revised.{Changed, stands_as, revised_stands}
 
 -- the graph of a market has no day in it
@@ -33,6 +36,20 @@ joined_day today day slots shape joined = record { long = joined.long; roles = j
 
 pub links_day : (today day : ℤ) (slots : List Slot) → IsLinked (market_of today slots) → IsLinked (market_of day slots)
 links_day today day slots links = record { within = links.within; observed = links.observed; acyclic = links.acyclic }
+
+first_there : (slots : List Slot) → slice_index_or slots 0 Free ≡ Today → 0 < length slots
+first_there [] is = absurd (cc)
+first_there (slot ∷ slots) is = omega arith
+
+-- a notice of the evaluation date leaves the state of another day told
+pub day_told : (today day : ℤ) (slots : List Slot) (old new : StoreView) (scratch : ScratchView)
+    → Stands (state_of today slots old.kept old.deferring) scratch → IsJoined (market_of today slots) old.shape → IsNotice 0 old new
+    → state_of day slots new.kept new.deferring ≡ notified 0 (state_of day slots old.kept old.deferring)
+day_told today day slots old new scratch stands joined tells =
+    notified_state day slots old new 0 (links_day today day slots stands.whole.links)
+    (joined_day today day slots old.shape joined) stands.unwatched
+    (subst (λ (n : ℕ). 0 < n) (sym stands.whole.length) (first_there slots stands.whole.today))
+    (no_marks today slots old stands.sources) tells
 
 module _ (today : ℤ) (slots : List Slot) (kept : List Kept) (on : Bool) (scratch : ScratchView) (stands : Stands (state_of today slots kept on) scratch) where
   abbrev s : State

@@ -6,7 +6,7 @@ ghost use Rattle.desk_terms.specs.declared.terms.Terms.TheVariants.{Quote};
 ghost use Rattle.desk_model.specs.Market.{is_given};
 ghost use Rattle.desk_model.specs.Links.{IsLinked};
 ghost use Rattle.desk_model.specs.Effect.{with_terms, revised, notified};
-ghost use Rattle.desk_model.specs.declared.slot.Slot.TheVariants.{Live, Free, Today};
+ghost use Rattle.desk_model.specs.declared.slot.Slot.TheVariants.{Live, Free};
 ghost use Rattle.object_store.specs.Slots.{market_of, state_of, outdated, AreUnwatched};
 ghost use Rattle.object_store.specs.Objects.{has_quote};
 ghost use Rattle.object_store.specs.Shape.{IsJoined};
@@ -15,7 +15,7 @@ ghost use Rattle.object_store.specs.Store.{HasNoMarkWhereOff};
 use day_number::Day;
 use desk_names::ObjId;
 use desk_terms::Terms;
-use object_store::{Objects, Store, TODAY};
+use object_store::{Objects, Store};
 
 /// An object that is no quote has other terms and is not current. Its observers are told, or it holds its notice back.
 /// The graph is that of the new terms. It takes no memory, and costs what it tells.
@@ -51,20 +51,4 @@ pub fn tell_changed(today: Day, objects: &Objects, store: &mut Store, object: Ob
 {
     store.outdate(object);
     store.changed(object);
-}
-
-/// Those who observe the evaluation date are told that it is this day, or it holds its notice back. It takes no memory,
-/// and costs what it tells.
-pub fn tell_today(day: Day, objects: &Objects, store: &mut Store)
-    requires today { slice_index_or objects.now 0 Free ≡ Today }
-    requires within { 0 < length objects.now }
-    requires kept { length store.old.kept ≡ length objects.now }
-    requires joined { IsJoined (market_of day objects.now) store.old.shape }
-    requires sources { HasNoMarkWhereOff store.old }
-    requires unwatched { AreUnwatched objects.now }
-    requires linked { IsLinked (market_of day objects.now) }
-    ensures state { state_of day objects.now store.new.kept store.new.deferring ≡ notified 0 (state_of day objects.now store.old.kept store.old.deferring) }
-    ensures shape { store.new.shape ≡ store.old.shape }
-{
-    store.changed(TODAY);
 }

@@ -22,7 +22,7 @@ ghost use Rattle.desk_model.specs.Held.{changeable, weight_of};
 ghost use Rattle.ask_walk.specs.Asks.{Asks, Stops};
 ghost use Rattle.ask_walk.specs.Recalcs.{RecalcEnds, RecalcStops};
 
-use crate::changes::{revise, tell_changed, tell_today};
+use crate::changes::{revise, tell_changed};
 use crate::links::{link_of, unwatch_any, watch_any, watch_instead};
 use crate::weights::{has_weight, parts_of, rewatch, with_member};
 use ask_walk::{Recalced, ask, recalc};
@@ -30,7 +30,7 @@ use day_number::Day;
 use desk_names::ObjId;
 use desk_terms::{Asked, Bench, FixFault, Kind, Terms, Value};
 use fixed_amount::Rate;
-use object_store::{Objects, Scratch, Store, engine_of, index_of, watched};
+use object_store::{Objects, Scratch, Store, TODAY, engine_of, index_of, watched};
 use observer_graph::Role;
 use std::alloc::{AllocError, Global};
 use std::marker::Model;
@@ -192,7 +192,7 @@ impl Desk {
             return;
         }
         self.today = day;
-        tell_today(day, &self.objects, &mut self.store);
+        self.store.changed(TODAY);
     }
 
     /// Gives an instrument a weight in a composite: one that is no member joins at the end, a member keeps its place,

@@ -1,8 +1,8 @@
 use Rattle.std.proofs.Common.{subst}
 use Rattle.observer_graph.specs.GraphView.{GraphView}
 use Rattle.observer_graph.specs.Notice.{IsLeast, IsUser}
-use Rattle.lazy_objects.proofs.HeldBack.{user_node}
-use Rattle.lazy_objects.proofs.store.Store.least_observer.Goals as goal
+use Rattle.object_store.proofs.HeldBack.{user_node}
+use Rattle.object_store.proofs.store.Store.least_observer.Goals as goal
 
 pub returns : goal.returns
 returns c = rw (← c.self.view_is) (user_node c.self.inside.deferral.graph c.self.inside.lasts.items c.self.inside.deferral.on (record { nodes = c.self.invariant.0; sources = c.self.invariant.1 }) c.args.object c.least_observer.result

@@ -1,5 +1,5 @@
 -- Curves of one deposit that are worked out by an independent model.
-use Rattle.std.proofs.Common.{◌≡◌, ℕ, suc, ◌≤◌, ◌*◌, ◌^◌, arith, refl, sym, ap, ◌∙◌, ℤ, pos, neg_ℤ, ◌<ℤ◌, ◌≤ℤ◌, ◌-ℤ◌, Bool, true, false, List, [], ◌∷◌, Option, Some, None, Result, Ok, Err, nat_le, unsigned_abs, int_le}
+use Rattle.std.proofs.Common.{◌≡◌, ℕ, suc, ◌≤◌, ◌*◌, ◌^◌, arith, refl, sym, ap, ◌∙◌, ℤ, pos, neg_ℤ, ◌<ℤ◌, ◌≤ℤ◌, Bool, true, false, List, [], ◌∷◌, Some, Ok, nat_le, int_le}
 use Rattle.std.proofs.lemmas.Int.{ints}
 use Rattle.std.proofs.lemmas.List.Elements.{All-nil, All-cons}
 use Rattle.jiff_core.specs.Calendar.{days_from_civil, day_count, days_of_years, days_of_months, weekday_number}
@@ -16,7 +16,6 @@ use Rattle.curve_points.specs.declared.curves.CurveNode.{CurveNode}
 use Rattle.curve_points.specs.Curve.{origin}
 use Rattle.curve_points.specs.Point.{beyond}
 use Rattle.curve_bootstrap.specs.declared.coupons.Coupon.{Coupon}
-use Rattle.curve_bootstrap.specs.declared.faults.HelperFault.{HelperFault}
 use Rattle.curve_bootstrap.specs.Coupon.{total, parts_of, AreCoupons}
 use Rattle.curve_bootstrap.specs.Node.{excess, node_of, is_negative_sum}
 use Rattle.curve_bootstrap.specs.Split.{IsRoot}

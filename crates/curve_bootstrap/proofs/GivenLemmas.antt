@@ -1,9 +1,8 @@
 -- Lemmas on answers that give what is due, or are refused for want of memory.
-use Rattle.std.proofs.Common.{◌≡◌, ◌⊎◌, inl, inr, List, Result, Ok, Err, IfOk, ap, sym, subst, ◌∙◌}
+use Rattle.std.proofs.Common.{◌≡◌, Result, Ok, Err, IfOk, subst}
 use Rattle.schedule_rules.specs.declared.faults.PlanFault.{PlanFault}
 use Rattle.schedule_rules.specs.declared.faults.PlanFault.TheVariants.{Collapsed, DateRange as PlanRange, Order, Tenor as TenorFault, Stub, TooMany, NoMemory as PlanMemory}
 use Rattle.curve_bootstrap.specs.declared.faults.HelperFault.{HelperFault}
-use Rattle.curve_bootstrap.specs.declared.faults.HelperFault.TheVariants.{DateRange, Pillar, RateRange, Negative, Discount, NoMemory}
 use Rattle.curve_bootstrap.specs.Built.{Comes, fault_of, GivesHelper}
 
 -- what gives one thing gives another that it equals

@@ -1,18 +1,15 @@
 -- The laws of bootstrapped curves.
-use Rattle.std.proofs.Common.{◌≡◌, ℕ, zero, suc, ◌+◌, ◌*◌, ◌^◌, ◌<◌, ◌≤◌, arith, refl, sym, ap, subst, ◌∙◌, ℤ, pos, negsuc, ◌-ℤ◌, ◌≤ℤ◌, ◌<ℤ◌, int_le, int_lt, int_eq, nat_le, unsigned_abs, true, false, Bool, ◌||◌, List, [], ◌∷◌, ◌++◌, length, take, drop, Option, Some, None, Result, Ok, Err, inl, inr, if◌then◌else◌}
+use Rattle.std.proofs.Common.{◌≡◌, ℕ, zero, suc, ◌*◌, ◌^◌, ◌<◌, ◌≤◌, arith, refl, sym, ap, subst, ◌∙◌, ℤ, pos, negsuc, ◌-ℤ◌, ◌≤ℤ◌, ◌<ℤ◌, int_le, int_lt, int_eq, nat_le, unsigned_abs, true, false, Bool, ◌||◌, List, [], ◌∷◌, ◌++◌, take, drop, Some, Result, Ok, Err, inl, inr, if◌then◌else◌}
 use Rattle.std.proofs.lemmas.Bool.{cases_lt, true≢false}
-use Rattle.std.proofs.lemmas.Int.{ints, by_lt_z}
-use Rattle.std.specs.List.{AllWithin}
-use Rattle.std.specs.List.Sorted.{IsPartitionedBy}
+use Rattle.std.proofs.lemmas.Int.{ints}
 use Rattle.curve_points.specs.declared.curves.CurveNode.{CurveNode}
-use Rattle.curve_points.specs.Curve.{Curve, IsRisingFrom, origin}
+use Rattle.curve_points.specs.Curve.{origin}
 use Rattle.curve_points.specs.Segment.{on_segment, most}
-use Rattle.curve_points.specs.Point.{beyond, discount_at, or_past}
-use Rattle.curve_points.proofs.PointLemmas.{is_lt, is_not_lt, discount_beyond, le_false}
-use Rattle.curve_bootstrap.specs.declared.coupons.Coupon.{Coupon}
+use Rattle.curve_points.specs.Point.{beyond}
+use Rattle.curve_points.proofs.PointLemmas.{is_not_lt, discount_beyond, le_false}
 use Rattle.curve_bootstrap.specs.declared.faults.HelperFault.{HelperFault}
 use Rattle.curve_bootstrap.specs.declared.faults.HelperFault.TheVariants.{Pillar, RateRange, Negative, Discount}
-use Rattle.curve_bootstrap.specs.Coupon.{total, parts_of, AreCoupons}
+use Rattle.curve_bootstrap.specs.Coupon.{total, parts_of}
 use Rattle.curve_bootstrap.specs.Node.{node_of, excess, last_of, or_zero, trial, is_negative_sum, least_where, least_factor, root_or_fault}
 use Rattle.curve_bootstrap.specs.Laws.{IsLeast, NodesAreLeast, ExcessRises, TrialIsTheDiscount}
 use Rattle.curve_bootstrap.proofs.NodeLemmas.{excess_rises, parted_by}

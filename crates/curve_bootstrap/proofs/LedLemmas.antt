@@ -1,5 +1,5 @@
 -- Lemmas on the days that the tenors of helpers lead to.
-use Rattle.std.proofs.Common.{◌≡◌, ℕ, zero, suc, ◌+◌, ◌<◌, ◌≤◌, arith, refl, sym, ap, subst, ◌∙◌, ℤ, List, [], ◌∷◌, length, get_or, Option, Some, None, Result, Ok, Err, IfNone}
+use Rattle.std.proofs.Common.{◌≡◌, ℕ, ◌+◌, ◌<◌, ◌≤◌, arith, refl, ap, subst, ◌∙◌, ℤ, List, [], ◌∷◌, length, get_or, Option, Some, None, Result, Ok, Err, IfNone}
 use Rattle.holiday_calendars.specs.declared.calendars.Calendar.{Calendar}
 use Rattle.curve_terms.specs.declared.terms.Helper.{Helper}
 use Rattle.curve_bootstrap.specs.declared.faults.HelperFault.{HelperFault}

@@ -1,5 +1,5 @@
 -- Lemmas on the excess of a helper and on its node.
-use Rattle.std.proofs.Common.{◌≡◌, ℕ, zero, suc, ◌+◌, ◌*◌, ◌^◌, ◌<◌, ◌≤◌, arith, refl, sym, ap, subst, ◌∙◌, ℤ, pos, negsuc, neg_ℤ, ◌+ℤ◌, ◌-ℤ◌, ◌*ℤ◌, ◌≤ℤ◌, ◌<ℤ◌, int_le, int_lt, nat_le, true, false, Bool, ◌||◌, ◌&&◌, List, [], ◌∷◌, ◌++◌, Option, Some, None, Result, Ok, Err, inl, inr, if◌then◌else◌, unsigned_abs, length, take, drop, length-take, length-drop, get_or-take, get_or-drop, take-append-drop}
+use Rattle.std.proofs.Common.{◌≡◌, ℕ, zero, suc, ◌+◌, ◌*◌, ◌^◌, ◌<◌, ◌≤◌, arith, refl, sym, ap, subst, ◌∙◌, ℤ, pos, negsuc, neg_ℤ, ◌+ℤ◌, ◌-ℤ◌, ◌*ℤ◌, ◌≤ℤ◌, ◌<ℤ◌, int_le, int_lt, nat_le, true, false, Bool, ◌||◌, List, [], ◌∷◌, ◌++◌, Option, Some, None, Result, Ok, Err, inl, inr, if◌then◌else◌, unsigned_abs, length, take, drop, length-take, length-drop, get_or-take, get_or-drop, take-append-drop}
 use Rattle.std.proofs.lemmas.Int.{ints, by_lt_z}
 use Rattle.std.proofs.Math.Nat.{mul-le-mul_left}
 use Rattle.std.proofs.Math.IntN.{suc_ℤ, suc_ℤ-*ℤ, *ℤ_comm, *ℤ-zero}
@@ -15,7 +15,7 @@ use Rattle.curve_bootstrap.specs.declared.coupons.Coupon.{Coupon}
 use Rattle.curve_bootstrap.specs.declared.faults.HelperFault.{HelperFault}
 use Rattle.curve_bootstrap.specs.declared.faults.HelperFault.TheVariants.{Pillar, RateRange, Negative, Discount}
 use Rattle.curve_bootstrap.specs.Coupon.{total, parts_of, AreAfter, AreUpTo, AreParts, AreCoupons}
-use Rattle.curve_bootstrap.specs.Node.{excess, trial, value_of, last_of, or_zero, whole, least_where, least_factor, root_or_fault, is_negative_sum, node_of}
+use Rattle.curve_bootstrap.specs.Node.{excess, value_of, last_of, or_zero, whole, least_where, least_factor, root_or_fault, is_negative_sum, node_of}
 use Rattle.curve_bootstrap.specs.Split.{settled_of, open_of, split_excess, IsRoot}
 use Rattle.curve_bootstrap.proofs.SumLemmas.{total_both}
 

@@ -1,6 +1,5 @@
 -- Worked rows, by QuantLib and by hand, that the definitions give.
-use Rattle.std.proofs.Common.{◌≡◌, ◌∷◌, [], refl, sym, pos, negsuc, neg_ℤ, arith, Ok, Err}
-use Rattle.std.proofs.lemmas.Int.{ints}
+use Rattle.std.proofs.Common.{◌≡◌, ◌∷◌, [], refl, pos, neg_ℤ, Err}
 use Rattle.curve_points.specs.Curve.{origin}
 use Rattle.curve_points.specs.Point.{beyond}
 use Rattle.curve_bootstrap.specs.declared.faults.HelperFault.TheVariants.{Negative, Pillar, RateRange}

@@ -1,5 +1,5 @@
 -- Lemmas on the schedule of a swap whose terms are in range.
-use Rattle.std.proofs.Common.{◌≡◌, ℕ, zero, suc, ◌+◌, ◌-◌, ◌*◌, ◌/◌, ◌^◌, ◌<◌, ◌≤◌, arith, refl, sym, ap, subst, ◌∙◌, ◌⊎◌, inl, inr, ℤ, pos, negsuc, ◌+ℤ◌, ◌-ℤ◌, ◌*ℤ◌, ◌<ℤ◌, ◌≤ℤ◌, unsigned_abs, true, false, Bool, ◌&&◌, not, if◌then◌else◌, List, [], ◌∷◌, ◌++◌, length, length-append, Option, Some, None, Result, Ok, Err, w32, FitsSigned}
+use Rattle.std.proofs.Common.{◌≡◌, ℕ, zero, suc, ◌*◌, ◌/◌, ◌≤◌, arith, refl, sym, ap, subst, ◌∙◌, ◌⊎◌, inl, inr, ℤ, pos, negsuc, ◌+ℤ◌, ◌-ℤ◌, ◌*ℤ◌, ◌<ℤ◌, ◌≤ℤ◌, unsigned_abs, true, false, Bool, if◌then◌else◌, List, [], ◌++◌, length, length-append, Option, Some, None, Ok, Err, w32, FitsSigned}
 use Rattle.std.proofs.lemmas.Int.{ints}
 use Rattle.std.proofs.Math.Nat.{div-le_of_le-mul}
 use Rattle.std.specs.List.{cons_option, slice_get}
@@ -14,15 +14,15 @@ use Rattle.day_shift.specs.Month.{month_at}
 use Rattle.schedule_rules.specs.declared.plans.Plan.{Plan}
 use Rattle.schedule_rules.specs.declared.plans.Rule.TheVariants.{Backward}
 use Rattle.schedule_rules.specs.declared.faults.PlanFault.{PlanFault}
-use Rattle.schedule_rules.specs.declared.faults.PlanFault.TheVariants.{Collapsed, DateRange, Order, Tenor as TenorFault, Stub, TooMany, NoMemory}
+use Rattle.schedule_rules.specs.declared.faults.PlanFault.TheVariants.{Collapsed, DateRange, NoMemory}
 use Rattle.schedule_rules.specs.Step.{units_on, least_days, most_steps, step, steps_from}
 use Rattle.schedule_rules.specs.Raw.{rising, raw_days, raw_or_fault, named_days}
 use Rattle.schedule_rules.proofs.EndsLaw.{schedules_go_by_the_days}
 use Rattle.std.specs.Borrow.{Bor}
 use Rattle.holiday_calendars.specs.declared.calendars.Calendar.{Calendar}
 use Rattle.curve_terms.specs.declared.terms.Helper.{Helper}
-use Rattle.schedule_rules.specs.Terms.{fault_of_terms, is_tenor}
-use Rattle.schedule_rules.specs.Schedule.{schedule, dated, on_ok, adjusted_or_fault, rising_or_fault, each_of, adjusted_raw, ended_or_fault, ended}
+use Rattle.schedule_rules.specs.Terms.{fault_of_terms}
+use Rattle.schedule_rules.specs.Schedule.{schedule, on_ok, rising_or_fault, each_of, adjusted_raw, ended_or_fault, ended}
 use Rattle.schedule_rules.proofs.MoveLemmas.{moved-far_on, months_most}
 use Rattle.schedule_rules.proofs.RawLemmas.{length-put_most, few}
 use Rattle.curve_terms.specs.Terms.{IsOfMonths, CountsMonths}

@@ -1,5 +1,5 @@
 -- The curve of its terms (QuantLib's PiecewiseYieldCurve, DepositRateHelper and SwapRateHelper).
-use Rattle.std.specs.Prelude.{◌≡◌, ℕ, suc, Bool, false, ℤ, pos, List, [], ◌∷◌, ◌++◌, Option, Some, None, Result, Ok, Err}
+use Rattle.std.specs.Prelude.{◌≡◌, ℕ, suc, false, ℤ, pos, List, [], ◌∷◌, ◌++◌, Option, Some, None, Result, Ok, Err}
 use Rattle.day_number.specs.declared.tenors.Unit.TheVariants.{Days}
 use Rattle.day_number.specs.declared.tenors.Tenor.{Tenor}
 use Rattle.day_number.specs.declared.conventions.Convention.TheVariants.{Following}

@@ -1,5 +1,5 @@
 -- Reference days, coupons of helpers and refusals that are worked out by hand, with month ends and holidays.
-use Rattle.std.specs.Prelude.{◌≡◌, ℕ, Bool, true, false, List, [], ◌∷◌, Option, Some, None, Result, Ok, Err, ℤ, pos}
+use Rattle.std.specs.Prelude.{◌≡◌, ℕ, Bool, true, false, List, [], ◌∷◌, Option, Some, None, Ok, Err, ℤ, pos}
 use Rattle.day_number.specs.declared.conventions.Convention.{Convention}
 use Rattle.day_number.specs.declared.conventions.Convention.TheVariants.{Unadjusted, Following, Preceding, ModifiedFollowing}
 use Rattle.day_number.specs.declared.tenors.Unit.{Unit as TimeUnit}

@@ -1,5 +1,5 @@
 -- The node of a helper (QuantLib's IterativeBootstrap, in whole numbers).
-use Rattle.std.specs.Prelude.{◌*◌, ◌^◌, ◌≤◌, ℕ, zero, suc, ℤ, pos, neg_ℤ, ◌+ℤ◌, ◌-ℤ◌, ◌*ℤ◌, unsigned_abs, int_le, int_lt, nat_le, Bool, ◌&&◌, ◌||◌, if◌then◌else◌, List, [], ◌∷◌, ◌++◌, Option, Some, None, Result, Ok, Err}
+use Rattle.std.specs.Prelude.{◌*◌, ◌^◌, ℕ, zero, suc, ℤ, pos, neg_ℤ, ◌+ℤ◌, ◌-ℤ◌, ◌*ℤ◌, unsigned_abs, int_le, int_lt, nat_le, Bool, ◌&&◌, ◌||◌, if◌then◌else◌, List, [], ◌∷◌, ◌++◌, Option, Some, None, Result, Ok, Err}
 use Rattle.curve_points.specs.declared.curves.CurveNode.{CurveNode}
 use Rattle.curve_points.specs.Segment.{one, most}
 use Rattle.curve_points.specs.Point.{beyond}

@@ -1,4 +1,4 @@
-use Rattle.std.proofs.Common.{arith, ◌≡◌, ◌∙◌, sym, ap, ℤ, pos, Some, None, Option, false, to_z, of_z, w32, FitsSigned}
+use Rattle.std.proofs.Common.{arith, ◌≡◌, ◌∙◌, sym, ap, ℤ, pos, Some, false, to_z, of_z, w32, FitsSigned}
 use Rattle.std.proofs.lemmas.Int.{ints, to_z-of_z}
 use Rattle.holiday_calendars.specs.Calendar.{is_business_day}
 use Rattle.day_number.specs.declared.tenors.Unit.TheVariants.{Days}

@@ -1,4 +1,4 @@
-use Rattle.std.proofs.Common.{arith, ◌≡◌, ◌∙◌, ◌<◌, sym, ap, subst, length, List, [], ◌∷◌, ◌++◌, ◌<ℤ◌, Ok, Err}
+use Rattle.std.proofs.Common.{arith, ◌≡◌, ◌∙◌, ◌<◌, sym, ap, subst, length, List, [], ◌∷◌, ◌++◌, ◌<ℤ◌, Err}
 use Rattle.curve_points.specs.declared.curves.CurveNode.{CurveNode}
 use Rattle.curve_points.specs.Curve.{IsRisingFrom, origin}
 use Rattle.curve_bootstrap.specs.Node.{last_of}
@@ -6,7 +6,7 @@ use Rattle.curve_bootstrap.specs.Built.{coupons_of, node_by}
 use Rattle.curve_bootstrap.proofs.NodeLemmas.{rising_push, last_push}
 use Rattle.curve_bootstrap.proofs.GivenLemmas.{gives_by}
 use Rattle.curve_bootstrap.proofs.BuiltLemmas.{nodes_more, nodes_fault, nodes_done}
-use Rattle.curve_bootstrap.proofs.LedLemmas.{led_anyway, led_on, led_fault, led_all}
+use Rattle.curve_bootstrap.proofs.LedLemmas.{led_on, led_fault, led_all}
 use Rattle.curve_bootstrap.proofs.building.nodes_from.Goals as goal
 
 pub returns-clause-day : goal.returns-clause-day

@@ -1,4 +1,4 @@
-use Rattle.std.proofs.Common.{arith, ap, sym, ◌∙◌, ◌≡◌, ℤ, pos, ◌≤ℤ◌, Option, Some, subst, to_z, of_z, w32}
+use Rattle.std.proofs.Common.{arith, ap, sym, ◌∙◌, ◌≡◌, ℤ, pos, ◌≤ℤ◌, Some, w32}
 use Rattle.std.proofs.lemmas.Int.{ints, to_z-of_z}
 use Rattle.holiday_calendars.specs.Calendar.{is_business_day}
 use Rattle.day_shift.specs.Advanced.{advanced}

@@ -1,14 +1,11 @@
-use Rattle.std.proofs.Common.{Vec, Global, int_eq, ◌≡◌, ◌⊎◌, ◌∙◌, sym, ap, subst, length, List, Some, Result, Ok, Err}
+use Rattle.std.proofs.Common.{Vec, Global, int_eq, ◌≡◌, ◌⊎◌, ◌∙◌, sym, ap, List, Ok, Err}
 use Rattle.holiday_calendars.specs.Calendar.{is_business_day}
-use Rattle.day_shift.proofs.OpenLemmas.{business_days_stay}
-use Rattle.schedule_rules.specs.declared.faults.PlanFault.{PlanFault}
 use Rattle.schedule_rules.specs.declared.faults.PlanFault.TheVariants.{NoMemory}
 use Rattle.schedule_rules.specs.Schedule.{schedule}
-use Rattle.schedule_rules.specs.Step.{units_on}
 use Rattle.schedule_rules.proofs.EndsLaw.{schedules_go_by_the_days}
 use Rattle.curve_bootstrap.specs.declared.coupons.Coupon.{Coupon}
 use Rattle.curve_bootstrap.specs.Coupon.{AreCoupons}
-use Rattle.curve_bootstrap.specs.Built.{plan_of, swap_to, swap_over, periods, end_of}
+use Rattle.curve_bootstrap.specs.Built.{plan_of, swap_over, periods, end_of}
 use Rattle.curve_bootstrap.proofs.CouponLemmas.{periods_are}
 use Rattle.curve_bootstrap.proofs.GivenLemmas.{gives_by, given_fits, gives_fault}
 use Rattle.curve_bootstrap.proofs.SwapLemmas.{IsSwapPlan, swap_plan, comes, fault_by, not_memory, swap_due, first_there}

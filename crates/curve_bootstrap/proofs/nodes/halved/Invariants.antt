@@ -1,4 +1,4 @@
-use Rattle.std.proofs.Common.{◌≡◌, pos, ◌≤ℤ◌, ◌<ℤ◌, ◌-ℤ◌, unsigned_abs}
+use Rattle.std.proofs.Common.{pos, ◌≤ℤ◌, ◌<ℤ◌, ◌-ℤ◌, unsigned_abs}
 use Rattle.curve_points.specs.Segment.{most}
 use Rattle.curve_bootstrap.specs.Split.{split_excess}
 use Rattle.curve_bootstrap.proofs.nodes.halved.Given as goal

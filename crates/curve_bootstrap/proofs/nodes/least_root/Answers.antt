@@ -1,4 +1,4 @@
-use Rattle.std.proofs.Common.{arith, ◌∙◌, ℤ, pos, ◌≡◌, ◌-ℤ◌, ◌≤ℤ◌, ◌<ℤ◌, FitsSigned, subst, to_z, of_z}
+use Rattle.std.proofs.Common.{arith, ◌∙◌, ℤ, pos, ◌≤ℤ◌, ◌<ℤ◌, FitsSigned, subst}
 use mir.Syntax.{w128}
 use Rattle.std.proofs.lemmas.Int.{ints, to_z-of_z}
 use Rattle.curve_points.specs.Segment.{most}

@@ -1,13 +1,12 @@
-use Rattle.std.proofs.Common.{arith, refl, sym, ap, subst, ◌∙◌, ◌≡◌, ◌≤◌, ◌<◌, ◌^◌, ℕ, ℤ, pos, ◌+ℤ◌, ◌≤ℤ◌, ◌<ℤ◌, Some, None, Ok, Err, to_z, of_z, FitsSigned, unsigned_abs, nat_le, int_le, true, false}
+use Rattle.std.proofs.Common.{arith, sym, ap, subst, ◌∙◌, ◌≡◌, ◌≤◌, ◌<◌, ◌^◌, ℕ, ℤ, pos, ◌≤ℤ◌, ◌<ℤ◌, Some, None, Ok, Err, to_z, of_z, FitsSigned, unsigned_abs, nat_le, int_le, true, false}
 use mir.Syntax.{w128}
 use Rattle.std.proofs.lemmas.Int.{ints, to_z-of_z}
 use Rattle.std.proofs.lemmas.Bool.{le-leb, lt-leb}
 use Rattle.curve_bootstrap.specs.declared.faults.HelperFault.TheVariants.{Discount}
-use Rattle.curve_bootstrap.specs.Coupon.{total, parts_of, AreCoupons}
+use Rattle.curve_bootstrap.specs.Coupon.{total, parts_of}
 use Rattle.curve_bootstrap.specs.Node.{node_of, excess, last_of, is_negative_sum, root_or_fault}
 use Rattle.std.proofs.Common.{List, Option, Result, Bool, suc}
 use Rattle.curve_points.specs.declared.curves.CurveNode.{CurveNode}
-use Rattle.curve_points.specs.Curve.{IsRisingFrom}
 use Rattle.curve_bootstrap.specs.declared.coupons.Coupon.{Coupon}
 use Rattle.curve_bootstrap.specs.declared.faults.HelperFault.{HelperFault}
 use Rattle.curve_bootstrap.specs.Split.{settled_of, split_excess, IsRoot}

@@ -1,7 +1,7 @@
 use Rattle.std.proofs.Common.{arith, to_z, of_z}
 use mir.Syntax.{w128}
 use Rattle.std.proofs.lemmas.Int.{ints}
-use Rattle.curve_bootstrap.specs.Split.{settled_of, open_of}
+use Rattle.curve_bootstrap.specs.Split.{open_of}
 use Rattle.curve_bootstrap.proofs.SumLemmas.{sum_through}
 use Rattle.curve_bootstrap.proofs.sums.open_total.Goals as goal
 

@@ -1,4 +1,4 @@
-use Rattle.std.proofs.Common.{arith, to_z, of_z}
+use Rattle.std.proofs.Common.{arith, to_z}
 use mir.Syntax.{w128}
 use Rattle.std.proofs.lemmas.Int.{ints}
 use Rattle.curve_bootstrap.specs.Coupon.{parts_of}

@@ -1,4 +1,3 @@
-use Rattle.std.proofs.Common.{sym}
 use Rattle.curve_points.proofs.SeenLemmas.{later_by, number_at, none_more}
 use Rattle.curve_points.proofs.seen.first_outside.Goals as goal
 

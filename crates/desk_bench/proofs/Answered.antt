@@ -13,8 +13,6 @@ use Rattle.curve_points.specs.declared.seen.ImpliedFault.TheVariants as implied
 use Rattle.curve_bootstrap.specs.Built as due
 use Rattle.curve_bootstrap.specs.declared.faults.BuildFault.{BuildFault}
 use Rattle.curve_bootstrap.specs.declared.faults.BuildFault.TheVariants as build
-use Rattle.desk_terms.specs.declared.bench.BenchFault.{BenchFault}
-use Rattle.desk_terms.specs.declared.bench.BenchFault.TheVariants.{Refused, NoMemory}
 use Rattle.desk_terms.specs.declared.value.Input as input
 use Rattle.desk_terms.specs.Bench.{Answers}
 use Rattle.desk_terms.specs.Reading.{Outcome, AreRates}

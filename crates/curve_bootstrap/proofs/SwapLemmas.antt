@@ -1,5 +1,5 @@
 -- Lemmas on the schedule of a swap whose terms are in range.
-use Rattle.std.proofs.Common.{◌≡◌, ℕ, zero, suc, ◌*◌, ◌/◌, ◌≤◌, arith, refl, sym, ap, subst, ◌∙◌, ◌⊎◌, inl, inr, ℤ, pos, negsuc, ◌+ℤ◌, ◌-ℤ◌, ◌*ℤ◌, ◌<ℤ◌, ◌≤ℤ◌, unsigned_abs, true, false, Bool, if◌then◌else◌, List, [], ◌++◌, length, length-append, Option, Some, None, Ok, Err, w32, FitsSigned}
+use Rattle.std.proofs.Common.{◌≡◌, ℕ, zero, suc, ◌*◌, ◌/◌, ◌≤◌, arith, refl, sym, ap, subst, ◌∙◌, ◌⊎◌, inl, inr, ℤ, pos, negsuc, ◌+ℤ◌, ◌-ℤ◌, ◌*ℤ◌, ◌<ℤ◌, ◌≤ℤ◌, unsigned_abs, true, false, Bool, if◌then◌else◌, List, [], ◌++◌, length, length-append, Option, Some, None, is_some, Ok, Err, w32, FitsSigned}
 use Rattle.std.proofs.lemmas.Int.{ints}
 use Rattle.std.proofs.Math.Nat.{div-le_of_le-mul}
 use Rattle.std.specs.List.{cons_option, slice_get}
@@ -26,7 +26,9 @@ use Rattle.schedule_rules.specs.Schedule.{schedule, on_ok, rising_or_fault, each
 use Rattle.schedule_rules.proofs.MoveLemmas.{moved-far_on, months_most}
 use Rattle.schedule_rules.proofs.RawLemmas.{length-put_most, few}
 use Rattle.curve_terms.specs.Terms.{IsOfMonths, CountsMonths}
-use Rattle.curve_bootstrap.specs.Built.{Comes, plan_of, swap_to, swap_over}
+use Rattle.std.specs.Ordering.{int_eq}
+use Rattle.curve_bootstrap.specs.declared.faults.HelperFault.TheVariants as helper_fault
+use Rattle.curve_bootstrap.specs.Built.{Comes, plan_of, swap_to, swap_over, where_adjusted, swap_end}
 use Rattle.day_number.specs.declared.conventions.Convention.{Convention}
 use Rattle.holiday_calendars.specs.Calendar.{is_business_day}
 use Rattle.day_shift.specs.Business.{IsBusinessDay}
@@ -150,3 +152,49 @@ pub first_there : (business : ℤ → Bool) (convention : Convention) (b : Bool)
     → slice_get days 0 ≡ adjusted business (if b then convention else convention) reference → dates ≡ days → slice_get dates 0 ≡ Some reference
 first_there business convention b reference days dates open_there first same =
     ap (λ (ds : List ℤ). slice_get ds 0) same ∙ (first ∙ business_days_stay business (if b then convention else convention) reference open_there)
+
+-- one convention, whichever of two alike is taken
+alike : (business : ℤ → Bool) (convention : Convention) (b : Bool) (day : ℤ) → adjusted business (if b then convention else convention) day ≡ adjusted business convention day
+alike business convention true day = refl
+alike business convention false day = refl
+
+no_end_by : (o : Option (List ℤ)) (start : Option ℤ) → on_ok (rising_or_fault o) (λ days. ended_or_fault days start None) ≡ Err DateRange
+no_end_by None start = refl
+no_end_by (Some days) None = refl
+no_end_by (Some days) (Some start) = refl
+
+-- where the end is adjusted to no day there is no schedule
+no_end : (business : ℤ → Bool) (plan : Plan) → IsSwapPlan plan → adjusted_raw business plan plan.end ≡ None → schedule business plan ≡ Err DateRange
+unfolding schedule
+no_end business plan swap is =
+    let none = no_fault plan swap in
+    let raw : raw_or_fault plan ≡ Ok (raw_days plan) = few (raw_days plan) (raw_few plan swap) in
+    rw (none, raw, is) (no_end_by (each_of (adjusted_raw business plan) (raw_days plan)) (adjusted_raw business plan plan.start))
+
+kept_end : (adjusts : ℤ → Option ℤ) (found : Option ℤ) (end : ℤ) → Some end ≡ where_adjusted adjusts found → Some end ≡ found
+kept_end adjusts None end is = absurd cc
+kept_end adjusts (Some day) end is = by_test (is_some (adjusts day)) is where
+  by_test : (b : Bool) → Some end ≡ (if b then Some day else None) → Some end ≡ Some day
+  by_test true e = e
+  by_test false e = absurd cc
+
+-- the end of a swap is the day that its tenor leads to
+pub end_there : (calendar : Calendar) (reference : ℤ) (helper : Helper) (end : ℤ) → Some end ≡ swap_end calendar reference helper → Some end ≡ units_on helper.tenor.unit reference helper.tenor.count
+end_there calendar reference helper end is = kept_end (adjusted (is_business_day calendar) helper.conv) (units_on helper.tenor.unit reference helper.tenor.count) end is
+
+-- where it has no end it has no coupons
+pub no_coupons : (calendar : Calendar) (reference : ℤ) (helper : Helper) (every : Tenor) → IsDayNumber reference → IsOfMonths helper.tenor → IsOfMonths every
+    → swap_end calendar reference helper ≡ None → swap_to calendar reference helper every (units_on helper.tenor.unit reference helper.tenor.count) ≡ Err helper_fault.DateRange
+no_coupons calendar reference helper every day tenor often is = by_end (units_on helper.tenor.unit reference helper.tenor.count) refl is where
+  by_test : (end : ℤ) → units_on helper.tenor.unit reference helper.tenor.count ≡ Some end → (o : Option ℤ) → adjusted (is_business_day calendar) helper.conv end ≡ o
+      → (if is_some o then Some end else None) ≡ None → swap_to calendar reference helper every (Some end) ≡ Err helper_fault.DateRange
+  by_test end led (Some d) e none = absurd cc
+  by_test end led None e none =
+      let plan = plan_of calendar reference helper every end in
+      let raw : adjusted_raw (is_business_day calendar) plan end ≡ None = alike (is_business_day calendar) helper.conv (int_eq end end) end ∙ e in
+      ap (swap_over helper.counter) (no_end (is_business_day calendar) plan (swap_plan calendar reference helper every end day tenor often led) raw)
+
+  by_end : (o : Option ℤ) → units_on helper.tenor.unit reference helper.tenor.count ≡ o → where_adjusted (adjusted (is_business_day calendar) helper.conv) o ≡ None
+      → swap_to calendar reference helper every o ≡ Err helper_fault.DateRange
+  by_end None led none = refl
+  by_end (Some end) led none = by_test end led (adjusted (is_business_day calendar) helper.conv end) refl none

@@ -1,5 +1,5 @@
 -- The curve of its terms (QuantLib's PiecewiseYieldCurve, DepositRateHelper and SwapRateHelper).
-use Rattle.std.specs.Prelude.{◌≡◌, ℕ, suc, false, ℤ, pos, List, [], ◌∷◌, ◌++◌, Option, Some, None, Result, Ok, Err}
+use Rattle.std.specs.Prelude.{◌≡◌, ℕ, suc, false, ℤ, pos, List, [], ◌∷◌, ◌++◌, Option, Some, None, is_some, Result, Ok, Err, if◌then◌else◌}
 use Rattle.day_number.specs.declared.tenors.Unit.TheVariants.{Days}
 use Rattle.day_number.specs.declared.tenors.Tenor.{Tenor}
 use Rattle.day_number.specs.declared.conventions.Convention.TheVariants.{Following}
@@ -7,6 +7,7 @@ use Rattle.year_parts.specs.declared.counters.Counter.{Counter}
 use Rattle.day_counters.specs.Counter.{frac}
 use Rattle.holiday_calendars.specs.declared.calendars.Calendar.{Calendar}
 use Rattle.holiday_calendars.specs.Calendar.{is_business_day}
+use Rattle.day_shift.specs.Adjusted.{adjusted}
 use Rattle.day_shift.specs.Advanced.{advanced}
 use Rattle.schedule_rules.specs.Step.{units_on}
 use Rattle.schedule_rules.specs.declared.plans.Plan.{Plan}
@@ -96,11 +97,21 @@ coupons_by calendar reference helper None =
 coupons_by calendar reference helper (Some every) =
     swap_to calendar reference helper every (units_on helper.tenor.unit reference helper.tenor.count)
 
--- the day that a helper's tenor leads to: a deposit's end, and a swap's before it is adjusted
+-- a day where it is adjusted to one, and none where it is not
+abbrev pub where_adjusted : (ℤ → Option ℤ) → Option ℤ → Option ℤ
+where_adjusted adjusts None = None
+where_adjusted adjusts (Some day) = if is_some (adjusts day) then Some day else None
+
+-- the end of a swap before it is adjusted, where it is adjusted to a day
+abbrev pub swap_end : Calendar → ℤ → Helper → Option ℤ
+swap_end calendar reference helper =
+    where_adjusted (adjusted (is_business_day calendar) helper.conv) (units_on helper.tenor.unit reference helper.tenor.count)
+
+-- the day that a helper's tenor leads to: a deposit's end, or a swap's before it is adjusted
 abbrev pub led_by : Calendar → ℤ → Helper → Option Tenor → Option ℤ
 led_by calendar reference helper None =
     advanced (is_business_day calendar) helper.tenor.unit helper.conv helper.eom reference helper.tenor.count
-led_by calendar reference helper (Some every) = units_on helper.tenor.unit reference helper.tenor.count
+led_by calendar reference helper (Some every) = swap_end calendar reference helper
 
 -- the same of a helper that starts at a reference day
 abbrev pub led_to : Calendar → ℤ → Helper → Option ℤ

@@ -16,13 +16,14 @@ use crate::faults::HelperFault;
 use curve_terms::Helper;
 use day_counters::fraction;
 use day_number::{Day, Tenor, Unit, add_days, add_months};
-use day_shift::advance;
+use day_shift::{adjust, advance};
 use holiday_calendars::Calendar;
 use schedule_rules::{Plan, PlanFault, Rule, make};
 use std::alloc::Global;
 use year_parts::Counter;
 
-/// The coupons of a helper that starts at the reference day. That its tenor leads out of the range is told without memory.
+/// The coupons of a helper that starts at the reference day. That its tenor leads to no day of the range is told without
+/// memory.
 pub(crate) fn coupons_of(
     alloc: Global,
     calendar: &Calendar,
@@ -110,7 +111,7 @@ fn swap_coupons(
     ensures day { IfNone (due.led_by calendar.now reference helper.now (Some every)) (result ≡ Err HelperFault.DateRange) }
     ensures fits { IfOk result (λ cs. AreCoupons reference (due.end_of reference cs.items) cs.items) }
 {
-    let Some(end) = moved(reference, helper.tenor) else {
+    let Some(end) = swap_end(calendar, reference, helper) else {
         return Err(HelperFault::DateRange);
     };
     let plan = Plan {
@@ -142,6 +143,18 @@ fn refused_by(fault: PlanFault) -> HelperFault
         PlanFault::NoMemory => HelperFault::NoMemory,
         PlanFault::Order | PlanFault::Tenor | PlanFault::Stub | PlanFault::TooMany =>
             unreachable!(),
+    }
+}
+
+// The end of a swap, not adjusted, where it is adjusted to a day.
+fn swap_end(calendar: &Calendar, reference: Day, helper: &Helper) -> Option<Day>
+    requires { IsOfMonths helper.now.tenor }
+    ensures { result ≡ due.swap_end calendar.now reference helper.now }
+{
+    let end = moved(reference, helper.tenor)?;
+    match adjust(calendar, end, helper.conv) {
+        Ok(_) => Some(end),
+        Err(_) => None,
     }
 }
 

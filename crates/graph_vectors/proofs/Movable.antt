@@ -35,7 +35,7 @@ movable_moved old new graph graph2 holder target m change relinks fits = record 
 -- two sources and a holder
 first_graph : GraphView
 first_graph = with_node Forwarder
-    (with_node Source (with_node Source (record { nodes = []; subjects = []; sources = [] })))
+    (with_node Source (with_node Source (record { nodes = []; subjects = []; sources = []; noticed = [] })))
 
 source_live : (t : ℕ) → t < 2 → IsLive first_graph t
 unfolding first_graph
@@ -52,7 +52,7 @@ unfolding first_graph
 holder_free t a = a
 
 pub movable_first : (g0 g1 g2 g3 : GraphView) (old new : List (Option Link)) (holder : ℕ)
-    → g0 ≡ record { nodes = []; subjects = []; sources = [] }
+    → g0 ≡ record { nodes = []; subjects = []; sources = []; noticed = [] }
     → g1 ≡ with_node Source g0 → g2 ≡ with_node Source g1 → g3 ≡ with_node Forwarder g2 → holder ≡ length g2.nodes
     → ChangesAt old new holder (Some (record { target = None })) → Fits new g3 → IsMovable new g3 holder
 unfolding first_graph
@@ -64,11 +64,11 @@ movable_first g0 g1 g2 g3 old new holder e0 e1 e2 e3 at change fits = record {
   only = λ t a. absurd (holder_free t (subst (λ (g : GraphView). IsPair g t 2) graph (subst (IsPair g3 t) number a)));
 }
   where
-    second : g2 ≡ with_node Source (with_node Source (record { nodes = []; subjects = []; sources = [] }))
+    second : g2 ≡ with_node Source (with_node Source (record { nodes = []; subjects = []; sources = []; noticed = [] }))
     second = e2 ∙ ap (with_node Source) (e1 ∙ ap (with_node Source) e0)
 
     graph : g3 ≡ with_node Forwarder
-        (with_node Source (with_node Source (record { nodes = []; subjects = []; sources = [] })))
+        (with_node Source (with_node Source (record { nodes = []; subjects = []; sources = []; noticed = [] })))
     graph = e3 ∙ ap (with_node Forwarder) second
 
     number : holder ≡ 2

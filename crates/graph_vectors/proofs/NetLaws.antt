@@ -48,9 +48,9 @@ live_nodes old new same live o low = subst (λ (n : List (Option Node)). IsSome 
 
 -- a notice
 pub live_told : (old new : GraphView) → Tells old new → AreLive old → AreLive new
-live_told old new tells live o low = elim (tells.node o) [
-  | inl h ↦ subst IsSome (sym h.1) (some_unsettled (node_at old o) (live o (subst (λ (n : ℕ). o < n) tells.len low)))
-  | inr h ↦ subst IsSome (sym h.1) (live o (subst (λ (n : ℕ). o < n) tells.len low))
+live_told old new tells live o low = elim (tells.settles.node o) [
+  | inl h ↦ subst IsSome (sym h.1) (some_unsettled (node_at old o) (live o (subst (λ (n : ℕ). o < n) tells.settles.len low)))
+  | inr h ↦ subst IsSome (sym h.1) (live o (subst (λ (n : ℕ). o < n) tells.settles.len low))
 ]
 
 -- other flags

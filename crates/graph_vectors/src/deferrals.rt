@@ -124,8 +124,8 @@ fn change(held: &mut Deferral, verb: &str, node: ObjId) -> Option<bool> {
     Some(true)
 }
 
-// The flags of a lazy node.
-fn set(graph: &mut Graph, node: ObjId, flags: Flags) -> Option<bool> {
+/// The flags of a lazy node.
+pub(crate) fn set(graph: &mut Graph, node: ObjId, flags: Flags) -> Option<bool> {
     if !graph.is_lazy(node) {
         return None;
     }
@@ -133,8 +133,8 @@ fn set(graph: &mut Graph, node: ObjId, flags: Flags) -> Option<bool> {
     Some(true)
 }
 
-// The flags after a step.
-fn flags_by(verb: &str, flags: Flags) -> Option<Flags> {
+/// The flags after a step.
+pub(crate) fn flags_by(verb: &str, flags: Flags) -> Option<Flags> {
     match verb {
         "freeze" => Some(Flags {
             frozen: true,
@@ -167,7 +167,8 @@ fn node_of(name: &str) -> Option<ObjId> {
     }
 }
 
-fn is_yes(word: &str) -> Option<bool> {
+/// Whether a word is `yes` and not `no`.
+pub(crate) fn is_yes(word: &str) -> Option<bool> {
     match word {
         "yes" => Some(true),
         "no" => Some(false),

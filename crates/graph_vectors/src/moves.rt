@@ -32,7 +32,7 @@ pub(crate) fn moves_agree(alloc: Global, rows: &str) -> Option<bool> {
 
 // Two sources, and a holder that is not linked.
 fn start(links: &mut Links, graph: &mut Graph) -> Result<ObjId, AllocError>
-    requires graph { graph.old ≡ record { nodes = []; subjects = []; sources = [] } }
+    requires graph { graph.old ≡ record { nodes = []; subjects = []; sources = []; noticed = [] } }
     requires links { (h : ℕ) → link_at links.old h ≡ None }
     ensures { IfOk result (λ holder. IsMovable links.new graph.new holder) }
 {

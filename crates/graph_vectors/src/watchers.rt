@@ -1,0 +1,161 @@
+// Rows `nodes: steps`, `;` between the steps: random steps over a graph with watchers, beside a plain model that keeps sets
+// (`tools/watcher_rows.py` writes them). The letters of a row are its nodes by number: s a source, f a forwarder, l a lazy
+// node, w a watcher.
+ghost use Rattle.std.specs.Prelude.{◌≡◌, ◌+◌, ◌<◌, length, OnOk};
+ghost use Rattle.observer_graph.specs.GraphView.{IsWhole};
+
+use crate::deferrals::{is_yes, set};
+use deferred_sources::Deferral;
+use desk_names::ObjId;
+use observer_graph::{Flags, Graph, Role};
+use std::alloc::{AllocError, Global};
+
+/// How many nodes a row has at most.
+const MOST_LETTERS: usize = 1_000;
+
+/// Whether each step of a row agrees. None where one is no step of its graph, or where memory is wanting.
+pub(crate) fn watchers_agree(alloc: Global, row: &str) -> Option<bool> {
+    let mut parts = row.split(": ");
+    let letters = parts.next()?;
+    let mut held = Deferral::new(net(alloc, letters.as_bytes())?);
+    let mut agree = true;
+    for step in parts.next()?.split(';') {
+        agree = step_agrees(&mut held, step)? && agree;
+    }
+    Some(agree)
+}
+
+// A graph of nodes in these roles.
+fn net(alloc: Global, letters: &[u8]) -> Option<Graph> {
+    if letters.len() > MOST_LETTERS {
+        return None;
+    }
+    let mut graph = Graph::new(alloc);
+    for letter in letters {
+        graph.add(role_of(*letter)?).ok()?;
+    }
+    Some(graph)
+}
+
+fn role_of(letter: u8) -> Option<Role> {
+    match letter {
+        b's' => Some(Role::Source),
+        b'f' => Some(Role::Forwarder),
+        b'l' => Some(Role::Lazy),
+        b'w' => Some(Role::Watcher),
+        _ => None,
+    }
+}
+
+// Whether a step agrees: a question by its answer, and a change by being done.
+fn step_agrees(held: &mut Deferral, step: &str) -> Option<bool> {
+    let mut words = step.split(' ');
+    let verb = words.next()?;
+    let first = words.next().unwrap_or("");
+    let second = words.next().unwrap_or("");
+    let third = words.next().unwrap_or("");
+    match verb {
+        "defer" => {
+            held.defer();
+            Some(held.is_on())
+        }
+        "resume" => {
+            held.resume();
+            Some(!held.is_on())
+        }
+        "told" => Some(held.graph().next_told() == node_or_none(first)?),
+        "link" | "unlink" | "pair" | "reaches" => {
+            pair_agrees(held, verb, node_of(first)?, node_of(second)?, third)
+        }
+        "watching" | "user" | "late" | "clear" | "current" => {
+            answer_agrees(held, verb, node_of(first)?, second)
+        }
+        _ => change(held, verb, node_of(first)?),
+    }
+}
+
+// Whether a question about two nodes, or a change of their pair, agrees.
+fn pair_agrees(
+    held: &mut Deferral,
+    verb: &str,
+    first: ObjId,
+    second: ObjId,
+    answer: &str,
+) -> Option<bool> {
+    let graph = held.graph();
+    if !graph.is_live(first) || !graph.is_live(second) {
+        return None;
+    }
+    match verb {
+        "link" => link(graph, first, second),
+        "unlink" => Some(graph.unwatch(first, second) == is_yes(answer)?),
+        "pair" => Some(graph.has_pair(first, second) == is_yes(answer)?),
+        _ => Some(graph.reaches(first, second) == is_yes(answer)?),
+    }
+}
+
+// A subject is observed by an observer that did not observe it; whether it is then.
+fn link(graph: &mut Graph, subject: ObjId, observer: ObjId) -> Option<bool> {
+    if !graph.is_live(subject) || !graph.is_live(observer) {
+        return None;
+    }
+    if graph.has_pair(subject, observer) {
+        return Some(false);
+    }
+    graph.watch(subject, observer).ok()?;
+    Some(true)
+}
+
+// Whether a question about one node agrees.
+fn answer_agrees(held: &mut Deferral, verb: &str, node: ObjId, answer: &str) -> Option<bool> {
+    if !held.as_graph().is_live(node) {
+        return None;
+    }
+    match verb {
+        "watching" => Some(held.as_graph().has_subject(node) == is_yes(answer)?),
+        "user" => Some(held.as_graph().least_observer(node) == node_or_none(answer)?),
+        "late" => Some(held.late(node) == node_or_none(answer)?),
+        "clear" => Some(held.clear(node) == is_yes(answer)?),
+        _ => Some(held.as_graph().is_current(node) == is_yes(answer)?),
+    }
+}
+
+// A change of one node.
+fn change(held: &mut Deferral, verb: &str, node: ObjId) -> Option<bool> {
+    if !held.as_graph().is_live(node) {
+        return None;
+    }
+    match verb {
+        "change" => held.changed(node),
+        "forget" => held.forget(node),
+        "drop" => held.graph().remove(node),
+        _ => {
+            let flags = flags_by(verb, held.as_graph().flags(node))?;
+            set(held.graph(), node, flags)?;
+        }
+    }
+    Some(true)
+}
+
+// The flags of a lazy node after a step.
+fn flags_by(verb: &str, flags: Flags) -> Option<Flags> {
+    if verb == "backward" {
+        return Some(Flags {
+            forward: false,
+            ..flags
+        });
+    }
+    crate::deferrals::flags_by(verb, flags)
+}
+
+fn node_of(word: &str) -> Option<ObjId> {
+    Some(ObjId(word.parse().ok()?))
+}
+
+// The node that an answer names; none for `none`.
+fn node_or_none(word: &str) -> Option<Option<ObjId>> {
+    if word == "none" {
+        return Some(None);
+    }
+    Some(Some(node_of(word)?))
+}

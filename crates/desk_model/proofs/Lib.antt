@@ -11,6 +11,7 @@ pub mod Flags
 pub mod KindsKept
 pub mod Lazy
 pub mod Locality
+pub mod PairSets
 pub mod Paths
 pub mod Recalc
 pub mod Registrations

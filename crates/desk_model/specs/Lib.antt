@@ -9,6 +9,7 @@ pub mod Links
 pub mod Market
 pub mod Next
 pub mod Recalc
+pub mod Registrations
 pub mod Sound
 pub mod State
 pub mod Told

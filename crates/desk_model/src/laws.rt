@@ -24,6 +24,7 @@ ghost use Rattle.desk_model.specs.Laws.{
   UsesAreLocal,
   WalksAreLeast,
 };
+ghost use Rattle.desk_model.specs.Registrations.{RegistrationsAreASet};
 
 /// No bound of a recursion above the number of objects matters: neither to prices afresh and to what is seen, nor to
 /// what an input gives, nor to what an ask computes.
@@ -37,6 +38,11 @@ pub fn no_bound_matters()
 /// What is late, clear, near, reached and told is so by a path of edges, whatever its length.
 pub fn walks_find_paths()
     ensures { WalksAreLeast }
+{}
+
+/// Registrations are a set of pairs: each change of them changes who is registered with whom and nothing else.
+pub fn registrations_are_a_set()
+    ensures { RegistrationsAreASet }
 {}
 
 /// The price afresh is the price over the prices afresh.

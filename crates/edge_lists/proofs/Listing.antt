@@ -1,5 +1,5 @@
 -- The pairs as lists of subjects, for callers.
-use Rattle.std.proofs.Common.{◌≡◌, inl, inr, ℕ, zero, suc, Bool, true, false, ◌⊎◌, List, [], ◌∷◌, ◌++◌, length, get_or, ◌+◌, ◌<◌, ◌≤◌, arith, refl, sym, ap, ◌∙◌, subst, Option, Some, None, cond, eqb}
+use Rattle.std.proofs.Common.{◌≡◌, inl, inr, ℕ, zero, suc, Bool, true, false, ◌⊎◌, List, [], ◌∷◌, ◌++◌, length, get_or, ◌<◌, ◌≤◌, arith, refl, sym, ap, ◌∙◌, subst, Option, Some, None, cond, eqb}
 use Rattle.std.specs.Prelude.{◌↔◌, IsSome, IfSome}
 use Rattle.std.proofs.lemmas.Bool.{eqb-true, eq-eqb, cases_eq}
 use Rattle.std.proofs.lemmas.List.{length-append, get_or_append_left, get_or_past}

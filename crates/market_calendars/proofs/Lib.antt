@@ -1,3 +1,4 @@
 mod ByText
 mod Counts
 mod CopyLists
+mod KeyRows

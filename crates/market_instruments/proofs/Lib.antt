@@ -2,3 +2,4 @@ mod PlanLemmas
 mod AppendLemmas
 mod KnownLemmas
 mod LimitLemmas
+mod KeyRows

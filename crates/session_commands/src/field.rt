@@ -27,14 +27,7 @@ impl Field {
     {
         match self {
             Field::Name(name) => Some(name),
-            Field::Nothing
-            | Field::Value(_)
-            | Field::Number(_)
-            | Field::Day(_)
-            | Field::Weight(_)
-            | Field::Engine(_)
-            | Field::Flag(_)
-            | Field::Action(_) => None,
+            _ => None,
         }
     }
 
@@ -43,14 +36,7 @@ impl Field {
     {
         match self {
             Field::Value(value) => Some(value),
-            Field::Nothing
-            | Field::Name(_)
-            | Field::Number(_)
-            | Field::Day(_)
-            | Field::Weight(_)
-            | Field::Engine(_)
-            | Field::Flag(_)
-            | Field::Action(_) => None,
+            _ => None,
         }
     }
 
@@ -59,14 +45,7 @@ impl Field {
     {
         match self {
             Field::Number(units) => Some(units),
-            Field::Nothing
-            | Field::Name(_)
-            | Field::Value(_)
-            | Field::Day(_)
-            | Field::Weight(_)
-            | Field::Engine(_)
-            | Field::Flag(_)
-            | Field::Action(_) => None,
+            _ => None,
         }
     }
 
@@ -75,14 +54,7 @@ impl Field {
     {
         match self {
             Field::Day(day) => Some(day),
-            Field::Nothing
-            | Field::Name(_)
-            | Field::Value(_)
-            | Field::Number(_)
-            | Field::Weight(_)
-            | Field::Engine(_)
-            | Field::Flag(_)
-            | Field::Action(_) => None,
+            _ => None,
         }
     }
 
@@ -91,14 +63,7 @@ impl Field {
     {
         match self {
             Field::Weight(weight) => Some(weight),
-            Field::Nothing
-            | Field::Name(_)
-            | Field::Value(_)
-            | Field::Number(_)
-            | Field::Day(_)
-            | Field::Engine(_)
-            | Field::Flag(_)
-            | Field::Action(_) => None,
+            _ => None,
         }
     }
 
@@ -107,14 +72,7 @@ impl Field {
     {
         match self {
             Field::Engine(engine) => Some(engine),
-            Field::Nothing
-            | Field::Name(_)
-            | Field::Value(_)
-            | Field::Number(_)
-            | Field::Day(_)
-            | Field::Weight(_)
-            | Field::Flag(_)
-            | Field::Action(_) => None,
+            _ => None,
         }
     }
 
@@ -123,14 +81,7 @@ impl Field {
     {
         match self {
             Field::Flag(flag) => Some(flag),
-            Field::Nothing
-            | Field::Name(_)
-            | Field::Value(_)
-            | Field::Number(_)
-            | Field::Day(_)
-            | Field::Weight(_)
-            | Field::Engine(_)
-            | Field::Action(_) => None,
+            _ => None,
         }
     }
 
@@ -139,14 +90,7 @@ impl Field {
     {
         match self {
             Field::Action(action) => Some(action),
-            Field::Nothing
-            | Field::Name(_)
-            | Field::Value(_)
-            | Field::Number(_)
-            | Field::Day(_)
-            | Field::Weight(_)
-            | Field::Engine(_)
-            | Field::Flag(_) => None,
+            _ => None,
         }
     }
 }

@@ -1,61 +1,53 @@
-use Rattle.std.proofs.Common.{ℕ, List, refl}
-use Rattle.desk_terms.specs.declared.asked.Mark.{Mark}
+use Rattle.std.proofs.Common.{subst}
+use Rattle.std.specs.Prelude.{IfOk, OnErr}
+use Rattle.desk_terms.specs.declared.asked.Asked.{Asked}
 use Rattle.desk_terms.specs.Reading.{Calc}
-use Rattle.desk_model.specs.State.{shows}
-use Rattle.price_report.specs.Line.{asked_line}
-use Rattle.session_model.specs.declared.act.Act.TheVariants as act
 use Rattle.session_model.specs.Standing.{Standing}
-use Rattle.session_model.specs.Turn.{step, effect_of}
-use Rattle.session_core.specs.Pricing.{asking}
-use Rattle.session_core.proofs.Turns.{priced_does, priced_stops, priced_unwritten, asked_line_some, on_err, on_ok, on_err_of}
-use Rattle.session_core.proofs.session.Session.ask.Goals as goal
+use Rattle.session_core.specs.Pricing.{asking, Prices, StopsShort}
+use Rattle.session_core.proofs.Naming.{names_alike}
+use Rattle.session_core.proofs.Turns.{on_err_of}
+use Rattle.session_core.proofs.Priced.{if_ok, ask_prices, ask_stops, ask_alike}
+use Rattle.session_core.proofs.session.Session.price.Goals as goal
 
-pub returns-in_err-asked-clause-stops : goal.returns-in_err-asked-clause-stops
-unfolding effect_of
-returns-in_err-asked-clause-stops g c =
-    let calc : Calc = g.B.Bench.calc c.args.bench.now in
-    let p : Standing = c.args.self.now in
-    let o : ℕ = c.args.object in
-    on_err c.from_residual.result
-    (priced_stops (asking calc o p.state) o (effect_of calc p (act.Ask c.args.name c.args.object)) p
-    c.price.new.self c.args.lines.now.items c.args.lines.now.items
-    (g.B.Bench.count c.args.bench.now) (g.B.Bench.count c.price.new.bench)
-    (g.B.Bench.log c.args.bench.now) (g.B.Bench.log c.price.new.bench) refl
-    c.in_err-asked.ensures.stops refl)
+pub invariant_of-self : goal.invariant_of-self
+invariant_of-self g c =
+    names_alike _ c.self.inside.of_name.items c.self.inside.live c.ask.new.self c.self.inside.stopped
+    (ask_alike (g.B.Bench.calc c.args.bench.now) c.args.object c.self.inside.desk c.ask.new.self
+    (g.B.Bench.count c.args.bench.now) (g.B.Bench.count c.ask.new.bench) (g.B.Bench.log c.args.bench.now)
+    (g.B.Bench.log c.ask.new.bench) c.ask.result c.ask.ensures.asks c.ask.ensures.stops) c.self.invariant
 
-pub report-requires : goal.report-requires
-report-requires g c =
+pub returns-clause-prices : goal.returns-clause-prices
+returns-clause-prices g c =
     let calc : Calc = g.B.Bench.calc c.args.bench.now in
-    let p : Standing = c.args.self.now in
-    let o : ℕ = c.args.object in
-    record { given = (shows calc p.state o, c.in_ok-asked.ensures.prices.shown) }
-
-pub returns-clause-steps : goal.returns-clause-steps
-unfolding effect_of step
-returns-clause-steps g c =
-    let calc : Calc = g.B.Bench.calc c.args.bench.now in
-    let p : Standing = c.args.self.now in
-    let o : ℕ = c.args.object in
-    on_ok c.report.result
-    (priced_does (asking calc o p.state) o (effect_of calc p (act.Ask c.args.name c.args.object)) p
-    c.price.new.self c.args.lines.now.items c.report.new.lines.items
-    (g.B.Bench.count c.args.bench.now) (g.B.Bench.count c.price.new.bench)
-    (g.B.Bench.log c.args.bench.now) (g.B.Bench.log c.price.new.bench) refl
-    (λ (names : List (List ℕ)) (of_object : List ℕ) (mark : Mark) (n : ℕ).
-    asked_line names of_object c.args.name (shows calc p.state o) mark n)
-    c.in_ok-asked.asked c.in_ok-asked.ensures.prices refl refl)
-    (c.report.ensures.ok (shows calc p.state o) c.in_ok-asked.ensures.prices.shown)
+    let p : Standing = record {
+      state = c.self.inside.desk;
+      names = c.self.inside.names;
+      of_object = c.self.inside.of_object;
+      actions = c.self.inside.actions;
+      stopped = c.self.inside.stopped;
+    } in
+    subst (λ (q : Standing). IfOk c.ask.result (λ (answer : Asked). Prices (asking calc c.args.object q.state)
+    c.args.object q (record p { state = c.ask.new.self }) answer (g.B.Bench.count c.args.bench.now)
+    (g.B.Bench.count c.ask.new.bench) (g.B.Bench.log c.args.bench.now) (g.B.Bench.log c.ask.new.bench)))
+    c.self.view_is
+    (if_ok c.ask.result (ask_prices calc c.args.object p c.ask.new.self (g.B.Bench.count c.args.bench.now)
+    (g.B.Bench.count c.ask.new.bench) (g.B.Bench.log c.args.bench.now) (g.B.Bench.log c.ask.new.bench))
+    c.ask.ensures.asks)
 
 pub returns-clause-stops : goal.returns-clause-stops
-unfolding effect_of step
 returns-clause-stops g c =
     let calc : Calc = g.B.Bench.calc c.args.bench.now in
-    let p : Standing = c.args.self.now in
-    let o : ℕ = c.args.object in
-    on_err_of c.report.result
-    (priced_unwritten (asking calc o p.state) o (effect_of calc p (act.Ask c.args.name c.args.object)) p
-    c.price.new.self c.args.lines.now.items c.report.new.lines.items
-    (g.B.Bench.count c.args.bench.now) (g.B.Bench.count c.price.new.bench)
-    (g.B.Bench.log c.args.bench.now) (g.B.Bench.log c.price.new.bench) refl
-    c.in_ok-asked.asked c.in_ok-asked.ensures.prices refl (asked_line_some _ _ _ _ _ _))
-    c.report.ensures.err
+    let p : Standing = record {
+      state = c.self.inside.desk;
+      names = c.self.inside.names;
+      of_object = c.self.inside.of_object;
+      actions = c.self.inside.actions;
+      stopped = c.self.inside.stopped;
+    } in
+    subst (λ (q : Standing). OnErr c.ask.result (StopsShort (asking calc c.args.object q.state) q
+    (record p { state = c.ask.new.self }) (g.B.Bench.count c.args.bench.now) (g.B.Bench.count c.ask.new.bench)
+    (g.B.Bench.log c.args.bench.now) (g.B.Bench.log c.ask.new.bench)))
+    c.self.view_is
+    (on_err_of c.ask.result (ask_stops calc c.args.object p c.ask.new.self (g.B.Bench.count c.args.bench.now)
+    (g.B.Bench.count c.ask.new.bench) (g.B.Bench.log c.args.bench.now) (g.B.Bench.log c.ask.new.bench))
+    c.ask.ensures.stops)

@@ -1,61 +1,74 @@
-use Rattle.std.proofs.Common.{ℕ, List, refl}
-use Rattle.desk_terms.specs.declared.asked.Mark.{Mark}
+use Rattle.std.proofs.Common.{sym, subst}
 use Rattle.desk_terms.specs.Reading.{Calc}
-use Rattle.desk_model.specs.State.{now}
-use Rattle.price_report.specs.Line.{asked_line}
-use Rattle.session_model.specs.declared.act.Act.TheVariants as act
 use Rattle.session_model.specs.Standing.{Standing}
-use Rattle.session_model.specs.Turn.{step, effect_of}
-use Rattle.session_core.specs.Pricing.{recalculating}
-use Rattle.session_core.proofs.Turns.{priced_does, priced_stops, priced_unwritten, asked_line_some, on_err, on_ok, on_err_of}
-use Rattle.session_core.proofs.session.Session.recalc.Goals as goal
+use Rattle.session_core.specs.Allowed.{MayRecalc}
+use Rattle.session_core.specs.Pricing.{recalculating, Prices, StopsShort}
+use Rattle.session_core.proofs.Naming.{names_alike}
+use Rattle.session_core.proofs.Alike.{stored_alike, recalced_alike}
+use Rattle.session_core.proofs.Turns.{on_err}
+use Rattle.session_core.proofs.Priced.{recalc_prices, recalc_stops, recalc_done, recalc_early}
+use Rattle.session_core.proofs.session.Session.reprice.Goals as goal
+
+pub unreachable-requires : goal.unreachable-requires
+unreachable-requires g c =
+    let calc : Calc = g.B.Bench.calc c.args.bench.now in
+    let may = subst (λ (p : Standing). MayRecalc p c.args.object) (sym c.self.view_is) c.requires.may in
+    recalc_early calc c.args.object c.self.inside.desk c.recalc.new.self (g.B.Bench.count c.args.bench.now)
+    (g.B.Bench.count c.recalc.new.bench) (g.B.Bench.log c.args.bench.now) (g.B.Bench.log c.recalc.new.bench)
+    c.in_ok-asked.field-0 c.in-Deferred.field-0 c.in-Deferred.is may.early c.in_ok-asked.ensures.ends
+
+pub invariant_of-self : goal.invariant_of-self
+invariant_of-self g c =
+    let stops = c.in_err-asked.ensures.stops in
+    names_alike _ c.self.inside.of_name.items c.self.inside.live c.recalc.new.self c.self.inside.stopped
+    (stored_alike c.self.inside.desk c.recalc.new.self stops.front stops.state) c.self.invariant
 
 pub returns-in_err-asked-clause-stops : goal.returns-in_err-asked-clause-stops
-unfolding effect_of
 returns-in_err-asked-clause-stops g c =
     let calc : Calc = g.B.Bench.calc c.args.bench.now in
-    let p : Standing = c.args.self.now in
-    let o : ℕ = c.args.object in
+    let p : Standing = record {
+      state = c.self.inside.desk;
+      names = c.self.inside.names;
+      of_object = c.self.inside.of_object;
+      actions = c.self.inside.actions;
+      stopped = c.self.inside.stopped;
+    } in
     on_err c.from_residual.result
-    (priced_stops (recalculating calc o p.state) o (effect_of calc p (act.Recalc c.args.name c.args.object)) p
-    c.reprice.new.self c.args.lines.now.items c.args.lines.now.items
-    (g.B.Bench.count c.args.bench.now) (g.B.Bench.count c.reprice.new.bench)
-    (g.B.Bench.log c.args.bench.now) (g.B.Bench.log c.reprice.new.bench) refl
-    c.in_err-asked.ensures.stops refl)
+    (subst (λ (q : Standing). StopsShort (recalculating calc c.args.object q.state) q
+    (record p { state = c.recalc.new.self }) (g.B.Bench.count c.args.bench.now)
+    (g.B.Bench.count c.recalc.new.bench) (g.B.Bench.log c.args.bench.now) (g.B.Bench.log c.recalc.new.bench))
+    c.self.view_is
+    (recalc_stops calc c.args.object p c.recalc.new.self (g.B.Bench.count c.args.bench.now)
+    (g.B.Bench.count c.recalc.new.bench) (g.B.Bench.log c.args.bench.now) (g.B.Bench.log c.recalc.new.bench)
+    c.in_err-asked.ensures.stops))
 
-pub report-requires : goal.report-requires
-report-requires g c =
+pub invariant_of-self-2 : goal.invariant_of-self-2
+invariant_of-self-2 g c =
     let calc : Calc = g.B.Bench.calc c.args.bench.now in
-    let p : Standing = c.args.self.now in
-    let o : ℕ = c.args.object in
-    record { given = (now calc p.state o, c.in_ok-asked.ensures.prices.shown) }
+    names_alike _ c.self.inside.of_name.items c.self.inside.live c.recalc.new.self c.self.inside.stopped
+    (recalced_alike calc c.self.inside.desk c.recalc.new.self c.args.object
+    (recalc_done calc c.args.object c.self.inside.desk c.recalc.new.self (g.B.Bench.count c.args.bench.now)
+    (g.B.Bench.count c.recalc.new.bench) (g.B.Bench.log c.args.bench.now) (g.B.Bench.log c.recalc.new.bench)
+    c.in_ok-asked.field-0 c.in-Done.asked c.in-Done.is c.in_ok-asked.ensures.ends).state)
+    c.self.invariant
 
-pub returns-clause-steps : goal.returns-clause-steps
-unfolding effect_of step
-returns-clause-steps g c =
+pub returns-clause-prices : goal.returns-clause-prices
+returns-clause-prices g c =
     let calc : Calc = g.B.Bench.calc c.args.bench.now in
-    let p : Standing = c.args.self.now in
-    let o : ℕ = c.args.object in
-    on_ok c.report.result
-    (priced_does (recalculating calc o p.state) o (effect_of calc p (act.Recalc c.args.name c.args.object)) p
-    c.reprice.new.self c.args.lines.now.items c.report.new.lines.items
-    (g.B.Bench.count c.args.bench.now) (g.B.Bench.count c.reprice.new.bench)
-    (g.B.Bench.log c.args.bench.now) (g.B.Bench.log c.reprice.new.bench) refl
-    (λ (names : List (List ℕ)) (of_object : List ℕ) (mark : Mark) (n : ℕ).
-    asked_line names of_object c.args.name (now calc p.state o) mark n)
-    c.in_ok-asked.asked c.in_ok-asked.ensures.prices refl refl)
-    (c.report.ensures.ok (now calc p.state o) c.in_ok-asked.ensures.prices.shown)
-
-pub returns-clause-stops : goal.returns-clause-stops
-unfolding effect_of step
-returns-clause-stops g c =
-    let calc : Calc = g.B.Bench.calc c.args.bench.now in
-    let p : Standing = c.args.self.now in
-    let o : ℕ = c.args.object in
-    on_err_of c.report.result
-    (priced_unwritten (recalculating calc o p.state) o (effect_of calc p (act.Recalc c.args.name c.args.object)) p
-    c.reprice.new.self c.args.lines.now.items c.report.new.lines.items
-    (g.B.Bench.count c.args.bench.now) (g.B.Bench.count c.reprice.new.bench)
-    (g.B.Bench.log c.args.bench.now) (g.B.Bench.log c.reprice.new.bench) refl
-    c.in_ok-asked.asked c.in_ok-asked.ensures.prices refl (asked_line_some _ _ _ _ _ _))
-    c.report.ensures.err
+    let p : Standing = record {
+      state = c.self.inside.desk;
+      names = c.self.inside.names;
+      of_object = c.self.inside.of_object;
+      actions = c.self.inside.actions;
+      stopped = c.self.inside.stopped;
+    } in
+    subst (λ (q : Standing). Prices (recalculating calc c.args.object q.state) c.args.object q
+    (record p { state = c.recalc.new.self }) c.in-Done.asked (g.B.Bench.count c.args.bench.now)
+    (g.B.Bench.count c.recalc.new.bench) (g.B.Bench.log c.args.bench.now) (g.B.Bench.log c.recalc.new.bench))
+    c.self.view_is
+    (recalc_prices calc c.args.object p c.recalc.new.self (g.B.Bench.count c.args.bench.now)
+    (g.B.Bench.count c.recalc.new.bench) (g.B.Bench.log c.args.bench.now) (g.B.Bench.log c.recalc.new.bench)
+    c.in-Done.asked
+    (recalc_done calc c.args.object c.self.inside.desk c.recalc.new.self (g.B.Bench.count c.args.bench.now)
+    (g.B.Bench.count c.recalc.new.bench) (g.B.Bench.log c.args.bench.now) (g.B.Bench.log c.recalc.new.bench)
+    c.in_ok-asked.field-0 c.in-Done.asked c.in-Done.is c.in_ok-asked.ensures.ends))

@@ -20,7 +20,8 @@ use Rattle.ask_walk.specs.declared.recalced.Recalced.TheVariants.{Deferred, Done
 use Rattle.ask_walk.specs.Asks as asks
 use Rattle.ask_walk.specs.Recalcs as recalcs
 use Rattle.session_model.specs.Standing.{Standing}
-use Rattle.session_core.specs.Pricing.{Pricing, asking, recalculating, Prices, StopsShort}
+use Rattle.session_model.specs.Pricing.{Pricing, asking, recalculating}
+use Rattle.session_core.specs.Pricing.{Prices, StopsShort}
 use Rattle.session_core.proofs.Naming.{none_some, AreAlike}
 use Rattle.session_core.proofs.Alike.{stored_alike, asked_alike}
 

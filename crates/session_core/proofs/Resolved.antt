@@ -27,6 +27,9 @@ use Rattle.session_commands.specs.Parts.{parts_of}
 use Rattle.session_commands.specs.Table.{row_of}
 use Rattle.session_model.specs.declared.act.Act.{Act}
 use Rattle.session_model.specs.declared.act.Act.TheVariants as act
+use Rattle.session_model.specs.declared.act.Change.TheVariants as change
+use Rattle.session_model.specs.declared.act.Growth.TheVariants as growth
+use Rattle.session_model.specs.declared.act.How.TheVariants as how
 use Rattle.session_model.specs.declared.place.Place.{Place}
 use Rattle.session_model.specs.declared.place.Place.TheVariants as place
 use Rattle.session_model.specs.Place.{takes_found}
@@ -191,73 +194,36 @@ module _ (p : Standing) where
       by None e = all e
       by (Some o) e = tt
 
-  roomy : (name : ℕ) (t : Terms) → (is_full p.state.market ≡ false → IsAllowed p (act.Make name t))
-      → AllAllowed (made p name t)
+  unless_allowed : (b : Bool) (why : Refusal) (a : Act) → (b ≡ false → IsAllowed p a) → AllAllowed (unless b why a)
   unfolding unless
-  roomy name t all = by (is_full p.state.market) refl
-    where
-      by : (b : Bool) → is_full p.state.market ≡ b
-          → AllAllowed (if b then Err refusal.TooMany else Ok (act.Make name t))
-      by true e = tt
-      by false e = all e
+  unless_allowed true why a all = tt
+  unless_allowed false why a all = all refl
 
-  opened : (x y : ℕ) (weight : ℤ) → (joins weight p.state.market x y ≡ false → IsAllowed p (act.Member x y weight))
-      → AllAllowed (unless (joins weight p.state.market x y) refusal.Cycle (act.Member x y weight))
-  unfolding unless
-  opened x y weight all = by (joins weight p.state.market x y) refl
-    where
-      by : (b : Bool) → joins weight p.state.market x y ≡ b
-          → AllAllowed (if b then Err refusal.Cycle else Ok (act.Member x y weight))
-      by true e = tt
-      by false e = all e
+  kept_allowed : (rate : Option ℤ) (a : Act) → (rate ≡ None → IsAllowed p a) → AllAllowed (unless_kept rate a)
+  unfolding unless_kept
+  kept_allowed None a all = all refl
+  kept_allowed (Some rate) a all = tt
 
-  uncycled : (x y : ℕ) → (closes p.state.market x y ≡ false → IsAllowed p (act.Link x (Some y)))
-      → AllAllowed (unless (closes p.state.market x y) refusal.Cycle (act.Link x (Some y)))
-  unfolding unless
-  uncycled x y all = by (closes p.state.market x y) refl
-    where
-      by : (b : Bool) → closes p.state.market x y ≡ b
-          → AllAllowed (if b then Err refusal.Cycle else Ok (act.Link x (Some y)))
-      by true e = tt
-      by false e = all e
+  used_allowed : (user : Option ℕ) (a : Act) → (user ≡ None → IsAllowed p a) → AllAllowed (unless_used user a)
+  unfolding unless_used
+  used_allowed None a all = all refl
+  used_allowed (Some user) a all = tt
+
+  late_allowed : (source : Option ℕ) (a : Act) → (source ≡ None → IsAllowed p a) → AllAllowed (unless_late source a)
+  unfolding unless_late
+  late_allowed None a all = all refl
+  late_allowed (Some source) a all = tt
 
   engages : (x : ℕ) (e : Option ℕ) → kind_at p.state.market x ≡ Some kind.Flows → AllAllowed (engaged p x e)
   engages x None is = record { instrument = is; engine = tt }
   engages x (Some e) is =
       finds engine e _ (λ y taken. record { instrument = is; engine = (taken_input _ wanted.Engine taken, tt) })
 
-  unkept : (x : ℕ) (day rate : ℤ) → (rate_at p.state.market x day ≡ None → IsAllowed p (act.Fixing x day rate))
-      → AllAllowed (unless_kept (rate_at p.state.market x day) (act.Fixing x day rate))
-  unfolding unless_kept
-  unkept x day rate all = by (rate_at p.state.market x day) refl
-    where
-      by : (r : Option ℤ) → rate_at p.state.market x day ≡ r → AllAllowed (unless_kept r (act.Fixing x day rate))
-      by None e = all e
-      by (Some kept) e = tt
-
-  unused : (x : ℕ) → (least_user p.state.market x ≡ None → IsAllowed p (act.Drop x))
-      → AllAllowed (unless_used (least_user p.state.market x) (act.Drop x))
-  unfolding unless_used
-  unused x all = by (least_user p.state.market x) refl
-    where
-      by : (r : Option ℕ) → least_user p.state.market x ≡ r → AllAllowed (unless_used r (act.Drop x))
-      by None e = all e
-      by (Some user) e = tt
-
-  unlate : (name x : ℕ) → (least_source p.state x ≡ None → IsAllowed p (act.Recalc name x))
-      → AllAllowed (unless_late (least_source p.state x) (act.Recalc name x))
-  unfolding unless_late
-  unlate name x all = by (least_source p.state x) refl
-    where
-      by : (r : Option ℕ) → least_source p.state x ≡ r → AllAllowed (unless_late r (act.Recalc name x))
-      by None e = all e
-      by (Some source) e = tt
-
   -- an object of these terms may be made under this name
   may_make : (name : ℕ) (t : Terms) → name < length p.names → AreInRange t
       → AreOfKind p.state.market (Some t) → object_named p name ≡ None → AllAllowed (made p name t)
   may_make name t named is inputs free =
-      roomy name t (λ room. record { named = named; free = free; room = room; ranged = is; inputs = inputs })
+      unless_allowed (is_full p.state.market) refusal.TooMany (act.Make name t) (λ room. record { named = named; free = free; room = room; ranged = is; inputs = inputs })
 
   derives : (name a b : ℕ) (minus : Bool) → name < length p.names → object_named p name ≡ None
       → AllAllowed (with_found (find quote_input p a)
@@ -278,7 +244,8 @@ module _ (p : Standing) where
       (λ x is. may_make name (terms.Stock x) known.first tt (taken_input _ wanted.QuoteInput is, tt) free))
   allowed (command.Composite name) known = untaken name _ (may_make name (terms.Composite []) known.first tt tt)
   allowed (command.Member k i weight) known =
-      finds place.Composite k _ (λ x is_composite. finds member i _ (λ y is_member. opened x y weight (λ clear. record {
+      finds place.Composite k _ (λ x is_composite. finds member i _ (λ y is_member. unless_allowed (joins weight p.state.market x y) refusal.Cycle
+      (act.Grow (growth.Member x y weight)) (λ clear. record {
         composite = taken_composite _ is_composite;
         member = taken_input _ wanted.Member is_member;
         opens = clear;
@@ -287,7 +254,8 @@ module _ (p : Standing) where
   allowed (command.Set q value) known = finds place.Quote q _ (λ x is. taken_quote _ is)
   allowed (command.Unset q) known = finds place.Quote q _ (λ x is. taken_quote _ is)
   allowed (command.Link h t) known =
-      finds place.Handle h _ (λ x is_handle. finds (target_of p.state.market x) t _ (λ y is. uncycled x y (λ clear. record {
+      finds place.Handle h _ (λ x is_handle. finds (target_of p.state.market x) t _ (λ y is. unless_allowed (closes p.state.market x y) refusal.Cycle
+      (act.Quiet (change.Link x (Some y))) (λ clear. record {
         handle = is_handle;
         target = record { taken = is; opens = clear };
       })))
@@ -295,17 +263,19 @@ module _ (p : Standing) where
   allowed (command.Engine i e) known = finds place.Flows i _ (λ x is. engages x e (taken_flows _ is))
   allowed (command.Today day) known = tt
   allowed (command.Fixing x day rate) known =
-      finds index x _ (λ y is. unkept y day rate (λ free. record {
+      finds index x _ (λ y is. kept_allowed (rate_at p.state.market y day)
+      (act.Grow (growth.Fixing y day rate)) (λ free. record {
         index = taken_index _ is;
         rate = rate_within rate known.third;
         free = free;
       }))
   allowed (command.Freeze o) known = finds place.Priced o _ (λ x is. taken_lazy (slot_at p.state.market x) is)
   allowed (command.Thaw o) known = finds place.Priced o _ (λ x is. taken_lazy (slot_at p.state.market x) is)
-  allowed (command.Recalc o) known = finds place.Priced o _ (λ x is. unlate o x (λ early. record {
-    lazy = taken_lazy (slot_at p.state.market x) is;
-    early = early;
-  }))
+  allowed (command.Recalc o) known =
+      finds place.Priced o _ (λ x is. late_allowed (least_source p.state x) (act.Price o x how.Recalc) (λ early. record {
+        lazy = taken_lazy (slot_at p.state.market x) is;
+        early = early;
+      }))
   allowed (command.Forward o is_on) known =
       finds place.Priced o _ (λ x is. taken_lazy (slot_at p.state.market x) is)
   allowed command.Defer known = tt
@@ -314,7 +284,8 @@ module _ (p : Standing) where
   allowed (command.Register w o) known = tt
   allowed (command.Unregister w o) known = tt
   allowed (command.Drop o) known =
-      finds place.Droppable o _ (λ x is. unused x (λ free. record { taken = is; unused = free }))
+      finds place.Droppable o _ (λ x is. used_allowed (least_user p.state.market x)
+      (act.Quiet (change.Drop x)) (λ free. record { taken = is; unused = free }))
   allowed (command.Ask o) known = finds place.Priced o _ (λ x is. taken_lazy (slot_at p.state.market x) is)
   allowed (command.Df c day) known = finds curve c _ (λ x is. taken_curve (slot_at p.state.market x) is)
 

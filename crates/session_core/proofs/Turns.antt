@@ -12,7 +12,6 @@ use Rattle.desk_terms.specs.Bench.{counted, logged}
 use Rattle.desk_model.specs.declared.kept.Kept.{Kept}
 use Rattle.desk_model.specs.State.{State, each_kept}
 use Rattle.desk_model.specs.Visit.{log_of, stored, value_among, with_value}
-use Rattle.desk_model.specs.Effect as effect
 use Rattle.session_commands.specs.declared.command.Command.{Command}
 use Rattle.session_commands.specs.declared.refusal.Refusal.{Refusal}
 use Rattle.session_commands.specs.Parts.{command_word}
@@ -20,10 +19,16 @@ use Rattle.price_report.specs.Namer.{name_text}
 use Rattle.price_report.specs.Line.{answer_text, asked_line, found_text, df_line, refusal_line}
 use Rattle.session_model.specs.declared.act.Act.{Act}
 use Rattle.session_model.specs.declared.act.Act.TheVariants as act
+use Rattle.session_model.specs.declared.act.Change.{Change}
+use Rattle.session_model.specs.declared.act.Growth.{Growth}
+use Rattle.session_model.specs.declared.act.How.{How}
+use Rattle.session_model.specs.declared.act.How.TheVariants as how
+use Rattle.session_model.specs.Change.{changed, grown}
+use Rattle.session_model.specs.Pricing.{Pricing, discount_in, priced_line}
 use Rattle.session_model.specs.Standing.{Standing}
 use Rattle.session_model.specs.Resolve.{resolve}
 use Rattle.session_model.specs.Turn.{Turn, step, effect_of, done_as, turn}
-use Rattle.session_core.specs.Pricing.{Pricing, Prices, StopsShort}
+use Rattle.session_core.specs.Pricing.{Prices, StopsShort}
 use Rattle.session_core.specs.Steps.{with_object, with_state, Does, Ends, Carries, BreaksOff, Steps, Stops, survivors_of, takes_no_memory}
 
 abbrev Log : Type 0
@@ -164,22 +169,29 @@ some_so : (xs ys : List ℕ) → ys ≢ [] → xs ++ ys ≢ []
 some_so [] ys some = some
 some_so (x ∷ xs) ys some = λ same. cc
 
-pub asked_line_some : (names : List (List ℕ)) (of_object : List ℕ) (name : ℕ) (outcome : Outcome) (mark : Mark) (n : ℕ)
+asked_line_some : (names : List (List ℕ)) (of_object : List ℕ) (name : ℕ) (outcome : Outcome) (mark : Mark) (n : ℕ)
     → asked_line names of_object name outcome mark n ≢ []
 unfolding asked_line
 asked_line_some names of_object name outcome mark n =
     some_so (name_text names name ++ codes " " ++ answer_text names of_object outcome mark ++ codes " " ++ decimal n)
     (codes "\n") (λ same. cc)
 
-pub df_line_some : (names : List (List ℕ)) (of_object : List ℕ) (name : ℕ) (day : ℤ) (found : Result ℤ Cause)
+df_line_some : (names : List (List ℕ)) (of_object : List ℕ) (name : ℕ) (day : ℤ) (found : Result ℤ Cause)
     (mark : Mark) (n : ℕ) → df_line names of_object name day found mark n ≢ []
 unfolding df_line
 df_line_some names of_object name day found mark n =
     some_so (name_text names name ++ codes " " ++ found_text names of_object day found mark ++ codes " " ++ decimal n)
     (codes "\n") (λ same. cc)
 
+pub priced_line_some : (names : List (List ℕ)) (of_object : List ℕ) (name o : ℕ) (how : How) (outcome : Outcome)
+    (mark : Mark) (n : ℕ) → priced_line names of_object name o how outcome mark n ≢ []
+priced_line_some names of_object name o how.Ask outcome mark n = asked_line_some names of_object name outcome mark n
+priced_line_some names of_object name o (how.Df day) outcome mark n =
+    df_line_some names of_object name day (discount_in o day outcome) mark n
+priced_line_some names of_object name o how.Recalc outcome mark n = asked_line_some names of_object name outcome mark n
+
 -- an act that writes and computes nothing
-pub quiet_carries : (calc : Calc) (a : Act) (old new : Standing) (lines : List ℕ) (count : ℕ) (log : Log)
+quiet_carries : (calc : Calc) (a : Act) (old new : Standing) (lines : List ℕ) (count : ℕ) (log : Log)
     → (effect_of calc old a).lines ≡ [] → (effect_of calc old a).calls ≡ [] → new ≡ (effect_of calc old a).next
     → Carries calc a old new lines lines count count log log
 quiet_carries calc a old new lines count log silent idle next =
@@ -192,82 +204,19 @@ unfolding effect_of step
 make_carries calc name t old new lines count log is =
     quiet_carries calc (act.Make name t) old new lines count log refl refl is
 
-pub set_carries : (calc : Calc) (q : ℕ) (value : Option ℤ) (old new : Standing) (lines : List ℕ) (count : ℕ)
-    (log : Log) → new ≡ with_state (effect.quote_set q value old.state) old
-    → Carries calc (act.Set q value) old new lines lines count count log log
+pub change_carries : (calc : Calc) (change : Change) (old new : Standing) (lines : List ℕ) (count : ℕ) (log : Log)
+    → new ≡ with_state (changed change old.state) old
+    → Carries calc (act.Quiet change) old new lines lines count count log log
 unfolding effect_of step
-set_carries calc q value old new lines count log is =
-    quiet_carries calc (act.Set q value) old new lines count log refl refl is
+change_carries calc change old new lines count log is =
+    quiet_carries calc (act.Quiet change) old new lines count log refl refl is
 
-pub weigh_carries : (calc : Calc) (k x : ℕ) (weight : ℤ) (old new : Standing) (lines : List ℕ) (count : ℕ) (log : Log)
-    → new ≡ with_state (effect.member_set k x weight old.state) old
-    → Carries calc (act.Member k x weight) old new lines lines count count log log
+pub growth_carries : (calc : Calc) (growth : Growth) (old new : Standing) (lines : List ℕ) (count : ℕ) (log : Log)
+    → new ≡ with_state (grown growth old.state) old
+    → Carries calc (act.Grow growth) old new lines lines count count log log
 unfolding effect_of step
-weigh_carries calc k x weight old new lines count log is =
-    quiet_carries calc (act.Member k x weight) old new lines count log refl refl is
-
-pub link_carries : (calc : Calc) (h : ℕ) (target : Option ℕ) (old new : Standing) (lines : List ℕ) (count : ℕ)
-    (log : Log) → new ≡ with_state (effect.relinked h target old.state) old
-    → Carries calc (act.Link h target) old new lines lines count count log log
-unfolding effect_of step
-link_carries calc h target old new lines count log is =
-    quiet_carries calc (act.Link h target) old new lines count log refl refl is
-
-pub engine_carries : (calc : Calc) (i : ℕ) (engine : Option ℕ) (old new : Standing) (lines : List ℕ) (count : ℕ)
-    (log : Log) → new ≡ with_state (effect.engine_set i engine old.state) old
-    → Carries calc (act.Engine i engine) old new lines lines count count log log
-unfolding effect_of step
-engine_carries calc i engine old new lines count log is =
-    quiet_carries calc (act.Engine i engine) old new lines count log refl refl is
-
-pub today_carries : (calc : Calc) (day : ℤ) (old new : Standing) (lines : List ℕ) (count : ℕ) (log : Log)
-    → new ≡ with_state (effect.today_set day old.state) old
-    → Carries calc (act.Today day) old new lines lines count count log log
-unfolding effect_of step
-today_carries calc day old new lines count log is = quiet_carries calc (act.Today day) old new lines count log refl refl is
-
-pub fixing_carries : (calc : Calc) (x : ℕ) (day rate : ℤ) (old new : Standing) (lines : List ℕ) (count : ℕ) (log : Log)
-    → new ≡ with_state (effect.fixing_added x day rate old.state) old
-    → Carries calc (act.Fixing x day rate) old new lines lines count count log log
-unfolding effect_of step
-fixing_carries calc x day rate old new lines count log is =
-    quiet_carries calc (act.Fixing x day rate) old new lines count log refl refl is
-
-pub freeze_carries : (calc : Calc) (o : ℕ) (old new : Standing) (lines : List ℕ) (count : ℕ) (log : Log)
-    → new ≡ with_state (effect.frozen_set o old.state) old
-    → Carries calc (act.Freeze o) old new lines lines count count log log
-unfolding effect_of step
-freeze_carries calc o old new lines count log is =
-    quiet_carries calc (act.Freeze o) old new lines count log refl refl is
-
-pub thaw_carries : (calc : Calc) (o : ℕ) (old new : Standing) (lines : List ℕ) (count : ℕ) (log : Log)
-    → new ≡ with_state (effect.thawed o old.state) old
-    → Carries calc (act.Thaw o) old new lines lines count count log log
-unfolding effect_of step
-thaw_carries calc o old new lines count log is = quiet_carries calc (act.Thaw o) old new lines count log refl refl is
-
-pub forward_carries : (calc : Calc) (o : ℕ) (is_on : Bool) (old new : Standing) (lines : List ℕ) (count : ℕ) (log : Log)
-    → new ≡ with_state (effect.forward_set o is_on old.state) old
-    → Carries calc (act.Forward o is_on) old new lines lines count count log log
-unfolding effect_of step
-forward_carries calc o is_on old new lines count log is =
-    quiet_carries calc (act.Forward o is_on) old new lines count log refl refl is
-
-pub defer_carries : (calc : Calc) (old new : Standing) (lines : List ℕ) (count : ℕ) (log : Log)
-    → new ≡ with_state (effect.deferred old.state) old → Carries calc act.Defer old new lines lines count count log log
-unfolding effect_of step
-defer_carries calc old new lines count log is = quiet_carries calc act.Defer old new lines count log refl refl is
-
-pub resume_carries : (calc : Calc) (old new : Standing) (lines : List ℕ) (count : ℕ) (log : Log)
-    → new ≡ with_state (effect.resumed old.state) old → Carries calc act.Resume old new lines lines count count log log
-unfolding effect_of step
-resume_carries calc old new lines count log is = quiet_carries calc act.Resume old new lines count log refl refl is
-
-pub drop_carries : (calc : Calc) (o : ℕ) (old new : Standing) (lines : List ℕ) (count : ℕ) (log : Log)
-    → new ≡ with_state (effect.dropped o old.state) old
-    → Carries calc (act.Drop o) old new lines lines count count log log
-unfolding effect_of step
-drop_carries calc o old new lines count log is = quiet_carries calc (act.Drop o) old new lines count log refl refl is
+growth_carries calc growth old new lines count log is =
+    quiet_carries calc (act.Grow growth) old new lines count log refl refl is
 
 -- what holds holds also where a call ended so
 pub on_err : {A E P : Type 0} (result : Result A E) → P → OnErr result P

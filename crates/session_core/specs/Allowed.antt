@@ -11,6 +11,12 @@ use Rattle.desk_model.specs.Links.{AreOfKind, Serve, serves_as, is_lazy_at}
 use Rattle.desk_model.specs.State.{least_source}
 use Rattle.session_model.specs.declared.act.Act.{Act}
 use Rattle.session_model.specs.declared.act.Act.TheVariants as act
+use Rattle.session_model.specs.declared.act.Change.{Change}
+use Rattle.session_model.specs.declared.act.Change.TheVariants as change
+use Rattle.session_model.specs.declared.act.Growth.{Growth}
+use Rattle.session_model.specs.declared.act.Growth.TheVariants as growth
+use Rattle.session_model.specs.declared.act.How.{How}
+use Rattle.session_model.specs.declared.act.How.TheVariants as how
 use Rattle.session_model.specs.declared.place.Place.TheVariants as place
 use Rattle.session_model.specs.Place.{takes_found}
 use Rattle.session_model.specs.Standing.{Standing, object_named, is_full}
@@ -62,20 +68,30 @@ pub record MayDrop (p : Standing) (object : ℕ) : Type 0 where
   pub taken : takes_found place.Droppable (kind_at p.state.market object) ≡ true
   pub unused : least_user p.state.market object ≡ None
 
+-- what is known of a change
+abbrev pub MayChange : Standing → Change → Type 0
+MayChange p (change.Set quote value) = kind_at p.state.market quote ≡ Some kind.Quote
+MayChange p (change.Link handle target) = MayRelink p handle target
+MayChange p (change.Engine instrument engine) = MayEngage p instrument engine
+MayChange p (change.Today day) = Unit {0}
+MayChange p (change.Freeze object) = is_lazy_at p.state.market object ≡ true
+MayChange p (change.Thaw object) = is_lazy_at p.state.market object ≡ true
+MayChange p (change.Forward object is_on) = is_lazy_at p.state.market object ≡ true
+MayChange p change.Defer = Unit {0}
+MayChange p change.Resume = Unit {0}
+MayChange p (change.Drop object) = MayDrop p object
+
+abbrev pub MayGrow : Standing → Growth → Type 0
+MayGrow p (growth.Member composite member weight) = MayWeigh p composite member weight
+MayGrow p (growth.Fixing index day rate) = MayFix p index day rate
+
+abbrev pub MayPrice : Standing → ℕ → How → Type 0
+MayPrice p object how.Ask = is_lazy_at p.state.market object ≡ true
+MayPrice p object (how.Df day) = is_lazy_at p.state.market object ≡ true
+MayPrice p object how.Recalc = MayRecalc p object
+
 abbrev pub IsAllowed : Standing → Act → Type 0
 IsAllowed p (act.Make name terms) = MayMake p name terms
-IsAllowed p (act.Set quote value) = kind_at p.state.market quote ≡ Some kind.Quote
-IsAllowed p (act.Member composite member weight) = MayWeigh p composite member weight
-IsAllowed p (act.Link handle target) = MayRelink p handle target
-IsAllowed p (act.Engine instrument engine) = MayEngage p instrument engine
-IsAllowed p (act.Today day) = Unit {0}
-IsAllowed p (act.Fixing index day rate) = MayFix p index day rate
-IsAllowed p (act.Freeze object) = is_lazy_at p.state.market object ≡ true
-IsAllowed p (act.Thaw object) = is_lazy_at p.state.market object ≡ true
-IsAllowed p (act.Recalc name object) = MayRecalc p object
-IsAllowed p (act.Forward object is_on) = is_lazy_at p.state.market object ≡ true
-IsAllowed p act.Defer = Unit {0}
-IsAllowed p act.Resume = Unit {0}
-IsAllowed p (act.Drop object) = MayDrop p object
-IsAllowed p (act.Ask name object) = is_lazy_at p.state.market object ≡ true
-IsAllowed p (act.Df name object day) = is_lazy_at p.state.market object ≡ true
+IsAllowed p (act.Quiet change) = MayChange p change
+IsAllowed p (act.Grow growth) = MayGrow p growth
+IsAllowed p (act.Price name object how) = MayPrice p object how

@@ -3,6 +3,7 @@ use Rattle.std.specs.Prelude.{◌≡◌, ℕ, ℤ, Bool, List, [], take, Option}
 use Rattle.desk_terms.specs.Reading.{Outcome, Calc}
 use Rattle.desk_model.specs.Visit.{runs, stored}
 use Rattle.session_model.specs.declared.act.Act.TheVariants as act
+use Rattle.session_model.specs.declared.act.How.TheVariants as how
 use Rattle.session_model.specs.Standing.{Standing}
 use Rattle.session_model.specs.Turn.{Turn}
 use Rattle.session_core.specs.Steps.{Ends, BreaksOff}
@@ -15,10 +16,10 @@ pub record EndsStored (old new : Standing) (lines_old lines_new : List ℕ) (cou
       → (e : Ends t survivors old new lines_old lines_new count_old count_new log_old log_new)
       → new.state ≡ stored old.state (take e.ended survivors)
   pub ask : (calc : Calc) (name o : ℕ)
-      → (e : BreaksOff calc (act.Ask name o) old new lines_old lines_new count_old count_new log_old log_new)
+      → (e : BreaksOff calc (act.Price name o how.Ask) old new lines_old lines_new count_old count_new log_old log_new)
       → new.state ≡ stored old.state (take e.ended (runs calc old.state o))
   pub discount : (calc : Calc) (name o : ℕ) (day : ℤ)
-      → (e : BreaksOff calc (act.Df name o day) old new lines_old lines_new count_old count_new log_old log_new)
+      → (e : BreaksOff calc (act.Price name o (how.Df day)) old new lines_old lines_new count_old count_new log_old log_new)
       → new.state ≡ stored old.state (take e.ended (runs calc old.state o))
 
 abbrev pub AsksLeaveStored : Type 0

@@ -1,11 +1,10 @@
 -- What one command does, whether it ends or memory runs out in it.
-use Rattle.std.specs.Prelude.{◌≡◌, ◌≢◌, ◌⊎◌, ◌++◌, ◌+◌, ◌≤◌, ℕ, Bool, true, false, List, [], ◌∷◌, length, take, Option, Result, Ok, Err, IsOk}
+use Rattle.std.specs.Prelude.{◌≡◌, ◌≢◌, ◌⊎◌, ◌++◌, ◌+◌, ◌≤◌, ℕ, Bool, true, false, List, [], ◌∷◌, length, take, Option, is_none, Result, Ok, Err, IsOk}
 use Rattle.desk_terms.specs.declared.terms.Terms.{Terms}
 use Rattle.desk_terms.specs.Reading.{Outcome, Calc}
 use Rattle.desk_terms.specs.Bench.{counted, logged}
 use Rattle.desk_model.specs.State.{State}
-use Rattle.desk_model.specs.Visit.{runs, stored}
-use Rattle.desk_model.specs.Recalc.{inputs_walk}
+use Rattle.desk_model.specs.Visit.{stored}
 use Rattle.desk_model.specs.Effect as effect
 use Rattle.session_commands.specs.declared.command.Command.{Command}
 use Rattle.session_commands.specs.declared.refusal.Refusal.{Refusal}
@@ -13,6 +12,9 @@ use Rattle.session_core.specs.declared.fault.MakeFault.{MakeFault}
 use Rattle.session_core.specs.declared.fault.MakeFault.TheVariants.{Refused, NoMemory}
 use Rattle.session_model.specs.declared.act.Act.{Act}
 use Rattle.session_model.specs.declared.act.Act.TheVariants as act
+use Rattle.session_model.specs.declared.act.Change.{Change}
+use Rattle.session_model.specs.declared.act.Change.TheVariants as change
+use Rattle.session_model.specs.Pricing.{pricing_of}
 use Rattle.session_model.specs.Standing.{Standing}
 use Rattle.session_model.specs.Resolve.{resolve}
 use Rattle.session_model.specs.Turn.{Turn, turn, effect_of}
@@ -58,44 +60,32 @@ pub record Ends (t : Turn) (survivors : List (ℕ × Outcome)) (old new : Standi
   pub state : (new.state ≡ stored old.state (take ended survivors)) ⊎ LacksLine t ended new.state
   pub others : new ≡ record old { state = new.state; stopped = new.stopped }
 
--- The computations of an act, each with its outcome, of which the values stay where memory runs out in it. Of a
--- recalculation these are the inputs': its own value is stored with its notice, or not at all.
+-- the computations of an act, each with its outcome, of which the values stay where memory runs out in it
 abbrev pub act_survivors : Calc → State → Act → List (ℕ × Outcome)
 act_survivors calc s (act.Make name terms) = []
-act_survivors calc s (act.Set quote value) = []
-act_survivors calc s (act.Member composite member weight) = []
-act_survivors calc s (act.Link handle target) = []
-act_survivors calc s (act.Engine instrument engine) = []
-act_survivors calc s (act.Today day) = []
-act_survivors calc s (act.Fixing index day rate) = []
-act_survivors calc s (act.Freeze object) = []
-act_survivors calc s (act.Thaw object) = []
-act_survivors calc s (act.Recalc name object) = (inputs_walk calc s object).calls
-act_survivors calc s (act.Forward object is_on) = []
-act_survivors calc s act.Defer = []
-act_survivors calc s act.Resume = []
-act_survivors calc s (act.Drop object) = []
-act_survivors calc s (act.Ask name object) = runs calc s object
-act_survivors calc s (act.Df name object day) = runs calc s object
+act_survivors calc s (act.Quiet change) = []
+act_survivors calc s (act.Grow growth) = []
+act_survivors calc s (act.Price name object how) = (pricing_of calc object s how).survivors
+
+-- changes that take no memory: all but a target and an engine that are given
+abbrev pub takes_none : Change → Bool
+takes_none (change.Set quote value) = true
+takes_none (change.Link handle target) = is_none target
+takes_none (change.Engine instrument engine) = is_none engine
+takes_none (change.Today day) = true
+takes_none (change.Freeze object) = true
+takes_none (change.Thaw object) = true
+takes_none (change.Forward object is_on) = true
+takes_none change.Defer = true
+takes_none change.Resume = true
+takes_none (change.Drop object) = true
 
 -- acts that take no memory and write no line: memory never runs out in them
 abbrev pub takes_no_memory : Act → Bool
 takes_no_memory (act.Make name terms) = false
-takes_no_memory (act.Set quote value) = true
-takes_no_memory (act.Member composite member weight) = false
-takes_no_memory (act.Link handle target) = false
-takes_no_memory (act.Engine instrument engine) = false
-takes_no_memory (act.Today day) = true
-takes_no_memory (act.Fixing index day rate) = false
-takes_no_memory (act.Freeze object) = true
-takes_no_memory (act.Thaw object) = true
-takes_no_memory (act.Recalc name object) = false
-takes_no_memory (act.Forward object is_on) = true
-takes_no_memory act.Defer = true
-takes_no_memory act.Resume = true
-takes_no_memory (act.Drop object) = true
-takes_no_memory (act.Ask name object) = false
-takes_no_memory (act.Df name object day) = false
+takes_no_memory (act.Quiet change) = takes_none change
+takes_no_memory (act.Grow growth) = false
+takes_no_memory (act.Price name object how) = false
 
 -- the same of what a command resolves to: a refused one writes a line
 abbrev pub is_without_memory : Result Act Refusal → Bool

@@ -38,7 +38,8 @@ impl Session {
         ensures stops { OnErr result (Stops (B.calc bench.old) command.now self.old self.new
             lines.old.items lines.new.items (B.count bench.old) (B.count bench.new)
             (B.log bench.old) (B.log bench.new)) }
-        // A change of a value, a day or a flag, a deferral, a resume and a drop, not refused, never want memory.
+        // A change of a value, a day or a flag, a target or an engine taken away, a deferral, a resume and a drop, not
+        // refused, never want memory.
         ensures ends { is_without_memory (resolve self.old command.now) ≡ true → is_ok result ≡ true }
         ensures names { self.new.names ≡ self.old.names }
         ensures actions { self.new.actions ≡ self.old.actions }
@@ -123,21 +124,9 @@ impl Session {
                 Ok(_) => Ok(()),
                 Err(fault) => Err(fault),
             },
-            Act::Set(quote, value) => Ok(self.set(quote, value)),
-            Act::Member(composite, member, weight) => self.weigh(composite, member, weight),
-            Act::Link(handle, target) => self.link(handle, target),
-            Act::Engine(instrument, engine) => self.engage(instrument, engine),
-            Act::Today(day) => Ok(self.move_today(day)),
-            Act::Fixing(index, day, rate) => self.fix(index, day, rate),
-            Act::Freeze(object) => Ok(self.freeze(object)),
-            Act::Thaw(object) => Ok(self.thaw(object)),
-            Act::Recalc(name, object) => self.recalc(name, object, bench, lines),
-            Act::Forward(object, is_on) => Ok(self.forward(object, is_on)),
-            Act::Defer => Ok(self.defer()),
-            Act::Resume => Ok(self.resume()),
-            Act::Drop(object) => Ok(self.remove(object)),
-            Act::Ask(name, object) => self.ask(name, object, bench, lines),
-            Act::Df(name, object, day) => self.discount(name, object, day, bench, lines),
+            Act::Quiet(change) => self.change(change),
+            Act::Grow(growth) => self.grow(growth),
+            Act::Price(name, object, how) => self.price(name, object, &how, bench, lines),
         }
     }
 }

@@ -1,85 +1,64 @@
 // What is priced by name, with its line: an ask, a discount factor, a recalculation.
-ghost use Rattle.std.specs.Prelude.{◌≡◌, true, OnOk, OnErr};
-ghost use Rattle.desk_model.specs.Links.{is_lazy_at};
+ghost use Rattle.std.specs.Prelude.{◌≡◌, IfOk, OnOk, OnErr};
 ghost use Rattle.desk_model.specs.Sound.{IsSound};
 ghost use Rattle.session_model.specs.declared.act.Act.TheVariants as act;
-ghost use Rattle.session_core.specs.Allowed.{MayRecalc};
+ghost use Rattle.session_model.specs.Pricing.{pricing_of};
+ghost use Rattle.session_core.specs.Allowed.{MayPrice};
+ghost use Rattle.session_core.specs.Pricing.{Prices, StopsShort};
 ghost use Rattle.session_core.specs.Steps.{Carries, BreaksOff};
 
 use crate::Session;
-use day_number::Day;
 use desk_names::{NameId, ObjId};
-use desk_terms::Bench;
+use desk_terms::{Asked, Bench};
+use session_model::How;
 use std::alloc::AllocError;
 
 impl Session {
-    // Asks a lazy object, and writes its line.
-    pub(crate) fn ask<B: Bench>(
+    // Prices a lazy object, and writes its line.
+    pub(crate) fn price<B: Bench>(
         &mut self,
         name: NameId,
         object: ObjId,
+        how: &How,
         bench: &mut B,
         lines: &mut Vec<u8>,
     ) -> Result<(), AllocError>
-        requires lazy { is_lazy_at self.old.state.market object ≡ true }
+        requires may { MayPrice self.old object how.now }
         requires sound { IsSound (B.calc bench.old) self.old.state }
         ensures same { B.calc bench.new ≡ B.calc bench.old }
-        ensures steps { OnOk result (Carries (B.calc bench.old) (act.Ask name object) self.old self.new
+        ensures steps { OnOk result (Carries (B.calc bench.old) (act.Price name object how.now) self.old self.new
             lines.old.items lines.new.items (B.count bench.old) (B.count bench.new)
             (B.log bench.old) (B.log bench.new)) }
-        ensures stops { OnErr result (BreaksOff (B.calc bench.old) (act.Ask name object) self.old self.new
+        ensures stops { OnErr result (BreaksOff (B.calc bench.old) (act.Price name object how.now) self.old self.new
             lines.old.items lines.new.items (B.count bench.old) (B.count bench.new)
             (B.log bench.old) (B.log bench.new)) }
         ensures sound { IsSound (B.calc bench.old) self.new.state }
     {
-        let asked = self.price(object, bench)?;
-        self.report(name, object, &asked, lines)
+        let asked = self.answer(object, how, bench)?;
+        self.report(name, object, how, &asked, lines)
     }
 
-    // Asks a curve for its discount factor at a day, and writes its line.
-    pub(crate) fn discount<B: Bench>(
+    // Asks a lazy object, or prices it whatever its flags say.
+    pub(crate) fn answer<B: Bench>(
         &mut self,
-        name: NameId,
         object: ObjId,
-        day: Day,
+        how: &How,
         bench: &mut B,
-        lines: &mut Vec<u8>,
-    ) -> Result<(), AllocError>
-        requires lazy { is_lazy_at self.old.state.market object ≡ true }
+    ) -> Result<Asked, AllocError>
+        requires may { MayPrice self.old object how.now }
         requires sound { IsSound (B.calc bench.old) self.old.state }
         ensures same { B.calc bench.new ≡ B.calc bench.old }
-        ensures steps { OnOk result (Carries (B.calc bench.old) (act.Df name object day) self.old self.new
-            lines.old.items lines.new.items (B.count bench.old) (B.count bench.new)
+        ensures prices { IfOk result (λ answer. Prices (pricing_of (B.calc bench.old) object self.old.state how.now)
+            object self.old self.new answer (B.count bench.old) (B.count bench.new)
             (B.log bench.old) (B.log bench.new)) }
-        ensures stops { OnErr result (BreaksOff (B.calc bench.old) (act.Df name object day) self.old self.new
-            lines.old.items lines.new.items (B.count bench.old) (B.count bench.new)
+        ensures stops { OnErr result (StopsShort (pricing_of (B.calc bench.old) object self.old.state how.now)
+            self.old self.new (B.count bench.old) (B.count bench.new)
             (B.log bench.old) (B.log bench.new)) }
         ensures sound { IsSound (B.calc bench.old) self.new.state }
     {
-        let asked = self.price(object, bench)?;
-        self.report_discount(name, object, day, &asked, lines)
-    }
-
-    // Prices a lazy object that is not late, whatever its flags say, and writes its line.
-    pub(crate) fn recalc<B: Bench>(
-        &mut self,
-        name: NameId,
-        object: ObjId,
-        bench: &mut B,
-        lines: &mut Vec<u8>,
-    ) -> Result<(), AllocError>
-        requires may { MayRecalc self.old object }
-        requires sound { IsSound (B.calc bench.old) self.old.state }
-        ensures same { B.calc bench.new ≡ B.calc bench.old }
-        ensures steps { OnOk result (Carries (B.calc bench.old) (act.Recalc name object) self.old self.new
-            lines.old.items lines.new.items (B.count bench.old) (B.count bench.new)
-            (B.log bench.old) (B.log bench.new)) }
-        ensures stops { OnErr result (BreaksOff (B.calc bench.old) (act.Recalc name object) self.old self.new
-            lines.old.items lines.new.items (B.count bench.old) (B.count bench.new)
-            (B.log bench.old) (B.log bench.new)) }
-        ensures sound { IsSound (B.calc bench.old) self.new.state }
-    {
-        let asked = self.reprice(object, bench)?;
-        self.report(name, object, &asked, lines)
+        match how {
+            How::Ask | How::Df(_) => self.ask(object, bench),
+            How::Recalc => self.recalc(object, bench),
+        }
     }
 }

@@ -6,6 +6,9 @@ ghost use Rattle.desk_terms.specs.declared.kind.Wanted.TheVariants as wanted;
 ghost use Rattle.desk_model.specs.Market.{kind_at};
 ghost use Rattle.session_model.specs.declared.place.Place.TheVariants as place;
 ghost use Rattle.session_model.specs.declared.act.Act.TheVariants as act;
+ghost use Rattle.session_model.specs.declared.act.Change.TheVariants as change;
+ghost use Rattle.session_model.specs.declared.act.Growth.TheVariants as growth;
+ghost use Rattle.session_model.specs.declared.act.How.TheVariants as how;
 ghost use Rattle.session_model.specs.Place.{takes_found};
 ghost use Rattle.session_model.specs.Standing.{object_named, is_full};
 ghost use Rattle.session_model.specs.Resolve.{find, with_found, made, unless, unless_used, unless_kept, unless_late, unless_taken, closes, joins, rate_at, target_of, handle_kind, engaged, derived, quote_input, curve, resolve};
@@ -19,7 +22,7 @@ use desk_names::{NameId, ObjId};
 use desk_terms::{HandleKind, PartList, Terms, Wanted};
 use fixed_amount::Rate;
 use session_commands::{Command, Refusal};
-use session_model::{Act, Place};
+use session_model::{Act, Change, Growth, How, Place};
 
 impl Session {
     // The command with its objects found, or the first reason for which it is refused.
@@ -31,7 +34,9 @@ impl Session {
         match command {
             Command::Quote(name, value) => self.quote(*name, *value),
             Command::Sum(name, first, second) => self.derived(*name, false, *first, *second),
-            Command::Difference(name, first, second) => self.derived(*name, true, *first, *second),
+            Command::Difference(name, first, second) => self.derived(
+                *name, true, *first, *second,
+            ),
             Command::Stock(name, quote) => self.stock(*name, *quote),
             Command::Handle(name, is_curve) => self.handle(*name, *is_curve),
             Command::Composite(name) => self.composite(*name),
@@ -41,14 +46,14 @@ impl Session {
             Command::Link(handle, target) => self.linked(*handle, *target),
             Command::Unlink(handle) => self.unlinked(*handle),
             Command::Engine(instrument, engine) => self.engaged(*instrument, *engine),
-            Command::Today(day) => Ok(Act::Today(*day)),
+            Command::Today(day) => Ok(Act::Quiet(Change::Today(*day))),
             Command::Fixing(index, day, rate) => self.fixed(*index, *day, *rate),
             Command::Freeze(object) => self.frozen(*object),
             Command::Thaw(object) => self.thawed(*object),
             Command::Recalc(object) => self.recalced(*object),
             Command::Forward(object, is_on) => self.forwarded(*object, *is_on),
-            Command::Defer => Ok(Act::Defer),
-            Command::Resume => Ok(Act::Resume),
+            Command::Defer => Ok(Act::Quiet(Change::Defer)),
+            Command::Resume => Ok(Act::Quiet(Change::Resume)),
             Command::Drop(object) => self.dropped(*object),
             Command::Ask(object) => self.asked(*object),
             Command::Df(curve, day) => self.discounted(*curve, *day),
@@ -188,7 +193,7 @@ impl Session {
     fn linked(&mut self, handle: NameId, target: NameId) -> Result<Act, Refusal>
         ensures act { result ≡ with_found (find place.Handle self.old handle) (λ x.
             with_found (find (target_of self.old.state.market x) self.old target) (λ y.
-            unless (closes self.old.state.market x y) Cycle (act.Link x (Some y)))) }
+            unless (closes self.old.state.market x y) Cycle (act.Quiet (change.Link x (Some y))))) }
         ensures same { self.new ≡ self.old }
     {
         let handle = self.find(Place::Handle, handle)?;
@@ -196,15 +201,15 @@ impl Session {
         if self.closes(handle, target) {
             return Err(Refusal::Cycle);
         }
-        Ok(Act::Link(handle, Some(target)))
+        Ok(Act::Quiet(Change::Link(handle, Some(target))))
     }
 
     #[tactic(auto, unfolding(session_model::specs::Resolve::with_found))]
     fn unlinked(&self, handle: NameId) -> Result<Act, Refusal>
-        ensures { result ≡ with_found (find place.Handle self.now handle) (λ x. Ok (act.Link x None)) }
+        ensures { result ≡ with_found (find place.Handle self.now handle) (λ x. Ok (act.Quiet (change.Link x None))) }
     {
         let handle = self.find(Place::Handle, handle)?;
-        Ok(Act::Link(handle, None))
+        Ok(Act::Quiet(Change::Link(handle, None)))
     }
 
     #[tactic(auto, unfolding(session_model::specs::Resolve::with_found))]
@@ -215,37 +220,37 @@ impl Session {
         match engine {
             Some(engine) => {
                 let engine = self.find(Place::Input(Wanted::Engine), engine)?;
-                Ok(Act::Engine(instrument, Some(engine)))
+                Ok(Act::Quiet(Change::Engine(instrument, Some(engine))))
             }
-            None => Ok(Act::Engine(instrument, None)),
+            None => Ok(Act::Quiet(Change::Engine(instrument, None))),
         }
     }
 
     #[tactic(auto, unfolding(session_model::specs::Resolve::with_found, session_model::specs::Resolve::unless_kept))]
     fn fixed(&self, index: NameId, day: Day, rate: Rate) -> Result<Act, Refusal>
         ensures { result ≡ with_found (find (place.Input wanted.Index) self.now index) (λ y.
-            unless_kept (rate_at self.now.state.market y day) (act.Fixing y day rate)) }
+            unless_kept (rate_at self.now.state.market y day) (act.Grow (growth.Fixing y day rate))) }
     {
         let index = self.find(Place::Input(Wanted::Index), index)?;
         match self.rate_at(index, day) {
             Some(kept) => Err(Refusal::FixingExists(kept)),
-            None => Ok(Act::Fixing(index, day, rate)),
+            None => Ok(Act::Grow(Growth::Fixing(index, day, rate))),
         }
     }
 
     #[tactic(auto, unfolding(session_model::specs::Resolve::with_found))]
     fn discounted(&self, name: NameId, day: Day) -> Result<Act, Refusal>
-        ensures { result ≡ with_found (find curve self.now name) (λ x. Ok (act.Df name x day)) }
+        ensures { result ≡ with_found (find curve self.now name) (λ x. Ok (act.Price name x (how.Df day))) }
     {
         let object = self.find(Place::Input(Wanted::CurveTarget), name)?;
-        Ok(Act::Df(name, object, day))
+        Ok(Act::Price(name, object, How::Df(day)))
     }
 
     #[tactic(auto, unfolding(session_model::specs::Resolve::with_found, session_model::specs::Resolve::unless))]
     fn member(&mut self, composite: NameId, member: NameId, weight: i64) -> Result<Act, Refusal>
         ensures act { result ≡ with_found (find place.Composite self.old composite) (λ x.
             with_found (find (place.Input wanted.Member) self.old member) (λ y.
-            unless (joins weight self.old.state.market x y) Cycle (act.Member x y weight))) }
+            unless (joins weight self.old.state.market x y) Cycle (act.Grow (growth.Member x y weight)))) }
         ensures same { self.new ≡ self.old }
     {
         let composite = self.find(Place::Composite, composite)?;
@@ -253,72 +258,72 @@ impl Session {
         if weight != 0 && self.closes(composite, member) {
             return Err(Refusal::Cycle);
         }
-        Ok(Act::Member(composite, member, weight))
+        Ok(Act::Grow(Growth::Member(composite, member, weight)))
     }
 
     #[tactic(auto, unfolding(session_model::specs::Resolve::with_found))]
     fn value(&self, quote: NameId, value: Option<Rate>) -> Result<Act, Refusal>
-        ensures { result ≡ with_found (find place.Quote self.now quote) (λ x. Ok (act.Set x value)) }
+        ensures { result ≡ with_found (find place.Quote self.now quote) (λ x. Ok (act.Quiet (change.Set x value))) }
     {
         let quote = self.find(Place::Quote, quote)?;
-        Ok(Act::Set(quote, value))
+        Ok(Act::Quiet(Change::Set(quote, value)))
     }
 
     #[tactic(auto, unfolding(session_model::specs::Resolve::with_found))]
     fn frozen(&self, name: NameId) -> Result<Act, Refusal>
-        ensures { result ≡ with_found (find place.Priced self.now name) (λ x. Ok (act.Freeze x)) }
+        ensures { result ≡ with_found (find place.Priced self.now name) (λ x. Ok (act.Quiet (change.Freeze x))) }
     {
         let object = self.find(Place::Priced, name)?;
-        Ok(Act::Freeze(object))
+        Ok(Act::Quiet(Change::Freeze(object)))
     }
 
     #[tactic(auto, unfolding(session_model::specs::Resolve::with_found))]
     fn thawed(&self, name: NameId) -> Result<Act, Refusal>
-        ensures { result ≡ with_found (find place.Priced self.now name) (λ x. Ok (act.Thaw x)) }
+        ensures { result ≡ with_found (find place.Priced self.now name) (λ x. Ok (act.Quiet (change.Thaw x))) }
     {
         let object = self.find(Place::Priced, name)?;
-        Ok(Act::Thaw(object))
+        Ok(Act::Quiet(Change::Thaw(object)))
     }
 
     #[tactic(auto, unfolding(session_model::specs::Resolve::with_found, session_model::specs::Resolve::unless_late))]
     fn recalced(&mut self, name: NameId) -> Result<Act, Refusal>
         ensures act { result ≡ with_found (find place.Priced self.old name) (λ x.
-            unless_late (least_source self.old.state x) (act.Recalc name x)) }
+            unless_late (least_source self.old.state x) (act.Price name x how.Recalc)) }
         ensures same { self.new ≡ self.old }
     {
         let object = self.find(Place::Priced, name)?;
         match self.late(object) {
             Some(source) => Err(Refusal::Deferred(source)),
-            None => Ok(Act::Recalc(name, object)),
+            None => Ok(Act::Price(name, object, How::Recalc)),
         }
     }
 
     #[tactic(auto, unfolding(session_model::specs::Resolve::with_found))]
     fn forwarded(&self, name: NameId, is_on: bool) -> Result<Act, Refusal>
-        ensures { result ≡ with_found (find place.Priced self.now name) (λ x. Ok (act.Forward x is_on)) }
+        ensures { result ≡ with_found (find place.Priced self.now name) (λ x. Ok (act.Quiet (change.Forward x is_on))) }
     {
         let object = self.find(Place::Priced, name)?;
-        Ok(Act::Forward(object, is_on))
+        Ok(Act::Quiet(Change::Forward(object, is_on)))
     }
 
     #[tactic(auto, unfolding(session_model::specs::Resolve::with_found, session_model::specs::Resolve::unless_used))]
     fn dropped(&self, name: NameId) -> Result<Act, Refusal>
         ensures { result ≡ with_found (find place.Droppable self.now name) (λ x.
-            unless_used (least_user self.now.state.market x) (act.Drop x)) }
+            unless_used (least_user self.now.state.market x) (act.Quiet (change.Drop x))) }
     {
         let object = self.find(Place::Droppable, name)?;
         match self.user_of(object) {
             Some(user) => Err(Refusal::InUse(user)),
-            None => Ok(Act::Drop(object)),
+            None => Ok(Act::Quiet(Change::Drop(object))),
         }
     }
 
     #[tactic(auto, unfolding(session_model::specs::Resolve::with_found))]
     fn asked(&self, name: NameId) -> Result<Act, Refusal>
-        ensures { result ≡ with_found (find place.Priced self.now name) (λ x. Ok (act.Ask name x)) }
+        ensures { result ≡ with_found (find place.Priced self.now name) (λ x. Ok (act.Price name x how.Ask)) }
     {
         let object = self.find(Place::Priced, name)?;
-        Ok(Act::Ask(name, object))
+        Ok(Act::Price(name, object, How::Ask))
     }
 }
 

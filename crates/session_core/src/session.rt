@@ -1,5 +1,5 @@
 // A session: its objects, their names and its actions. A clause sees it as a standing of the definition.
-ghost use Rattle.std.specs.Prelude.{◌≡◌, ◌<◌, ◌==◌, ◌||◌, ◌++◌, true, false, length, codes, None, Some, Ok, Err, is_err, IfOk, OnOk, OnErr, replicate, option_copied, slice_get};
+ghost use Rattle.std.specs.Prelude.{◌≡◌, ◌<◌, ◌==◌, ◌||◌, ◌++◌, true, false, length, codes, None, Some, Ok, Err, is_none, is_ok, is_err, IfOk, OnOk, OnErr, replicate, option_copied, slice_get};
 ghost use Rattle.desk_names.specs.Names.{has_text};
 ghost use Rattle.desk_terms.specs.Reading.{Calc, AreInRange};
 ghost use Rattle.desk_terms.specs.declared.kind.Kind.TheVariants as kind;
@@ -12,14 +12,14 @@ ghost use Rattle.desk_terms.specs.Reading.{Outcome};
 ghost use Rattle.desk_model.specs.State.{kept_at, least_source};
 ghost use Rattle.desk_model.specs.Effect.{quote_set, relinked, engine_set, member_set, today_set, fixing_added, frozen_set, thawed, forward_set, deferred, resumed, dropped};
 ghost use Rattle.session_commands.specs.Parts.{command_word};
-ghost use Rattle.price_report.specs.Line.{asked_line, df_line, refusal_line};
+ghost use Rattle.price_report.specs.Line.{refusal_line};
 ghost use Rattle.session_model.specs.Standing.{start_of, object_named, is_full};
 ghost use Rattle.session_model.specs.declared.place.Place.TheVariants as place;
 ghost use Rattle.session_model.specs.Place.{takes_found};
 ghost use Rattle.session_model.specs.Resolve.{closes, joins, rate_at};
-ghost use Rattle.session_model.specs.Turn.{discount_in};
+ghost use Rattle.session_model.specs.Pricing.{asking, recalculating, discount_in, priced_line};
 ghost use Rattle.session_core.specs.Allowed.{MayRelink, MayEngage, MayFix, MayRecalc};
-ghost use Rattle.session_core.specs.Pricing.{asking, recalculating, Prices, StopsShort};
+ghost use Rattle.session_core.specs.Pricing.{Prices, StopsShort};
 ghost use Rattle.session_core.specs.Steps.{with_object, with_state};
 
 use day_number::Day;
@@ -29,7 +29,7 @@ use fixed_amount::{Discount, Rate};
 use lazy_objects::{Desk, Recalced};
 use price_report::{Namer, asked_line, df_line, refusal_line};
 use session_commands::{Actions, Command, Refusal};
-use session_model::{MOST_LIVE, MOST_NUMBERS};
+use session_model::{How, MOST_LIVE, MOST_NUMBERS};
 use std::alloc::{AllocError, Global};
 use std::marker::Model;
 
@@ -229,6 +229,8 @@ impl Session {
         requires may { MayRelink self.old handle target }
         ensures set { OnOk result (self.new ≡ with_state (relinked handle target self.old.state) self.old) }
         ensures err { OnErr result (self.new ≡ self.old) }
+        // No memory is wanted for none.
+        ensures ready { is_none target ≡ true → is_ok result ≡ true }
         ensures sound { (calc : Calc) → IsSound calc self.old.state → IsSound calc self.new.state }
     {
         self.desk.relink(handle, target)
@@ -243,6 +245,8 @@ impl Session {
         requires may { MayEngage self.old instrument engine }
         ensures set { OnOk result (self.new ≡ with_state (engine_set instrument engine self.old.state) self.old) }
         ensures err { OnErr result (self.new ≡ self.old) }
+        // No memory is wanted for none.
+        ensures ready { is_none engine ≡ true → is_ok result ≡ true }
         ensures sound { (calc : Calc) → IsSound calc self.old.state → IsSound calc self.new.state }
     {
         self.desk.set_engine(instrument, engine)
@@ -336,7 +340,7 @@ impl Session {
     }
 
     // Asks a lazy object.
-    pub(crate) fn price<B: Bench>(
+    pub(crate) fn ask<B: Bench>(
         &mut self,
         object: ObjId,
         bench: &mut B,
@@ -356,7 +360,7 @@ impl Session {
     }
 
     // Prices a lazy object that is not late, whatever its flags say.
-    pub(crate) fn reprice<B: Bench>(
+    pub(crate) fn recalc<B: Bench>(
         &mut self,
         object: ObjId,
         bench: &mut B,
@@ -383,51 +387,28 @@ impl Session {
         &self,
         name: NameId,
         object: ObjId,
+        how: &How,
         asked: &Asked,
         lines: &mut Vec<u8>,
     ) -> Result<(), AllocError>
         requires given { (outcome : Outcome) × Shows asked.now.cause (kept_at self.now.state object).last outcome }
         ensures ok { (outcome : Outcome) → Shows asked.now.cause (kept_at self.now.state object).last outcome
             → OnOk result (lines.new.items ≡ lines.old.items
-            ++ asked_line self.now.names self.now.of_object name outcome asked.now.mark asked.now.runs) }
+            ++ priced_line self.now.names self.now.of_object name object how.now outcome asked.now.mark asked.now.runs) }
         ensures err { OnErr result (lines.new.items ≡ lines.old.items) }
     {
+        let last = self.desk.last(object);
         let namer = Namer {
             names: &self.names,
             of_object: &self.of_object,
         };
-        asked_line(
-            self.alloc,
-            name,
-            asked,
-            self.desk.last(object),
-            &namer,
-            lines,
-        )
-    }
-
-    // Writes the line of the discount factor at a day of a curve that was priced.
-    pub(crate) fn report_discount(
-        &self,
-        name: NameId,
-        object: ObjId,
-        day: Day,
-        asked: &Asked,
-        lines: &mut Vec<u8>,
-    ) -> Result<(), AllocError>
-        requires given { (outcome : Outcome) × Shows asked.now.cause (kept_at self.now.state object).last outcome }
-        ensures ok { (outcome : Outcome) → Shows asked.now.cause (kept_at self.now.state object).last outcome
-            → OnOk result (lines.new.items ≡ lines.old.items
-            ++ df_line self.now.names self.now.of_object name day (discount_in object day outcome)
-            asked.now.mark asked.now.runs) }
-        ensures err { OnErr result (lines.new.items ≡ lines.old.items) }
-    {
-        let found = discount_in(object, day, asked, self.desk.last(object));
-        let namer = Namer {
-            names: &self.names,
-            of_object: &self.of_object,
-        };
-        df_line(self.alloc, name, day, &found, asked, &namer, lines)
+        match how {
+            How::Ask | How::Recalc => asked_line(self.alloc, name, asked, last, &namer, lines),
+            How::Df(day) => {
+                let found = discount_in(object, *day, asked, last);
+                df_line(self.alloc, name, *day, &found, asked, &namer, lines)
+            }
+        }
     }
 
     // Writes the line of a refused command.
@@ -451,7 +432,7 @@ impl Session {
 }
 
 // The discount factor at a day of what an ask of an object shows, beside the last value of the object.
-#[tactic(auto, unfolding(session_model::specs::Turn::discount_in))]
+#[tactic(auto, unfolding(session_model::specs::Pricing::discount_in))]
 fn discount_in(
     object: ObjId,
     day: Day,

@@ -19,6 +19,9 @@ use Rattle.session_commands.specs.declared.refusal.Refusal.{Refusal}
 use Rattle.session_commands.specs.declared.refusal.Refusal.TheVariants.{Unknown, Taken, Kind, Cycle, InUse, FixingExists, TooMany, Deferred, Unbuilt}
 use Rattle.session_model.specs.declared.act.Act.{Act}
 use Rattle.session_model.specs.declared.act.Act.TheVariants as act
+use Rattle.session_model.specs.declared.act.Change.TheVariants as change
+use Rattle.session_model.specs.declared.act.Growth.TheVariants as growth
+use Rattle.session_model.specs.declared.act.How.TheVariants as how
 use Rattle.session_model.specs.declared.place.Place.{Place}
 use Rattle.session_model.specs.declared.place.Place.TheVariants as place
 use Rattle.session_model.specs.Place.{takes_found}
@@ -101,8 +104,8 @@ handle_kind false = handle.TheVariants.Quote
 
 -- an instrument with an engine, or with none
 abbrev pub engaged : Standing → ℕ → Option ℕ → Result Act Refusal
-engaged p x None = Ok (act.Engine x None)
-engaged p x (Some e) = with_found (find engine p e) (λ y. Ok (act.Engine x (Some y)))
+engaged p x None = Ok (act.Quiet (change.Engine x None))
+engaged p x (Some e) = with_found (find engine p e) (λ y. Ok (act.Quiet (change.Engine x (Some y))))
 
 -- two inputs that give rates
 abbrev pub derived : Standing → ℕ → Bool → ℕ → ℕ → Result Act Refusal
@@ -120,29 +123,29 @@ resolve p (command.Stock name q) =
 resolve p (command.Composite name) = unless_taken p name (made p name (terms.Composite []))
 resolve p (command.Member k i weight) =
     with_found (find place.Composite p k)
-    (λ x. with_found (find member p i) (λ y. unless (joins weight p.state.market x y) Cycle (act.Member x y weight)))
-resolve p (command.Set q value) = with_found (find place.Quote p q) (λ x. Ok (act.Set x (Some value)))
-resolve p (command.Unset q) = with_found (find place.Quote p q) (λ x. Ok (act.Set x None))
+    (λ x. with_found (find member p i) (λ y. unless (joins weight p.state.market x y) Cycle (act.Grow (growth.Member x y weight))))
+resolve p (command.Set q value) = with_found (find place.Quote p q) (λ x. Ok (act.Quiet (change.Set x (Some value))))
+resolve p (command.Unset q) = with_found (find place.Quote p q) (λ x. Ok (act.Quiet (change.Set x None)))
 resolve p (command.Link h t) =
     with_found (find place.Handle p h)
     (λ x. with_found (find (target_of p.state.market x) p t)
-    (λ y. unless (closes p.state.market x y) Cycle (act.Link x (Some y))))
-resolve p (command.Unlink h) = with_found (find place.Handle p h) (λ x. Ok (act.Link x None))
+    (λ y. unless (closes p.state.market x y) Cycle (act.Quiet (change.Link x (Some y)))))
+resolve p (command.Unlink h) = with_found (find place.Handle p h) (λ x. Ok (act.Quiet (change.Link x None)))
 resolve p (command.Engine i e) = with_found (find place.Flows p i) (λ x. engaged p x e)
-resolve p (command.Today day) = Ok (act.Today day)
+resolve p (command.Today day) = Ok (act.Quiet (change.Today day))
 resolve p (command.Fixing x day rate) =
-    with_found (find index p x) (λ y. unless_kept (rate_at p.state.market y day) (act.Fixing y day rate))
-resolve p (command.Freeze o) = with_found (find place.Priced p o) (λ x. Ok (act.Freeze x))
-resolve p (command.Thaw o) = with_found (find place.Priced p o) (λ x. Ok (act.Thaw x))
+    with_found (find index p x) (λ y. unless_kept (rate_at p.state.market y day) (act.Grow (growth.Fixing y day rate)))
+resolve p (command.Freeze o) = with_found (find place.Priced p o) (λ x. Ok (act.Quiet (change.Freeze x)))
+resolve p (command.Thaw o) = with_found (find place.Priced p o) (λ x. Ok (act.Quiet (change.Thaw x)))
 resolve p (command.Recalc o) =
-    with_found (find place.Priced p o) (λ x. unless_late (least_source p.state x) (act.Recalc o x))
-resolve p (command.Forward o is_on) = with_found (find place.Priced p o) (λ x. Ok (act.Forward x is_on))
-resolve p command.Defer = Ok act.Defer
-resolve p command.Resume = Ok act.Resume
+    with_found (find place.Priced p o) (λ x. unless_late (least_source p.state x) (act.Price o x how.Recalc))
+resolve p (command.Forward o is_on) = with_found (find place.Priced p o) (λ x. Ok (act.Quiet (change.Forward x is_on)))
+resolve p command.Defer = Ok (act.Quiet change.Defer)
+resolve p command.Resume = Ok (act.Quiet change.Resume)
 resolve p (command.Watch w action) = Err Unbuilt
 resolve p (command.Register w o) = Err Unbuilt
 resolve p (command.Unregister w o) = Err Unbuilt
 resolve p (command.Drop o) =
-    with_found (find place.Droppable p o) (λ x. unless_used (least_user p.state.market x) (act.Drop x))
-resolve p (command.Ask o) = with_found (find place.Priced p o) (λ x. Ok (act.Ask o x))
-resolve p (command.Df c day) = with_found (find curve p c) (λ x. Ok (act.Df c x day))
+    with_found (find place.Droppable p o) (λ x. unless_used (least_user p.state.market x) (act.Quiet (change.Drop x)))
+resolve p (command.Ask o) = with_found (find place.Priced p o) (λ x. Ok (act.Price o x how.Ask))
+resolve p (command.Df c day) = with_found (find curve p c) (λ x. Ok (act.Price c x (how.Df day)))

@@ -9,25 +9,29 @@ use fixed_amount::Rate;
 pub enum Act {
     /// Makes an object that has this name and these terms.
     Make(NameId, Terms),
+    /// Changes what is there.
+    Quiet(Change),
+    /// Puts something more beside what is there.
+    Grow(Growth),
+    /// Prices a lazy object by its name, and writes its line.
+    Price(NameId, ObjId, How),
+}
+
+/// A change of what is there: it computes nothing, writes no line and gives no name.
+#[derive(Clone, Copy, Debug, PartialEq, Eq)]
+pub enum Change {
     /// Gives a quote a value in units of 10^-9, or takes it away.
     Set(ObjId, Option<Rate>),
-    /// Gives a member a weight in a composite: the composite, the member, the weight. A weight of 0 takes the member
-    /// out.
-    Member(ObjId, ObjId, i64),
     /// Gives a handle a target, or takes it away.
     Link(ObjId, Option<ObjId>),
     /// Gives a bond, swap or forward rate agreement an engine, or takes it away.
     Engine(ObjId, Option<ObjId>),
     /// Moves the evaluation date.
     Today(Day),
-    /// Stores a rate of an index, in units of 10^-9, for a day that has none.
-    Fixing(ObjId, Day, Rate),
     /// Freezes a lazy object: from then on it answers its last value.
     Freeze(ObjId),
     /// Ends that, and tells.
     Thaw(ObjId),
-    /// Prices a lazy object by its name, whatever its flags say.
-    Recalc(NameId, ObjId),
     /// Lets a lazy object pass each notice on, or only those that reach it while its value is current.
     Forward(ObjId, bool),
     /// Holds notices back from then on.
@@ -36,8 +40,26 @@ pub enum Act {
     Resume,
     /// Takes an object out.
     Drop(ObjId),
-    /// Asks a lazy object by its name.
-    Ask(NameId, ObjId),
-    /// Asks a curve or an implied curve by its name for its discount factor at a day.
-    Df(NameId, ObjId, Day),
+}
+
+/// A change that is stored beside what is there, for which memory may be wanting. It computes nothing, writes no line and
+/// gives no name.
+#[derive(Clone, Copy, Debug, PartialEq, Eq)]
+pub enum Growth {
+    /// Gives a member a weight in a composite: the composite, the member, the weight. A weight of 0 takes the member
+    /// out.
+    Member(ObjId, ObjId, i64),
+    /// Stores a rate of an index, in units of 10^-9, for a day that has none.
+    Fixing(ObjId, Day, Rate),
+}
+
+/// How a lazy object is priced.
+#[derive(Clone, Copy, Debug, PartialEq, Eq)]
+pub enum How {
+    /// It is asked.
+    Ask,
+    /// A curve or an implied curve is asked for its discount factor at a day.
+    Df(Day),
+    /// It is computed, whatever its flags say.
+    Recalc,
 }

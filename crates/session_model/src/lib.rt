@@ -1,8 +1,8 @@
 //! What a session with names does, said without the code that does it: what a command resolves to, what it changes, the
 //! lines and the computations that it gives, and the transcript of all its commands.
 //!
-//! `Act`, `Place`, `MOST_LIVE`, `MOST_NUMBERS`. Words of `specs/`: `Standing`, `resolve`, `step`, `Turn`, `turn`,
-//! `rounds`, `transcript`, `calls_of`.
+//! `Act` with `Change`, `Growth` and `How`, `Place`, `MOST_LIVE`, `MOST_NUMBERS`. Words of `specs/`: `Standing`,
+//! `resolve`, `changed`, `pricing_of`, `step`, `Turn`, `turn`, `rounds`, `transcript`, `calls_of`.
 //! Its functions without a body are laws: their contracts are what is proved.
 #![tactic(auto)]
 
@@ -11,7 +11,7 @@ mod limits;
 mod place;
 mod rows;
 
-pub use act::Act;
+pub use act::{Act, Change, Growth, How};
 pub use limits::{MOST_LIVE, MOST_NUMBERS};
 pub use place::Place;
 pub use rows::{

@@ -3,11 +3,12 @@ use Rattle.std.specs.Prelude.{IfOk, OnErr}
 use Rattle.desk_terms.specs.declared.asked.Asked.{Asked}
 use Rattle.desk_terms.specs.Reading.{Calc}
 use Rattle.session_model.specs.Standing.{Standing}
-use Rattle.session_core.specs.Pricing.{asking, Prices, StopsShort}
+use Rattle.session_model.specs.Pricing.{asking}
+use Rattle.session_core.specs.Pricing.{Prices, StopsShort}
 use Rattle.session_core.proofs.Naming.{names_alike}
 use Rattle.session_core.proofs.Turns.{on_err_of}
 use Rattle.session_core.proofs.Priced.{if_ok, ask_prices, ask_stops, ask_alike}
-use Rattle.session_core.proofs.session.Session.price.Goals as goal
+use Rattle.session_core.proofs.session.Session.ask.Goals as goal
 
 pub invariant_of-self : goal.invariant_of-self
 invariant_of-self g c =

@@ -4,6 +4,7 @@ use Rattle.session_model.specs.Standing.{Standing}
 use Rattle.session_core.specs.Allowed.{MayEngage}
 use Rattle.session_core.proofs.Naming.{names_alike}
 use Rattle.session_core.proofs.Alike.{there_of_kind, engine_alike, sound_as}
+use Rattle.session_core.proofs.Linking.{none_ready}
 use Rattle.session_core.proofs.session.Session.engage.Goals as goal
 
 pub set_engine-requires-clause-instrument : goal.set_engine-requires-clause-instrument
@@ -25,3 +26,6 @@ invariant_of-self c =
 
 pub returns-clause-sound : goal.returns-clause-sound
 returns-clause-sound c = sound_as _ c.args.self.now c.set_engine.new.self c.self.view_is c.set_engine.ensures.sound
+
+pub returns-clause-ready : goal.returns-clause-ready
+returns-clause-ready c = none_ready c.args.engine c.set_engine.result c.set_engine.ensures.ready

@@ -2,12 +2,13 @@ use Rattle.std.proofs.Common.{sym, subst}
 use Rattle.desk_terms.specs.Reading.{Calc}
 use Rattle.session_model.specs.Standing.{Standing}
 use Rattle.session_core.specs.Allowed.{MayRecalc}
-use Rattle.session_core.specs.Pricing.{recalculating, Prices, StopsShort}
+use Rattle.session_model.specs.Pricing.{recalculating}
+use Rattle.session_core.specs.Pricing.{Prices, StopsShort}
 use Rattle.session_core.proofs.Naming.{names_alike}
 use Rattle.session_core.proofs.Alike.{stored_alike, recalced_alike}
 use Rattle.session_core.proofs.Turns.{on_err}
 use Rattle.session_core.proofs.Priced.{recalc_prices, recalc_stops, recalc_done, recalc_early}
-use Rattle.session_core.proofs.session.Session.reprice.Goals as goal
+use Rattle.session_core.proofs.session.Session.recalc.Goals as goal
 
 pub unreachable-requires : goal.unreachable-requires
 unreachable-requires g c =

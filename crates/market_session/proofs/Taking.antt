@@ -24,7 +24,7 @@ use Rattle.session_model.specs.Standing.{Standing, with_objects, start_of, named
 use Rattle.session_commands.specs.declared.refusal.Refusal.{Refusal}
 use Rattle.session_commands.specs.declared.refusal.Refusal.TheVariants.{Taken, TooMany}
 use Rattle.session_model.specs.declared.act.Act.TheVariants as act
-use Rattle.session_model.specs.Resolve.{unless, made as wanted, unless_taken}
+use Rattle.session_model.specs.Resolve.{unless, making as wanted, unless_taken}
 use Rattle.session_core.specs.declared.fault.MakeFault.{MakeFault}
 use Rattle.session_core.specs.declared.fault.MakeFault.TheVariants.{Refused}
 use Rattle.session_core.specs.Steps.{with_object, AnswersMake}

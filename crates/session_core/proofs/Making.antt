@@ -7,7 +7,7 @@ use Rattle.session_commands.specs.declared.refusal.Refusal.TheVariants.{Taken, T
 use Rattle.session_model.specs.declared.act.Act.{Act}
 use Rattle.session_model.specs.declared.act.Act.TheVariants as act
 use Rattle.session_model.specs.Standing.{Standing, object_named, is_full}
-use Rattle.session_model.specs.Resolve.{unless, made, unless_taken}
+use Rattle.session_model.specs.Resolve.{unless, making, unless_taken}
 use Rattle.session_core.specs.declared.fault.MakeFault.{MakeFault}
 use Rattle.session_core.specs.declared.fault.MakeFault.TheVariants.{Refused, NoMemory}
 use Rattle.session_core.specs.Steps.{AnswersMake}
@@ -39,16 +39,16 @@ answers_memory wanted (Err NoMemory) e is = is
 
 module _ (p : Standing) (name : ℕ) (t : Terms) where
   pub taken_refuses : (r : Refusal) → free_of (is_some (object_named p name)) name ≡ Err r
-      → unless_taken p name (made p name t) ≡ Err r
+      → unless_taken p name (making p name t) ≡ Err r
   unfolding unless_taken
   taken_refuses r e = by (is_some (object_named p name)) e
     where
-      by : (b : Bool) → free_of b name ≡ Err r → (if b then Err (Taken name) else made p name t) ≡ Err r
+      by : (b : Bool) → free_of b name ≡ Err r → (if b then Err (Taken name) else making p name t) ≡ Err r
       by true e = let same : Taken name ≡ r = cc in cc
       by false e = absurd (cc)
 
   pub full_refuses : (r : Refusal) → free_of (is_some (object_named p name)) name ≡ Ok tt
-      → room_of (is_full p.state.market) ≡ Err r → unless_taken p name (made p name t) ≡ Err r
+      → room_of (is_full p.state.market) ≡ Err r → unless_taken p name (making p name t) ≡ Err r
   unfolding unless_taken unless
   full_refuses r free e = by (is_some (object_named p name)) (is_full p.state.market) free e
     where
@@ -59,7 +59,7 @@ module _ (p : Standing) (name : ℕ) (t : Terms) where
       by false false free e = absurd (cc)
 
   pub is_made : free_of (is_some (object_named p name)) name ≡ Ok tt → room_of (is_full p.state.market) ≡ Ok tt
-      → IsOk (unless_taken p name (made p name t))
+      → IsOk (unless_taken p name (making p name t))
   unfolding unless_taken unless
   is_made free room = by (is_some (object_named p name)) (is_full p.state.market) free room
     where

@@ -34,7 +34,7 @@ use Rattle.session_model.specs.declared.place.Place.{Place}
 use Rattle.session_model.specs.declared.place.Place.TheVariants as place
 use Rattle.session_model.specs.Place.{takes_found}
 use Rattle.session_model.specs.Standing.{Standing, object_named, is_full, IsKnown}
-use Rattle.session_model.specs.Resolve.{found, find, with_found, unless, unless_used, unless_kept, unless_late, unless_taken, closes, joins, rate_at, target_of, handle_kind, engaged, made, quote_input, member, curve, index, engine, resolve}
+use Rattle.session_model.specs.Resolve.{object_or_refusal, find, with_found, unless, unless_used, unless_kept, unless_late, unless_taken, closes, joins, rate_at, target_of, handle_kind, engaging, making, quote_input, member, curve, index, engine, resolve}
 use Rattle.session_core.specs.Allowed.{IsAllowed}
 
 -- what is found is of a kind that the place takes
@@ -49,7 +49,7 @@ find_taken w p name o e = by (object_named p name) e
         subst (λ (y : ℕ). takes_found w (kind_at p.state.market y) ≡ true) same is
     pick x false is e = absurd (cc)
 
-    by : (r : Option ℕ) → found w p.state.market name r ≡ Ok o → takes_found w (kind_at p.state.market o) ≡ true
+    by : (r : Option ℕ) → object_or_refusal w p.state.market name r ≡ Ok o → takes_found w (kind_at p.state.market o) ≡ true
     by None e = absurd (cc)
     by (Some x) e = pick x (takes_found w (kind_at p.state.market x)) refl e
 
@@ -214,20 +214,20 @@ module _ (p : Standing) where
   late_allowed None a all = all refl
   late_allowed (Some source) a all = tt
 
-  engages : (x : ℕ) (e : Option ℕ) → kind_at p.state.market x ≡ Some kind.Flows → AllAllowed (engaged p x e)
+  engages : (x : ℕ) (e : Option ℕ) → kind_at p.state.market x ≡ Some kind.Flows → AllAllowed (engaging p x e)
   engages x None is = record { instrument = is; engine = tt }
   engages x (Some e) is =
       finds engine e _ (λ y taken. record { instrument = is; engine = (taken_input _ wanted.Engine taken, tt) })
 
   -- an object of these terms may be made under this name
   may_make : (name : ℕ) (t : Terms) → name < length p.names → AreInRange t
-      → AreOfKind p.state.market (Some t) → object_named p name ≡ None → AllAllowed (made p name t)
+      → AreOfKind p.state.market (Some t) → object_named p name ≡ None → AllAllowed (making p name t)
   may_make name t named is inputs free =
       unless_allowed (is_full p.state.market) refusal.TooMany (act.Make name t) (λ room. record { named = named; free = free; room = room; ranged = is; inputs = inputs })
 
   derives : (name a b : ℕ) (minus : Bool) → name < length p.names → object_named p name ≡ None
       → AllAllowed (with_found (find quote_input p a)
-      (λ x. with_found (find quote_input p b) (λ y. made p name (terms.Derived minus x y))))
+      (λ x. with_found (find quote_input p b) (λ y. making p name (terms.Derived minus x y))))
   derives name a b minus named free = finds quote_input a _ (λ x first. finds quote_input b _ (λ y second.
       may_make name (terms.Derived minus x y) named tt
       (taken_input _ wanted.QuoteInput first, (taken_input _ wanted.QuoteInput second, tt)) free))

@@ -4,7 +4,7 @@ ghost use Rattle.desk_terms.specs.Reading.{Calc, AreInRange};
 ghost use Rattle.desk_model.specs.Links.{AreOfKind};
 ghost use Rattle.desk_model.specs.Sound.{IsSound, KeepsCurrent};
 ghost use Rattle.session_model.specs.Standing.{IsKnown};
-ghost use Rattle.session_model.specs.Resolve.{made, unless_taken, resolve};
+ghost use Rattle.session_model.specs.Resolve.{making, unless_taken, resolve};
 ghost use Rattle.session_core.specs.Allowed.{IsAllowed};
 ghost use Rattle.session_core.specs.Steps.{with_object, AnswersMake, Carries, BreaksOff, Steps, Stops, takes_no_memory, is_without_memory};
 
@@ -65,7 +65,7 @@ impl Session {
         requires inputs { AreOfKind self.old.state.market (Some terms) }
         ensures number { IfOk result (λ object. object ≡ length self.old.state.market.objects) }
         ensures made { OnOk result (self.new ≡ with_object name terms self.old) }
-        ensures answer { AnswersMake (unless_taken self.old name (made self.old name terms)) result }
+        ensures answer { AnswersMake (unless_taken self.old name (making self.old name terms)) result }
         ensures same { OnErr result (self.new ≡ self.old) }
         ensures keeps { KeepsCurrent self.old.state self.new.state }
         ensures sound { (calc : Calc) → IsSound calc self.old.state → IsSound calc self.new.state }

@@ -11,7 +11,7 @@ ghost use Rattle.session_model.specs.declared.act.Growth.TheVariants as growth;
 ghost use Rattle.session_model.specs.declared.act.How.TheVariants as how;
 ghost use Rattle.session_model.specs.Place.{takes_found};
 ghost use Rattle.session_model.specs.Standing.{object_named, is_full};
-ghost use Rattle.session_model.specs.Resolve.{find, with_found, made, unless, unless_used, unless_kept, unless_late, unless_taken, closes, joins, rate_at, target_of, handle_kind, engaged, derived, quote_input, curve, resolve};
+ghost use Rattle.session_model.specs.Resolve.{find, with_found, making, unless, unless_used, unless_kept, unless_late, unless_taken, closes, joins, rate_at, target_of, handle_kind, engaging, combining, quote_input, curve, resolve};
 ghost use Rattle.desk_model.specs.Market.{least_user};
 ghost use Rattle.desk_model.specs.State.{least_source};
 ghost use Rattle.session_commands.specs.declared.refusal.Refusal.TheVariants.{Cycle};
@@ -33,8 +33,8 @@ impl Session {
     {
         match command {
             Command::Quote(name, value) => self.quote(*name, *value),
-            Command::Sum(name, first, second) => self.derived(*name, false, *first, *second),
-            Command::Difference(name, first, second) => self.derived(
+            Command::Sum(name, first, second) => self.combining(*name, false, *first, *second),
+            Command::Difference(name, first, second) => self.combining(
                 *name, true, *first, *second,
             ),
             Command::Stock(name, quote) => self.stock(*name, *quote),
@@ -45,7 +45,7 @@ impl Session {
             Command::Unset(quote) => self.value(*quote, None),
             Command::Link(handle, target) => self.linked(*handle, *target),
             Command::Unlink(handle) => self.unlinked(*handle),
-            Command::Engine(instrument, engine) => self.engaged(*instrument, *engine),
+            Command::Engine(instrument, engine) => self.engaging(*instrument, *engine),
             Command::Today(day) => Ok(Act::Quiet(Change::Today(*day))),
             Command::Fixing(index, day, rate) => self.fixed(*index, *day, *rate),
             Command::Freeze(object) => self.frozen(*object),
@@ -108,8 +108,8 @@ impl Session {
 
     // An object of these terms, where there is room.
     #[tactic(auto, unfolding(session_model::specs::Resolve::unless))]
-    fn made(&self, name: NameId, terms: Terms) -> Result<Act, Refusal>
-        ensures { result ≡ made self.now name terms }
+    fn making(&self, name: NameId, terms: Terms) -> Result<Act, Refusal>
+        ensures { result ≡ making self.now name terms }
     {
         self.room()?;
         Ok(Act::Make(name, terms))
@@ -117,26 +117,26 @@ impl Session {
 
     #[tactic(auto, unfolding(session_model::specs::Resolve::unless_taken))]
     fn quote(&self, name: NameId, value: Option<Rate>) -> Result<Act, Refusal>
-        ensures { result ≡ unless_taken self.now name (made self.now name (terms.Quote value)) }
+        ensures { result ≡ unless_taken self.now name (making self.now name (terms.Quote value)) }
     {
         self.free(name)?;
-        self.made(name, Terms::Quote(value))
+        self.making(name, Terms::Quote(value))
     }
 
     #[tactic(auto, unfolding(session_model::specs::Resolve::unless_taken, session_model::specs::Resolve::with_found))]
-    fn derived(
+    fn combining(
         &self,
         name: NameId,
         minus: bool,
         first: NameId,
         second: NameId,
     ) -> Result<Act, Refusal>
-        ensures { result ≡ unless_taken self.now name (derived self.now name minus first second) }
+        ensures { result ≡ unless_taken self.now name (combining self.now name minus first second) }
     {
         self.free(name)?;
         let first = self.find(Place::Input(Wanted::QuoteInput), first)?;
         let second = self.find(Place::Input(Wanted::QuoteInput), second)?;
-        self.made(
+        self.making(
             name,
             Terms::Derived {
                 minus,
@@ -149,27 +149,27 @@ impl Session {
     #[tactic(auto, unfolding(session_model::specs::Resolve::unless_taken, session_model::specs::Resolve::with_found))]
     fn stock(&self, name: NameId, quote: NameId) -> Result<Act, Refusal>
         ensures { result ≡ unless_taken self.now name
-            (with_found (find quote_input self.now quote) (λ x. made self.now name (terms.Stock x))) }
+            (with_found (find quote_input self.now quote) (λ x. making self.now name (terms.Stock x))) }
     {
         self.free(name)?;
         let quote = self.find(Place::Input(Wanted::QuoteInput), quote)?;
-        self.made(name, Terms::Stock { quote })
+        self.making(name, Terms::Stock { quote })
     }
 
     #[tactic(auto, unfolding(session_model::specs::Resolve::unless_taken))]
     fn composite(&self, name: NameId) -> Result<Act, Refusal>
-        ensures { result ≡ unless_taken self.now name (made self.now name (terms.Composite [])) }
+        ensures { result ≡ unless_taken self.now name (making self.now name (terms.Composite [])) }
     {
         self.free(name)?;
-        self.made(name, Terms::Composite(PartList::new(self.allocator())))
+        self.making(name, Terms::Composite(PartList::new(self.allocator())))
     }
 
     #[tactic(auto, unfolding(session_model::specs::Resolve::unless_taken))]
     fn handle(&self, name: NameId, is_curve: bool) -> Result<Act, Refusal>
-        ensures { result ≡ unless_taken self.now name (made self.now name (terms.Handle (handle_kind is_curve) None)) }
+        ensures { result ≡ unless_taken self.now name (making self.now name (terms.Handle (handle_kind is_curve) None)) }
     {
         self.free(name)?;
-        self.made(
+        self.making(
             name,
             Terms::Handle {
                 target_kind: handle_kind(is_curve),
@@ -213,8 +213,8 @@ impl Session {
     }
 
     #[tactic(auto, unfolding(session_model::specs::Resolve::with_found))]
-    fn engaged(&self, instrument: NameId, engine: Option<NameId>) -> Result<Act, Refusal>
-        ensures { result ≡ with_found (find place.Flows self.now instrument) (λ x. engaged self.now x engine) }
+    fn engaging(&self, instrument: NameId, engine: Option<NameId>) -> Result<Act, Refusal>
+        ensures { result ≡ with_found (find place.Flows self.now instrument) (λ x. engaging self.now x engine) }
     {
         let instrument = self.find(Place::Flows, instrument)?;
         match engine {

@@ -28,12 +28,12 @@ use Rattle.session_model.specs.Place.{takes_found}
 use Rattle.session_model.specs.Standing.{Standing, object_named, is_full}
 
 -- a name is found, or refused
-abbrev pub found : Place → Market → ℕ → Option ℕ → Result ℕ Refusal
-found p market name None = Err (Unknown name)
-found p market name (Some o) = if takes_found p (kind_at market o) then Ok o else Err (Kind name)
+abbrev pub object_or_refusal : Place → Market → ℕ → Option ℕ → Result ℕ Refusal
+object_or_refusal p market name None = Err (Unknown name)
+object_or_refusal p market name (Some o) = if takes_found p (kind_at market o) then Ok o else Err (Kind name)
 
 unfoldable pub find : Place → Standing → ℕ → Result ℕ Refusal
-find p standing name = found p standing.state.market name (object_named standing name)
+find p standing name = object_or_refusal p standing.state.market name (object_named standing name)
 
 unfoldable pub with_found : Result ℕ Refusal → (ℕ → Result Act Refusal) → Result Act Refusal
 with_found (Ok o) rest = rest o
@@ -68,8 +68,8 @@ abbrev pub rate_at : Market → ℕ → ℤ → Option ℤ
 rate_at market index day = fixing_on (fixings_in (index_at market (Some index))) day
 
 -- a new object needs room, and a name that no live object has
-abbrev pub made : Standing → ℕ → Terms → Result Act Refusal
-made p name t = unless (is_full p.state.market) TooMany (act.Make name t)
+abbrev pub making : Standing → ℕ → Terms → Result Act Refusal
+making p name t = unless (is_full p.state.market) TooMany (act.Make name t)
 
 unfoldable pub unless_taken : Standing → ℕ → Result Act Refusal → Result Act Refusal
 unless_taken p name rest = if is_some (object_named p name) then Err (Taken name) else rest
@@ -103,24 +103,24 @@ handle_kind true = handle.TheVariants.Curve
 handle_kind false = handle.TheVariants.Quote
 
 -- an instrument with an engine, or with none
-abbrev pub engaged : Standing → ℕ → Option ℕ → Result Act Refusal
-engaged p x None = Ok (act.Quiet (change.Engine x None))
-engaged p x (Some e) = with_found (find engine p e) (λ y. Ok (act.Quiet (change.Engine x (Some y))))
+abbrev pub engaging : Standing → ℕ → Option ℕ → Result Act Refusal
+engaging p x None = Ok (act.Quiet (change.Engine x None))
+engaging p x (Some e) = with_found (find engine p e) (λ y. Ok (act.Quiet (change.Engine x (Some y))))
 
 -- two inputs that give rates
-abbrev pub derived : Standing → ℕ → Bool → ℕ → ℕ → Result Act Refusal
-derived p name minus a b =
+abbrev pub combining : Standing → ℕ → Bool → ℕ → ℕ → Result Act Refusal
+combining p name minus a b =
     with_found (find quote_input p a)
-    (λ x. with_found (find quote_input p b) (λ y. made p name (terms.Derived minus x y)))
+    (λ x. with_found (find quote_input p b) (λ y. making p name (terms.Derived minus x y)))
 
 unfoldable pub resolve : Standing → Command → Result Act Refusal
-resolve p (command.Quote name value) = unless_taken p name (made p name (terms.Quote value))
-resolve p (command.Sum name a b) = unless_taken p name (derived p name false a b)
-resolve p (command.Difference name a b) = unless_taken p name (derived p name true a b)
-resolve p (command.Handle name is_curve) = unless_taken p name (made p name (terms.Handle (handle_kind is_curve) None))
+resolve p (command.Quote name value) = unless_taken p name (making p name (terms.Quote value))
+resolve p (command.Sum name a b) = unless_taken p name (combining p name false a b)
+resolve p (command.Difference name a b) = unless_taken p name (combining p name true a b)
+resolve p (command.Handle name is_curve) = unless_taken p name (making p name (terms.Handle (handle_kind is_curve) None))
 resolve p (command.Stock name q) =
-    unless_taken p name (with_found (find quote_input p q) (λ x. made p name (terms.Stock x)))
-resolve p (command.Composite name) = unless_taken p name (made p name (terms.Composite []))
+    unless_taken p name (with_found (find quote_input p q) (λ x. making p name (terms.Stock x)))
+resolve p (command.Composite name) = unless_taken p name (making p name (terms.Composite []))
 resolve p (command.Member k i weight) =
     with_found (find place.Composite p k)
     (λ x. with_found (find member p i) (λ y. unless (joins weight p.state.market x y) Cycle (act.Grow (growth.Member x y weight))))
@@ -131,7 +131,7 @@ resolve p (command.Link h t) =
     (λ x. with_found (find (target_of p.state.market x) p t)
     (λ y. unless (closes p.state.market x y) Cycle (act.Quiet (change.Link x (Some y)))))
 resolve p (command.Unlink h) = with_found (find place.Handle p h) (λ x. Ok (act.Quiet (change.Link x None)))
-resolve p (command.Engine i e) = with_found (find place.Flows p i) (λ x. engaged p x e)
+resolve p (command.Engine i e) = with_found (find place.Flows p i) (λ x. engaging p x e)
 resolve p (command.Today day) = Ok (act.Quiet (change.Today day))
 resolve p (command.Fixing x day rate) =
     with_found (find index p x) (λ y. unless_kept (rate_at p.state.market y day) (act.Grow (growth.Fixing y day rate)))

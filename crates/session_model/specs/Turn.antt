@@ -30,11 +30,11 @@ step calc s (act.Grow growth) = grown growth s
 step calc s (act.Price name object how) = (pricing_of calc object s how).next
 
 -- the names of the objects after an act
-abbrev pub enrolled : Act → List ℕ → List ℕ
-enrolled (act.Make name terms) of_object = of_object ++ name ∷ []
-enrolled (act.Quiet change) of_object = of_object
-enrolled (act.Grow growth) of_object = of_object
-enrolled (act.Price name object how) of_object = of_object
+abbrev pub object_names : Act → List ℕ → List ℕ
+object_names (act.Make name terms) of_object = of_object ++ name ∷ []
+object_names (act.Quiet change) of_object = of_object
+object_names (act.Grow growth) of_object = of_object
+object_names (act.Price name object how) of_object = of_object
 
 -- the line of a pricing
 abbrev pub line_of : Standing → ℕ → ℕ → How → Pricing → List ℕ
@@ -58,7 +58,7 @@ unfoldable pub effect_of : Calc → Standing → Act → Turn
 effect_of calc p a = record {
   lines = own_lines calc p a;
   calls = own_calls calc p.state a;
-  next = record p { state = step calc p.state a; of_object = enrolled a p.of_object };
+  next = record p { state = step calc p.state a; of_object = object_names a p.of_object };
 }
 
 -- a command that is refused writes one line and changes nothing

@@ -4,7 +4,7 @@
 //! `Quotes`. A clause asks what stands at a number by `entry`, and speaks of a changed board by `IsPut`.
 #![tactic(auto)]
 
-ghost use Rattle.std.specs.Prelude.{◌≡◌, ◌≢◌, ◌≤◌, ◌<◌, ℕ, length, None, Some, OnOk, OnErr, not};
+ghost use Rattle.std.specs.Prelude.{◌≡◌, ◌≢◌, ◌≤◌, ◌<◌, ℕ, length, None, Some, IsOk, OnOk, OnErr, not};
 ghost use Rattle.quote_board.specs.Board.{entry, is_equal, IsPut, IsSame};
 
 use desk_names::ObjId;
@@ -36,9 +36,12 @@ impl Quotes {
         }
     }
 
-    /// Makes room for a quote of this number. The board stays as it was.
+    /// Makes room for a quote of this number. The board stays as it was. No memory is wanted where room was made, as
+    /// for a quote that is there.
     pub fn reserve(&mut self, quote: ObjId) -> Result<(), AllocError>
         ensures room { OnOk result (quote < length self.new) }
+        ensures ready { quote < length self.old → IsOk result }
+        ensures there { entry self.old quote ≢ None → IsOk result }
         ensures same { IsSame self.old self.new }
     {
         grow(&mut self.entries, quote.place() + 1)
@@ -55,6 +58,7 @@ impl Quotes {
     /// Writes a quote with its value or with none. Where memory is wanting, the board stays as it was.
     pub fn add(&mut self, quote: ObjId, value: Option<Rate>) -> Result<(), AllocError>
         ensures added { OnOk result (IsPut quote (Some value) self.old self.new) }
+        ensures there { entry self.old quote ≢ None → IsOk result }
         ensures same { OnErr result (IsSame self.old self.new) }
     {
         self.reserve(quote)?;
@@ -100,6 +104,7 @@ impl Quotes {
 fn grow(entries: &mut Vec<Option<Option<Rate>>>, count: usize) -> Result<(), AllocError>
     ensures same { IsSame entries.old.items entries.new.items }
     ensures long { OnOk result (count ≤ length entries.new.items) }
+    ensures ready { count ≤ length entries.old.items → IsOk result }
 {
     while entries.len() < count {
         entries.push(None)?;

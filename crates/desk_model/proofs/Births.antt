@@ -47,7 +47,7 @@ module _ (s : State) (slot : Slot) where
   pub old_within : (o : ℕ) → o < length s.market.objects → slot_at (added slot s).market o ≡ slot_at s.market o
   old_within o within = old_slot o (λ same. omega arith)
 
-  added_kept : (o : ℕ) → kept_at (added slot s) o ≡ kept_at s o
+  pub added_kept : (o : ℕ) → kept_at (added slot s) o ≡ kept_at s o
   added_kept o = elim (cases_lt o (length s.kept)) [
     | inl within ↦ get_or_append_left s.kept (unpriced ∷ []) unpriced o within
     | inr past ↦ elim (cases_eq o (length s.kept)) [

@@ -11,6 +11,7 @@ pub mod Flags
 pub mod KindsKept
 pub mod Lazy
 pub mod Locality
+pub mod Marks
 pub mod PairSets
 pub mod Paths
 pub mod Recalc
@@ -21,6 +22,7 @@ pub mod Steps
 pub mod Stores
 pub mod Tells
 pub mod Thaw
+pub mod Unheld
 pub mod Users
 pub mod Valued
 pub mod Visits

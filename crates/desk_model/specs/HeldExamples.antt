@@ -1,11 +1,11 @@
 -- Small sessions with deferral, frozen objects and watchers, worked through by hand.
-use Rattle.std.specs.Prelude.{◌≡◌, true, [], ◌∷◌, pos, Some, None, Ok, Err}
+use Rattle.std.specs.Prelude.{◌≡◌, true, false, [], ◌∷◌, pos, Some, None, Ok, Err}
 use Rattle.desk_terms.specs.declared.terms.Terms.TheVariants.{Handle, Stock, Composite}
 use Rattle.desk_terms.specs.declared.terms.HandleKind as handle
 use Rattle.desk_terms.specs.declared.asked.Mark.TheVariants.{Fresh, Frozen, Late, Held}
 use Rattle.desk_terms.specs.declared.value.Value.TheVariants.{Money}
 use Rattle.desk_terms.specs.declared.cause.Cause.TheVariants.{Unpriced}
-use Rattle.desk_model.specs.State.{State, now, least_source}
+use Rattle.desk_model.specs.State.{State, is_late, now, least_source}
 use Rattle.desk_model.specs.Visit.{log_of}
 use Rattle.desk_model.specs.Effect.{made, watching, quote_set, relinked, member_set, dropped, registered_with, frozen_set, forward_set, thawed, deferred, resumed}
 use Rattle.desk_model.specs.Recalc.{reruns, recalced}
@@ -61,6 +61,7 @@ pub record AreRecalculated : Type 0 where
   pub price : now plain (quote_set 1 (Some (pos 4)) (frozen_set 2 (ask 2 two_stocks))) 2 ≡ Ok (Money (pos 4))
   pub frozen : line plain 2 recalced_stock ≡ shown (pos 4) Frozen 0
   pub late_source : least_source late_again 2 ≡ Some 1
+  pub frozen_and_late : (is_late late_again 2 ≡ true) × (line plain 2 late_again ≡ shown (pos 4) Frozen 0)
   pub no_late_source : least_source recalced_stock 2 ≡ None
 
 -- Quotes 1, 2 and 3, a handle on the first, 4, a stock on the handle, 5, and on the first quote, 6. Under deferral
@@ -92,5 +93,6 @@ pub record AreWatched : Type 0 where
   pub told : (quote_set 1 (Some (pos 3)) passing).noticed ≡ 4 ∷ []
   pub told_once : (quote_set 1 (Some (pos 4)) (quote_set 1 (Some (pos 3)) passing)).noticed ≡ 4 ∷ []
   pub told_of_a_current_one : (quote_set 1 (Some (pos 2)) (ask 2 watched)).noticed ≡ 4 ∷ []
+  pub off_again : (quote_set 1 (Some (pos 3)) (forward_set 2 false passing)).noticed ≡ []
   pub after_dropping : (dropped 4 (quote_set 1 (Some (pos 3)) passing)).noticed ≡ []
   pub unwatched : (dropped 2 watched).registrations ≡ []

@@ -13,5 +13,6 @@ pub mod Registrations
 pub mod Sound
 pub mod State
 pub mod Told
+pub mod Unheld
 pub mod Uses
 pub mod Visit

@@ -25,6 +25,7 @@ ghost use Rattle.desk_model.specs.Laws.{
   WalksAreLeast,
 };
 ghost use Rattle.desk_model.specs.Registrations.{RegistrationsAreASet};
+ghost use Rattle.desk_model.specs.Unheld.{MarksAreExact, OthersHoldNothing, UnheldIsFresh};
 
 /// No bound of a recursion above the number of objects matters: neither to prices afresh and to what is seen, nor to
 /// what an input gives, nor to what an ask computes.
@@ -100,4 +101,17 @@ pub fn a_clear_object_shows_its_price_afresh()
 /// An object is late exactly where a deferred source makes it late, and the least such source is named.
 pub fn a_late_object_has_a_least_source()
     ensures { LateHasLeastSource }
+{}
+
+/// An answer is marked frozen exactly where the object is frozen; else late exactly where a deferred source is the object
+/// or lies beneath it, no frozen object between; fresh exactly where neither the object nor any beneath it is held back.
+pub fn marks_say_what_is_held_back()
+    ensures { MarksAreExact }
+{}
+
+/// Where no object is frozen and no notice is held back, each ask shows the price afresh, marked fresh; and nothing but
+/// a freeze and a deferral leads away from there.
+pub fn what_is_not_held_is_fresh()
+    ensures fresh { UnheldIsFresh }
+    ensures others { OthersHoldNothing }
 {}

@@ -16,6 +16,7 @@ returns c = record {
   calls = refl;
   price = refl;
   frozen = refl;
+  frozen_and_late = (refl, refl);
   late_source = refl;
   no_late_source = refl;
 }

@@ -17,6 +17,7 @@ returns c = record {
   told = refl;
   told_once = refl;
   told_of_a_current_one = refl;
+  off_again = refl;
   after_dropping = refl;
   unwatched = refl;
 }

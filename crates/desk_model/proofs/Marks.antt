@@ -1,9 +1,8 @@
 -- Which mark stands where.
-use Rattle.std.proofs.Common.{◌≡◌, ◌⊎◌, ◌↔◌, inl, inr, ℕ, suc, Bool, true, false, length, refl, sym, ◌∙◌}
+use Rattle.std.proofs.Common.{◌≡◌, ◌↔◌, inl, inr, ℕ, suc, Bool, true, false, length, refl, sym, ◌∙◌}
 use Rattle.std.specs.Prelude.{not, if◌then◌else◌, ◌||◌}
 use Rattle.std.proofs.lemmas.Bool.{or_cases, or_left, or_right, or_parts, or_from, not-true, not_from_false, false_from_ne_true, false≢true}
 use Rattle.walks.specs.Walk.{below_by, Below}
-use Rattle.walks.proofs.Walks.{only_below}
 use Rattle.walks.proofs.Ranks.{below_wider}
 use Rattle.desk_terms.specs.declared.asked.Mark.{Mark}
 use Rattle.desk_terms.specs.declared.asked.Mark.TheVariants.{Fresh, Frozen, Late, Held}

@@ -1,11 +1,10 @@
 -- What neither freezes nor defers holds nothing back, and then each object is clear.
-use Rattle.std.proofs.Common.{◌≡◌, inl, inr, ℕ, suc, ◌+◌, ◌<◌, ◌≤◌, Bool, true, false, List, length, ℤ, Option, Some, None, Ok, Err, refl, sym, ◌∙◌, ap, subst, arith}
+use Rattle.std.proofs.Common.{◌≡◌, inl, inr, ℕ, zero, suc, ◌+◌, Bool, true, false, List, length, ℤ, Option, Some, None, Ok, Err, refl, sym, ◌∙◌, ap, subst}
 use Rattle.std.specs.Prelude.{◌||◌, ◌==◌, not, if◌then◌else◌}
 use Rattle.std.specs.Option.{option_eq}
 use Rattle.std.specs.Ordering.{int_eq}
-use Rattle.std.proofs.lemmas.List.{get_or_past}
 use Rattle.std.proofs.lemmas.Bool.{cases_lt, or_parts, or_from, not_from_false, false_from_ne_true, false≢true}
-use Rattle.walks.specs.Walk.{below_by, Below}
+use Rattle.walks.specs.Walk.{below_by}
 use Rattle.walks.proofs.Walks.{only_below}
 use Rattle.walks.proofs.Ranks.{below_meets}
 use Rattle.desk_terms.specs.declared.terms.Terms.{Terms}
@@ -24,7 +23,7 @@ use Rattle.desk_model.specs.Held.Changeable.{HasValue, HasTarget, HasFixings, Ha
 use Rattle.desk_model.specs.Told.{told, unsettled, tell}
 use Rattle.desk_model.specs.Visit.{value_among, with_value, runs, stored, asked}
 use Rattle.desk_model.specs.Recalc.{inputs_walk, recalced_kept, recalced_bare, recalced}
-use Rattle.desk_model.specs.Effect.{added, made, watching, with_kept, notified, notified_as, with_terms, revised, revised_unless, value_set, quote_set, number_eq, target_set, relinked, priced_by_engine, engine_set, weight_set, member_set, fixing_stored, fixing_added, with_today, today_set, dropped, registered_with, unregistered, handed_out, forward_set, unfrozen, thawed, all_told, resumed}
+use Rattle.desk_model.specs.Effect.{start, added, made, watching, with_kept, notified, notified_as, with_terms, revised, revised_unless, value_set, quote_set, number_eq, target_set, relinked, priced_by_engine, engine_set, weight_set, member_set, fixing_stored, fixing_added, with_today, today_set, dropped, registered_with, unregistered, handed_out, forward_set, unfrozen, thawed, all_told, resumed}
 use Rattle.desk_model.specs.Unheld.{HoldsNothing, HoldNothing, IsAfresh}
 use Rattle.desk_model.proofs.Stores.{each_at, each_past, told_kept, kept_with}
 use Rattle.desk_model.proofs.Births.{added_kept}
@@ -222,3 +221,11 @@ module _ (s : State) (none : HoldsNothing s) where
     mark = fresh_mark s o (unheld_clear o) (unheld_early o);
     value = shows_fresh calc o;
   }
+
+-- a new session holds nothing
+pub start_unheld : (today : ℤ) → HoldsNothing (start today)
+start_unheld today = unheld_of (start today) refl each
+  where
+    each : (o : ℕ) → flagged (kept_at (start today) o) ≡ false
+    each zero = refl
+    each (suc o) = refl

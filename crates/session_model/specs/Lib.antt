@@ -1,8 +1,10 @@
+pub mod Afresh
 pub mod Place
 pub mod Standing
 pub mod Change
 pub mod Pricing
 pub mod Resolve
 pub mod Turn
+pub mod RoomRows
 pub mod Rounds
 pub mod Rows

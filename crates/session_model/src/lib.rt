@@ -7,13 +7,20 @@
 #![tactic(auto)]
 
 mod act;
+mod laws;
 mod limits;
 mod place;
+mod room_rows;
 mod rows;
 
 pub use act::{Act, Change, Growth, How};
+pub use laws::without_freezing_and_deferral_all_is_fresh;
 pub use limits::{MOST_LIVE, MOST_NUMBERS};
 pub use place::Place;
+pub use room_rows::{
+    beginnings_are_worked_through, discount_factors_are_computed, forwarding_is_worked_through,
+    room_is_worked_through,
+};
 pub use rows::{
     deferral_is_worked_through, drops_and_cycles_are_worked_through,
     frozen_objects_are_worked_through, handles_are_worked_through, members_are_worked_through,

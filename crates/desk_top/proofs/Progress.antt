@@ -122,13 +122,11 @@ module _ (turns done later : List Turn) (t : Turn) (whole : turns ≡ done ++ (t
     pub halted_in : IsStopped t now new → IsHalted turns start new
     halted_in r = record {
       whole = length done;
-      part = r.part;
       begun = r.begun;
       ended = r.ended;
-      short = omega (arith, r.short, ap (λ (l : List ℕ). length l) lines_next);
       most = omega (arith, r.most, ap (λ (l : List (ℕ × Bool)). length l) calls_next);
       last = r.last;
-      bytes = bytes_within start.bytes now.bytes new.bytes r.part bytes r.bytes;
+      bytes = r.bytes ∙ bytes ∙ ap (λ (l : List Turn). appended (lines_of l) start.bytes) (sym done_is);
       count = r.count ∙ ap (λ (n : ℕ). counted n r.begun) count ∙ counted-counted start.count (length (calls_in done)) r.begun
           ∙ ap (λ (l : List Turn). counted start.count (length (calls_in l) + r.begun)) (sym done_is);
       log = r.log ∙ ap (λ (l : Log). logged l (take r.ended t.calls)) log ∙ logged-logged start.log (calls_in done) (take r.ended t.calls)
@@ -141,10 +139,8 @@ pub halted_before : (turns : List Turn) (start : Outside) → IsHalted turns sta
 unfolding lines_of calls_in
 halted_before turns start = record {
   whole = 0;
-  part = 0;
   begun = 0;
   ended = 0;
-  short = omega arith;
   most = omega arith;
   last = (omega arith, omega arith);
   bytes = sym (appended-nil start.bytes);
@@ -175,7 +171,9 @@ pub cut_front : (turns : List Turn) (old new : Outside) → IsCut turns old new 
 cut_front turns old new c = front_written turns c.whole c.part (omega (arith, c.short)) old.bytes new.bytes c.bytes
 
 pub halted_front : (turns : List Turn) (old new : Outside) → IsHalted turns old new → (n : ℕ) × (new.bytes ≡ appended (take n (lines_of turns)) old.bytes)
-halted_front turns old new h = front_written turns h.whole h.part h.short old.bytes new.bytes h.bytes
+halted_front turns old new h =
+    front_written turns h.whole 0 (omega arith) old.bytes new.bytes
+    (h.bytes ∙ ap (λ (l : List ℕ). appended l old.bytes) (sym (append-nil (lines_of (take h.whole turns)))))
 
 module _ (calc : Calc) (first : Standing) (commands : List Command) (start : Outside) where
   -- the next round is that of the next command

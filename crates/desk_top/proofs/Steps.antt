@@ -1,12 +1,18 @@
 -- Steps of reading, one after another.
-use Rattle.std.proofs.Common.{◌≡◌, inl, inr, ⊎_elim, ℕ, ◌+◌, ◌<◌, ◌≤◌, Option, Some, None, Result, Ok, Err, refl, sym, ◌∙◌, ap, subst, arith}
+use Rattle.std.proofs.Common.{◌≡◌, inl, inr, ⊎_elim, ℕ, Bool, ◌+◌, ◌<◌, ◌≤◌, Option, Some, None, Result, Ok, Err, refl, sym, ◌∙◌, ap, subst, arith}
 use Rattle.std.specs.Prelude.{IfSome}
 use Rattle.desk_edge.specs.Count.{Rose}
+use Rattle.desk_edge.specs.Shelf.{faults_after as read_after}
+use Rattle.desk_edge.specs.declared.reading.ReadFault as read
+use Rattle.desk_edge.specs.declared.reading.ReadFault.TheVariants as read_fault
 use Rattle.market_tables.specs.Given.{◌>>=◌}
+use Rattle.desk_top.specs.declared.status.FileRole.{FileRole}
+use Rattle.desk_top.specs.declared.status.FileRole.TheVariants as role
 use Rattle.desk_top.specs.declared.status.Status.{Status}
 use Rattle.desk_top.specs.declared.status.Status.TheVariants as status
 use Rattle.desk_top.specs.Reading.{Files, and_then}
-use Rattle.desk_top.specs.Found.{Seen, IsRefusal, Tells, Reads, Says}
+use Rattle.desk_top.specs.Found.{Seen, IsRefusal, Tells, Reads, Says, read_status, faults_after}
+use Rattle.desk_top.specs.Run.{IsLate, faults_then}
 
 -- what follows for each list of files
 pub told_map : {P Q : Files → Type 0} (told : Option Files) → ((files : Files) → P files → Q files) → IfSome told P
@@ -60,6 +66,7 @@ reads_on view other step go first rest old mid new x result a b = record {
   calls = calls_on step (view x) first rest old.files mid.files old.calls mid.calls new.calls a.files a.tells a.calls b.calls;
   files = b.files ∙ a.files;
   refused = b.refused;
+  counted = b.counted ∙ ap (faults_after result) a.counted;
   read = λ e. rose_since old.faults mid.faults new.faults a.faults (b.read e);
   absent = λ role e. rose_since old.misses mid.misses new.misses a.misses (b.absent role e);
   faults = omega (arith, a.faults, b.faults);
@@ -75,6 +82,7 @@ reads_within view meaning most more old new result le r = record {
   calls = told_map old.files (λ files h. omega (arith, h, le files)) r.calls;
   files = r.files;
   refused = r.refused;
+  counted = r.counted;
   read = r.read;
   absent = r.absent;
   faults = r.faults;
@@ -103,6 +111,17 @@ says_refused view status.ReadFault told says = tt
 says_refused view status.WriteFault told says = says
 says_refused view (status.Absent role) told says = tt
 
+says_counted : {X Y : Type 0} (view : X → Y) (s : Status) (told : Result Y Status) (faults : ℕ)
+    → Says view (Err s) told → faults ≡ faults_then s faults
+says_counted view status.NoMemory told faults says = refl
+says_counted view (status.Market section entry why) told faults says = refl
+says_counted view (status.Script line why) told faults says = refl
+says_counted view status.Done told faults says = refl
+says_counted view status.Usage told faults says = refl
+says_counted view status.ReadFault told faults says = absurd says
+says_counted view status.WriteFault told faults says = refl
+says_counted view (status.Absent role) told faults says = refl
+
 -- a text that is read leaves the shelf alone
 pub reads_text : {X Y : Type 0} (view : X → Y) (told : Result Y Status) (s : Seen) (result : Result X Status)
     → Says view result told → Reads view (λ files. told) (λ files. 0) s s result
@@ -111,6 +130,7 @@ reads_text view told s (Ok x) says = record {
   calls = told_any s.files (λ files. omega arith);
   files = refl;
   refused = tt;
+  counted = refl;
   read = λ e. absurd (cc);
   absent = λ role e. absurd (cc);
   faults = omega arith;
@@ -121,8 +141,30 @@ reads_text {X} view told s (Err fault) says = record {
   calls = told_any s.files (λ files. omega arith);
   files = refl;
   refused = says_refused view fault told says;
+  counted = says_counted view fault told s.faults says;
   read = λ e. absurd (subst (λ (r : Result X Status). Says view r told) e says);
   absent = λ role e. absurd (subst (λ (r : Result X Status). Says view r told) e says);
   faults = omega arith;
   misses = omega arith;
 }
+
+-- a read that failed is the one fault, and each other end of a read counts none
+pub counted_status : (role : FileRole) (fault : read.ReadFault) (faults : ℕ)
+    → read_after {T = Bool} (Err fault) faults ≡ faults_then (read_status role fault) faults
+counted_status role read_fault.Failed faults = refl
+counted_status role read_fault.NoMemory faults = refl
+counted_status role.Market read_fault.TooLong faults = refl
+counted_status role.Quotes read_fault.TooLong faults = refl
+counted_status role.Fixings read_fault.TooLong faults = refl
+counted_status role.Script read_fault.TooLong faults = refl
+
+-- what comes behind the reading counts no fault of the shelf
+pub late_counted : (s : Status) (faults : ℕ) → IsLate s → faults ≡ faults_then s faults
+late_counted status.WriteFault faults late = refl
+late_counted status.NoMemory faults late = refl
+late_counted status.Done faults late = absurd late
+late_counted status.Usage faults late = absurd late
+late_counted (status.Market section entry why) faults late = absurd late
+late_counted (status.Script line why) faults late = absurd late
+late_counted status.ReadFault faults late = absurd late
+late_counted (status.Absent role) faults late = absurd late

@@ -28,16 +28,15 @@ pub record IsCut (turns : List Turn) (old new : Outside) : Type 0 where
   pub count : new.count ≡ counted old.count (length (calls_in (take (whole + 1) turns)))
   pub log : new.log ≡ logged old.log (calls_in (take (whole + 1) turns))
 
--- Memory ran out: the lines of the whole rounds were written, and a front of the next one's. The computations of the
--- whole rounds were made, and of those of the next one so many were begun and so many ended.
+-- Memory ran out: all lines so far were written, which are those of the whole rounds: a round writes its line last, when
+-- nothing wants memory any more. The computations of the whole rounds were made, and of those of the next one so many were
+-- begun and so many ended.
 pub record IsHalted (turns : List Turn) (old new : Outside) : Type 0 where
   pub whole : ℕ
-  pub part : ℕ
   pub begun : ℕ
   pub ended : ℕ
-  pub short : part ≤ length (lines_of (next_of whole turns))
   pub most : begun ≤ length (calls_in (next_of whole turns))
   pub last : (ended ≤ begun) × (begun ≤ ended + 1)
-  pub bytes : new.bytes ≡ appended (lines_of (take whole turns) ++ take part (lines_of (next_of whole turns))) old.bytes
+  pub bytes : new.bytes ≡ appended (lines_of (take whole turns)) old.bytes
   pub count : new.count ≡ counted old.count (length (calls_in (take whole turns)) + begun)
   pub log : new.log ≡ logged old.log (calls_in (take whole turns) ++ take ended (calls_in (next_of whole turns)))

@@ -15,7 +15,7 @@ use Rattle.desk_top.specs.declared.plan.Opened as opened
 use Rattle.desk_top.specs.declared.plan.Plan as planned
 use Rattle.desk_top.specs.declared.plan.ScriptRun as scripted
 use Rattle.desk_top.specs.Reading.{Files, too_long_of}
-use Rattle.desk_top.specs.Run.{IsReading}
+use Rattle.desk_top.specs.Run.{IsReading, faults_then}
 use Rattle.desk_top.specs.Verdict.{ScriptRun, Plan, Run, Check}
 
 -- the status of a read that failed
@@ -61,8 +61,14 @@ IsRefusal ReadFault = Unit {0}
 IsRefusal NoMemory = Unit {0}
 IsRefusal (Absent role) = Unit {0}
 
+-- the count of faults after a step of reading
+abbrev pub faults_after : {X : Type 0} → Result X Status → ℕ → ℕ
+faults_after (Ok x) faults = faults
+faults_after (Err status) faults = faults_then status faults
+
 -- Files were read: the answer, seen by view, is what the definition tells of them, and the shelf was called no more than
--- so many times. The files stay, and a fault of reading and an absent file were counted.
+-- so many times. The files stay, and an absent file was counted. A call of the shelf that failed is the answer, and was
+-- counted once: since any call may fail, none was made behind it.
 pub record Reads {X Y : Type 0} (view : X → Y) (meaning : Files → Result Y Status) (most : Files → ℕ) (old new : Seen) (result : Result X Status) : Type 0 where
   pub tells : IfSome old.files (λ files. Tells view result (meaning files))
   pub calls : IfSome old.files (λ files. new.calls ≤ old.calls + most files)
@@ -70,6 +76,7 @@ pub record Reads {X Y : Type 0} (view : X → Y) (meaning : Files → Result Y S
   pub refused : IfErr result IsRefusal
   pub read : IsErrOf result ReadFault → Rose old.faults new.faults
   pub absent : (role : FileRole) → IsErrOf result (Absent role) → Rose old.misses new.misses
+  pub counted : new.faults ≡ faults_after result old.faults
   pub faults : old.faults ≤ new.faults
   pub misses : old.misses ≤ new.misses
 

@@ -1,6 +1,6 @@
 -- What is read of the files, in the order in which they are read: the first failure is the answer (this project's profile).
-use Rattle.std.specs.Prelude.{ℕ, ◌+◌, nat_lt, length, List, [], if◌then◌else◌, Option, None, Some, Result, Ok, Err}
-use Rattle.desk_edge.specs.Shelf.{most_bytes, file_at, bytes_at}
+use Rattle.std.specs.Prelude.{ℕ, ◌+◌, nat_lt, min, length, List, [], if◌then◌else◌, Option, None, Some, Result, Ok, Err}
+use Rattle.desk_edge.specs.Shelf.{most_bytes, file_at}
 use Rattle.market_file.specs.Fault.{Fault}
 use Rattle.market_file.specs.Market.{Market, read_market}
 use Rattle.market_file.specs.Paths.{market_paths}
@@ -31,9 +31,14 @@ abbrev pub file_in : FileRole → Option (List ℕ) → Result (List ℕ) Status
 file_in role None = Err (status.Absent role)
 file_in role (Some text) = if nat_lt most_bytes (length text) then Err (too_long_of role) else Ok text
 
--- the most calls of a shelf for the whole of a file: one to find it, one for each of its bytes, and one for its end
+-- the most calls of a shelf for the whole of a file: one to look for it, and where it is there one for each byte that
+-- is kept of it, and one for its end or for the bytes that are too many
+abbrev pub calls_in : Option (List ℕ) → ℕ
+calls_in None = 1
+calls_in (Some text) = min (length text) most_bytes + 2
+
 abbrev pub file_calls : List ℕ → Files → ℕ
-file_calls path files = length (bytes_at files path) + 2
+file_calls path files = calls_in (file_at files path)
 
 -- the same of a table beside the market, where the market names it
 abbrev pub table_calls : Option (List ℕ) → Files → ℕ

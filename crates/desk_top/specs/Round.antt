@@ -21,15 +21,13 @@ pub record IsUnwritten (t : Turn) (old new : Outside) : Type 0 where
   pub count : new.count ≡ counted old.count (length t.calls)
   pub log : new.log ≡ logged old.log t.calls
 
--- memory ran out in it
+-- memory ran out in it, before its line, of which no byte was written
 pub record IsStopped (t : Turn) (old new : Outside) : Type 0 where
-  pub part : ℕ
   pub begun : ℕ
   pub ended : ℕ
-  pub short : part ≤ length t.lines
   pub most : begun ≤ length t.calls
   pub last : (ended ≤ begun) × (begun ≤ ended + 1)
-  pub bytes : new.bytes ≡ appended (take part t.lines) old.bytes
+  pub bytes : new.bytes ≡ old.bytes
   pub count : new.count ≡ counted old.count begun
   pub log : new.log ≡ logged old.log (take ended t.calls)
 

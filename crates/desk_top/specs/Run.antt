@@ -1,6 +1,6 @@
 -- What a run leaves outside, by its status.
 use Rattle.std.specs.Prelude.{◌≡◌, ◌<◌, ℕ, List, take, Option, Result, Ok, Err}
-use Rattle.desk_edge.specs.Count.{last_count}
+use Rattle.desk_edge.specs.Count.{last_count, raised}
 use Rattle.desk_edge.specs.Sink.{appended}
 use Rattle.desk_top.specs.declared.status.Status.{Status}
 use Rattle.desk_top.specs.declared.status.Status.TheVariants.{Done, Usage, Market, Script, ReadFault, WriteFault, NoMemory, Absent}
@@ -48,6 +48,17 @@ Writes old new whole status = new ≡ old
 abbrev pub ended : {A : Type 0} → Result A Status → Status
 ended (Ok x) = Done
 ended (Err status) = status
+
+-- the count of faults of a shelf after a run with this status: a call that failed is the answer, and is counted once
+abbrev pub faults_then : Status → ℕ → ℕ
+faults_then ReadFault faults = raised faults
+faults_then Done faults = faults
+faults_then Usage faults = faults
+faults_then (Market section entry why) faults = faults
+faults_then (Script line why) faults = faults
+faults_then WriteFault faults = faults
+faults_then NoMemory faults = faults
+faults_then (Absent role) faults = faults
 
 -- no fault was counted: the count is as it was, and below its last value
 abbrev pub IsQuiet : ℕ → ℕ → Type 0

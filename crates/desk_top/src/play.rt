@@ -1,6 +1,6 @@
 // All commands of a script, in order.
-ghost use Rattle.std.specs.Prelude.{◌≡◌, ◌≤◌, ℕ, true, false, length, take, All, IfErr, OnOk, IsErrOf};
-ghost use Rattle.desk_edge.specs.Count.{Rose};
+ghost use Rattle.std.specs.Prelude.{◌≡◌, ◌⊎◌, ◌≤◌, ℕ, true, false, [], length, take, All, IfErr, OnOk, IsErrOf};
+ghost use Rattle.desk_edge.specs.Count.{Rose, raised};
 ghost use Rattle.desk_edge.specs.Sink.{appended};
 ghost use Rattle.desk_terms.specs.Bench.{counted, logged};
 ghost use Rattle.desk_model.specs.Sound.{IsSound};
@@ -75,6 +75,9 @@ fn play_round<K: Sink, B: Bench>(
     ensures running { OnOk result (session.new.stopped ≡ false) }
     // Want of memory is answered only where the session is stopped; a failed write leaves it running.
     ensures stopped { IsErrOf result Status.NoMemory → session.new.stopped ≡ true }
+    // What was written of the round when memory ran out goes out whole, unless a put failed.
+    ensures so_far { IsErrOf result Status.NoMemory → (K.bytes out.new ≡ appended lines.new.items (K.bytes out.old))
+        ⊎ (K.faults out.new ≡ raised (K.faults out.old)) }
     ensures goes_on { IsErrOf result Status.WriteFault → session.new.stopped ≡ false }
     ensures names { OnOk result (session.new.names ≡ session.old.names) }
     ensures actions { OnOk result (session.new.actions ≡ session.old.actions) }
@@ -96,6 +99,9 @@ fn play_round<K: Sink, B: Bench>(
 // Writes what it can of the lines of a round in which memory ran out.
 fn write_front<K: Sink>(out: &mut K, lines: &[u8])
     ensures front { (count : ℕ) × (count ≤ length lines.now) × (K.bytes out.new ≡ appended (take count lines.now) (K.bytes out.old)) }
+    // All of them, unless a put failed.
+    ensures whole { (K.bytes out.new ≡ appended lines.now (K.bytes out.old)) ⊎ (K.faults out.new ≡ raised (K.faults out.old)) }
+    ensures nothing { lines.now ≡ [] → out.new ≡ out.old }
     ensures faults { K.faults out.old ≤ K.faults out.new }
 {
     // Where this fails, it is want of memory all the same.

@@ -5,9 +5,9 @@ ghost use Rattle.desk_edge.specs.Count.{Rose};
 ghost use Rattle.desk_edge.specs.Shelf.{files_of};
 ghost use Rattle.desk_terms.specs.Bench.{counted, logged};
 ghost use Rattle.desk_top.specs.declared.status.FileRole.{FileRole};
-ghost use Rattle.desk_top.specs.Found.{IsBefore, CanRun, CanDo, Tells, Reads, seen, run_in, plan_in};
+ghost use Rattle.desk_top.specs.Found.{IsBefore, CanRun, CanDo, Tells, Reads, faults_after, seen, run_in, plan_in};
 ghost use Rattle.desk_top.specs.Early.{outside, IsCut, IsHalted};
-ghost use Rattle.desk_top.specs.Run.{IsOutside, IsEarly, IsLate, IsAccepted, IsQuiet, Writes, ended};
+ghost use Rattle.desk_top.specs.Run.{IsOutside, IsEarly, IsLate, IsAccepted, IsQuiet, Writes, ended, faults_then};
 ghost use Rattle.desk_top.specs.Verdict.{Plan as Wanted, Run as RunWanted, IsCheck, IsReport, plan_of, plan_calls, reading_calls, verdict_of, status_of, output_in, output_of, computed_in, computed_by, rounds_in, rounds_of};
 ghost use Rattle.desk_words.specs.Answers.{request_in};
 ghost use Rattle.desk_words.specs.Words.{request_of};
@@ -54,8 +54,8 @@ pub fn run<H: Shelf, K: Sink, B: Bench>(
     ensures accepted { IfSome (files_of (H.contents shelf.old)) (λ files.
         result ≡ Status.WriteFault → IsAccepted (verdict_of files (map string_bytes words.now))) }
 
-    // Where it ends early the lines of whole rounds were written and a part of the next one's: of a failed write this is
-    // said for files told or not.
+    // Where it ends early the lines of whole rounds were written; a failed write leaves a part of the next one's, and want
+    // of memory none. `untold` and `stopped` say the same for files told or not.
     ensures cut { IfSome (files_of (H.contents shelf.old)) (λ files. result ≡ Status.WriteFault
         → IsCut (rounds_of (B.calc bench.old) (verdict_of files (map string_bytes words.now)))
         (outside (K.bytes out.old) (B.count bench.old) (B.log bench.old)) (outside (K.bytes out.new) (B.count bench.new) (B.log bench.new))) }
@@ -64,6 +64,9 @@ pub fn run<H: Shelf, K: Sink, B: Bench>(
         (outside (K.bytes out.old) (B.count bench.old) (B.log bench.old)) (outside (K.bytes out.new) (B.count bench.new) (B.log bench.new))) }
     ensures untold { result ≡ Status.WriteFault → (plan : Wanted)
         × IsCut (rounds_of (B.calc bench.old) (Ok plan))
+        (outside (K.bytes out.old) (B.count bench.old) (B.log bench.old)) (outside (K.bytes out.new) (B.count bench.new) (B.log bench.new)) }
+    ensures stopped { result ≡ Status.NoMemory → (plan : Wanted)
+        × IsHalted (rounds_of (B.calc bench.old) (Ok plan))
         (outside (K.bytes out.old) (B.count bench.old) (B.log bench.old)) (outside (K.bytes out.new) (B.count bench.new) (B.log bench.new)) }
     ensures nothing { IsEarly result → out.new ≡ out.old }
 
@@ -78,6 +81,8 @@ pub fn run<H: Shelf, K: Sink, B: Bench>(
 
     // Each fault was counted.
     ensures read { result ≡ Status.ReadFault → Rose (H.faults shelf.old) (H.faults shelf.new) }
+    // A call of the shelf that failed is the answer, and was the last: any call may fail, and one more would be counted too.
+    ensures counted { H.faults shelf.new ≡ faults_then result (H.faults shelf.old) }
     ensures write { result ≡ Status.WriteFault → Rose (K.faults out.old) (K.faults out.new) }
     ensures absent { (role : FileRole) → result ≡ Status.Absent role → Rose (H.misses shelf.old) (H.misses shelf.new) }
     ensures files { files_of (H.contents shelf.new) ≡ files_of (H.contents shelf.old) }
@@ -107,6 +112,7 @@ fn plan_of<H: Shelf>(alloc: Global, words: &[String], shelf: &mut H) -> Result<P
     ensures calls { IfSome (files_of (H.contents shelf.old)) (λ files.
         H.calls shelf.new ≤ H.calls shelf.old + reading_calls files (map string_bytes words.now)) }
     ensures read { IsErrOf result Status.ReadFault → Rose (H.faults shelf.old) (H.faults shelf.new) }
+    ensures counted { H.faults shelf.new ≡ faults_after result (H.faults shelf.old) }
     ensures absent { (role : FileRole) → IsErrOf result (Status.Absent role) → Rose (H.misses shelf.old) (H.misses shelf.new) }
 {
     match read_words(alloc, words) {

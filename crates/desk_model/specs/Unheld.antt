@@ -53,7 +53,7 @@ pub record HoldNothing (s : State) : Type 0 where
   pub fixing : (x : ℕ) (day rate : ℤ) → HoldsNothing (fixing_added x day rate s)
   pub today : (day : ℤ) → HoldsNothing (today_set day s)
   pub make : (terms : Terms) → HoldsNothing (made terms s)
-  pub watch : (action : ℕ) → HoldsNothing (watching action s)
+  pub watch : HoldsNothing (watching s)
   pub drop : (x : ℕ) → HoldsNothing (dropped x s)
   pub register : (w o : ℕ) → HoldsNothing (registered_with w o s)
   pub unregister : (w o : ℕ) → HoldsNothing (unregistered w o s)

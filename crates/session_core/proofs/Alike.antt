@@ -38,14 +38,14 @@ alike_same m n same = record {
 kind_given : (slot : Slot) (kind : Kind) → kind_in slot ≡ Some kind → is_given slot ≡ true
 kind_given Free kind e = absurd (cc)
 kind_given Today kind e = refl
-kind_given (Watcher action) kind e = refl
+kind_given Watcher kind e = refl
 kind_given (Live terms) kind e = refl
 
 -- and what is of another kind than `today` is not `today`
 kind_apart : (slot : Slot) (k : Kind) → kind_in slot ≡ Some k → k ≢ kind.Today → slot ≢ Today
 kind_apart Free k e other = absurd (cc)
 kind_apart Today k e other = let same : k ≡ kind.Today = cc in absurd (other same)
-kind_apart (Watcher action) k e other = λ same. cc
+kind_apart Watcher k e other = λ same. cc
 kind_apart (Live terms) k e other = λ same. cc
 
 pub apart_of_kind : (m : Market) (o : ℕ) (k : Kind) → kind_at m o ≡ Some k → k ≢ kind.Today → slot_at m o ≢ Today

@@ -40,7 +40,7 @@ handle_terms (terms.Flows flows engine) e = absurd (false≢true e)
 handle_in : (slot : Slot) → takes_found place.Handle (kind_in slot) ≡ true → AreOfHandle (terms_in slot)
 handle_in Free e = absurd (false≢true e)
 handle_in Today e = absurd (false≢true e)
-handle_in (Watcher action) e = absurd (false≢true e)
+handle_in Watcher e = absurd (false≢true e)
 handle_in (Live terms) e = handle_terms terms e
 
 pub handle_there : (m : Market) (h : ℕ) → takes_found place.Handle (kind_at m h) ≡ true
@@ -90,7 +90,7 @@ input_observable : (w : Wanted) (slot : Slot) → takes_found (place.Input w) (k
     → is_observable slot ≡ true
 input_observable w Free e = absurd (false≢true e)
 input_observable w Today e = refl
-input_observable w (Watcher action) e = absurd (false≢true e)
+input_observable w Watcher e = absurd (false≢true e)
 input_observable w (Live terms) e = refl
 
 target_observable : (b : Bool) (slot : Slot)
@@ -119,7 +119,7 @@ input_serves (Some k) w e = e
 kind_of_terms : (slot : Slot) (terms : Terms) → terms_in slot ≡ Some terms → kind_in slot ≡ Some (kind_of terms)
 kind_of_terms Free terms e = absurd (cc)
 kind_of_terms Today terms e = absurd (cc)
-kind_of_terms (Watcher action) terms e = absurd (cc)
+kind_of_terms Watcher terms e = absurd (cc)
 kind_of_terms (Live t) terms e = let same : t ≡ terms = cc in ap (λ (x : Terms). Some (kind_of x)) same
 
 pub target_kinds : (m : Market) (h : ℕ) (target : Option ℕ) → IfSome target (IsTarget m h)

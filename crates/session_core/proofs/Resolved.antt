@@ -141,7 +141,7 @@ taken_curve : (slot : Slot) → takes_found (place.Input wanted.CurveTarget) (ki
     → is_lazy (role_of (terms_in slot)) ≡ true
 taken_curve Free e = absurd (false≢true e)
 taken_curve Today e = absurd (false≢true e)
-taken_curve (Watcher action) e = absurd (false≢true e)
+taken_curve Watcher e = absurd (false≢true e)
 taken_curve (Live terms) e = curve_lazy (kind_of terms) e
 
 -- a rate of at most 10 either way
@@ -159,7 +159,7 @@ rate_within rate e = (rate_low rate e, rate_high rate e)
 taken_lazy : (slot : Slot) → takes_found place.Priced (kind_in slot) ≡ true → is_lazy (role_of (terms_in slot)) ≡ true
 taken_lazy Free e = absurd (false≢true e)
 taken_lazy Today e = absurd (false≢true e)
-taken_lazy (Watcher action) e = absurd (false≢true e)
+taken_lazy Watcher e = absurd (false≢true e)
 taken_lazy (Live terms) e = e
 
 -- what is found in a place of priced objects is lazy

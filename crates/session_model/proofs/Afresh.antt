@@ -12,6 +12,7 @@ use Rattle.session_commands.specs.declared.command.Command.TheVariants as comman
 use Rattle.session_commands.specs.declared.refusal.Refusal.{Refusal}
 use Rattle.session_model.specs.declared.act.Act.{Act}
 use Rattle.session_model.specs.Afresh.{holds_nothing, AsksAreAfresh, AreAfresh}
+use Rattle.session_model.specs.Change.{changed, grown}
 use Rattle.session_model.specs.Resolve.{with_found, unless, unless_used, unless_kept, unless_late, unless_taken, resolve}
 use Rattle.session_model.specs.Standing.{Standing, start_of, start_with, with_objects, object_named}
 use Rattle.session_model.specs.Turn.{done_as, effect_of, step, turn}
@@ -59,7 +60,7 @@ module _ (calc : Calc) (p : Standing) (c : Command) where
 
 turn_unheld : (calc : Calc) (p : Standing) (c : Command) → holds_nothing c ≡ true → HoldsNothing p.state
     → HoldsNothing (turn calc p c).next.state
-unfolding turn resolve effect_of step
+unfolding turn resolve effect_of step changed grown
 turn_unheld calc p (command.Quote name value) plain none =
     taken_leaves calc p _ name _ none (unless_leaves calc p _ _ _ _ none ((others_hold_nothing p.state none).make _))
 turn_unheld calc p (command.Sum name a b) plain none =

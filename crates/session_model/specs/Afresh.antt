@@ -12,7 +12,8 @@ use Rattle.price_report.specs.Line.{asked_line, df_line}
 use Rattle.session_model.specs.declared.place.Place.TheVariants as place
 use Rattle.session_model.specs.Resolve.{find, curve}
 use Rattle.session_model.specs.Standing.{Standing, start_with}
-use Rattle.session_model.specs.Turn.{discount_in, turn}
+use Rattle.session_model.specs.Pricing.{discount_in}
+use Rattle.session_model.specs.Turn.{turn}
 
 -- whether a command neither freezes nor defers
 abbrev pub holds_nothing : Command → Bool

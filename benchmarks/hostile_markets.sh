@@ -34,6 +34,8 @@ def case(name, market, quotes="", fixings=""):
 
 case("nested", TOP + "x = " + "[" * ((MOST - 100) // 2) + "]" * ((MOST - 100) // 2) + "\n")
 case("array", fill(TOP + "x = [", "1,", "]\n"))
+case("inline", fill(TOP + "x = [", "{a=0},", "]\n"))
+case("dotted", fill(TOP + "x = [", "{" + ".".join("a" * 76) + "=0},", "]\n"))
 case("unlisted", fill(TOP, lambda k: f"k{k} = 1\n"))
 case("tables", fill(TOP, "[[object]]\n"))
 case("calendars", fill(TOP, lambda k: f'[[calendar]]\nkind = "null"\nname = "n{k}"\n'))

@@ -14,6 +14,7 @@ trap 'rm -rf "$work"' EXIT
 mkdir "$work/files" "$work/cases"
 names=() data=()
 for folder in "$@"; do
+    [ -d "$folder" ] || continue
     name=$(printf '%03d_%s' $((${#names[@]} + 1)) "$(basename "$folder")")
     names+=("$name")
     mkdir "$work/files/$name"
@@ -35,6 +36,7 @@ for folder in "$@"; do
     printf 'run\n%s\n%s\n' "$name/market.toml" "$name/script.txt" > "$work/cases/$name.args"
     [ ! -e "$folder/transcript.txt" ] || cp "$folder/transcript.txt" "$work/cases/$name.stdout"
 done
+[ ${#names[@]} -gt 0 ] || { echo "try.sh: no folder among these" >&2; exit 2; }
 desk=$top/crates/desk/out/desk
 if [ -x "$desk" ] && [ -z "$(find "$top/crates" -path '*/src/*' -newer "$desk" -print -quit)" ]; then
     cd "$work/files"

@@ -80,29 +80,5 @@ not_lacking false h = absurd (cc)
 -- a command that was read is linked to an action that is there
 pub linked_fits : (K : Known) (m : ℕ) (c : Command) → IsCommand m m c → lacks K (Run c) ≡ false → IsCommand m (length K.begun) (linked K c)
 unfolding IsCommand row_of parts_of
-linked_fits K m (command.Quote a b) fit there = record { first = fit.first; second = fit.second; third = fit.third }
-linked_fits K m (command.Sum a b c) fit there = record { first = fit.first; second = fit.second; third = fit.third }
-linked_fits K m (command.Difference a b c) fit there = record { first = fit.first; second = fit.second; third = fit.third }
-linked_fits K m (command.Handle a b) fit there = record { first = fit.first; second = fit.second; third = fit.third }
-linked_fits K m (command.Stock a b) fit there = record { first = fit.first; second = fit.second; third = fit.third }
-linked_fits K m (command.Composite a) fit there = record { first = fit.first; second = fit.second; third = fit.third }
-linked_fits K m (command.Member a b c) fit there = record { first = fit.first; second = fit.second; third = fit.third }
-linked_fits K m (command.Set a b) fit there = record { first = fit.first; second = fit.second; third = fit.third }
-linked_fits K m (command.Unset a) fit there = record { first = fit.first; second = fit.second; third = fit.third }
-linked_fits K m (command.Link a b) fit there = record { first = fit.first; second = fit.second; third = fit.third }
-linked_fits K m (command.Unlink a) fit there = record { first = fit.first; second = fit.second; third = fit.third }
-linked_fits K m (command.Engine a b) fit there = record { first = fit.first; second = fit.second; third = fit.third }
-linked_fits K m (command.Today a) fit there = record { first = fit.first; second = fit.second; third = fit.third }
-linked_fits K m (command.Fixing a b c) fit there = record { first = fit.first; second = fit.second; third = fit.third }
-linked_fits K m (command.Freeze a) fit there = record { first = fit.first; second = fit.second; third = fit.third }
-linked_fits K m (command.Thaw a) fit there = record { first = fit.first; second = fit.second; third = fit.third }
-linked_fits K m (command.Recalc a) fit there = record { first = fit.first; second = fit.second; third = fit.third }
-linked_fits K m (command.Forward a b) fit there = record { first = fit.first; second = fit.second; third = fit.third }
-linked_fits K m command.Defer fit there = record { first = fit.first; second = fit.second; third = fit.third }
-linked_fits K m command.Resume fit there = record { first = fit.first; second = fit.second; third = fit.third }
 linked_fits K m (command.Watch a b) fit there = record { first = fit.first; second = place_of-lt K.begun (text_of K b) (not_lacking (has_text K.begun (text_of K b)) there); third = fit.third }
-linked_fits K m (command.Register a b) fit there = record { first = fit.first; second = fit.second; third = fit.third }
-linked_fits K m (command.Unregister a b) fit there = record { first = fit.first; second = fit.second; third = fit.third }
-linked_fits K m (command.Drop a) fit there = record { first = fit.first; second = fit.second; third = fit.third }
-linked_fits K m (command.Ask a) fit there = record { first = fit.first; second = fit.second; third = fit.third }
-linked_fits K m (command.Df a b) fit there = record { first = fit.first; second = fit.second; third = fit.third }
+linked_fits K m c fit there = record { first = fit.first; second = fit.second; third = fit.third }

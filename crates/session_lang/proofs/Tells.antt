@@ -134,32 +134,8 @@ watch_back names an watcher action sound lt =
 
 link_back : (names : List (List ℕ)) (an : List ℕ) → IsNames (map (name_text names) an) → (c : Command) → IsCommand (length names) (length an) c → LinkBack names an c
 unfolding IsCommand row_of parts_of
-link_back names an sound (command.Quote a b) fit = record { link = refl; there = refl }
-link_back names an sound (command.Sum a b c) fit = record { link = refl; there = refl }
-link_back names an sound (command.Difference a b c) fit = record { link = refl; there = refl }
-link_back names an sound (command.Handle a b) fit = record { link = refl; there = refl }
-link_back names an sound (command.Stock a b) fit = record { link = refl; there = refl }
-link_back names an sound (command.Composite a) fit = record { link = refl; there = refl }
-link_back names an sound (command.Member a b c) fit = record { link = refl; there = refl }
-link_back names an sound (command.Set a b) fit = record { link = refl; there = refl }
-link_back names an sound (command.Unset a) fit = record { link = refl; there = refl }
-link_back names an sound (command.Link a b) fit = record { link = refl; there = refl }
-link_back names an sound (command.Unlink a) fit = record { link = refl; there = refl }
-link_back names an sound (command.Engine a b) fit = record { link = refl; there = refl }
-link_back names an sound (command.Today a) fit = record { link = refl; there = refl }
-link_back names an sound (command.Fixing a b c) fit = record { link = refl; there = refl }
-link_back names an sound (command.Freeze a) fit = record { link = refl; there = refl }
-link_back names an sound (command.Thaw a) fit = record { link = refl; there = refl }
-link_back names an sound (command.Recalc a) fit = record { link = refl; there = refl }
-link_back names an sound (command.Forward a b) fit = record { link = refl; there = refl }
-link_back names an sound command.Defer fit = record { link = refl; there = refl }
-link_back names an sound command.Resume fit = record { link = refl; there = refl }
 link_back names an sound (command.Watch a b) fit = watch_back names an a b sound fit.second
-link_back names an sound (command.Register a b) fit = record { link = refl; there = refl }
-link_back names an sound (command.Unregister a b) fit = record { link = refl; there = refl }
-link_back names an sound (command.Drop a) fit = record { link = refl; there = refl }
-link_back names an sound (command.Ask a) fit = record { link = refl; there = refl }
-link_back names an sound (command.Df a b) fit = record { link = refl; there = refl }
+link_back names an sound c fit = record { link = refl; there = refl }
 
 -- commands outside of blocks, in front of others
 pub after : Bool → List Command → List Command → List Command

@@ -122,31 +122,7 @@ line_of None = None
 -- a watch names its action by the place of its block among the blocks
 abbrev pub linked : Known → Command → Command
 linked known (command.Watch watcher action) = command.Watch watcher (place_of known.begun (text_of known action))
-linked known (command.Quote a b) = command.Quote a b
-linked known (command.Sum a b c) = command.Sum a b c
-linked known (command.Difference a b c) = command.Difference a b c
-linked known (command.Handle a b) = command.Handle a b
-linked known (command.Stock a b) = command.Stock a b
-linked known (command.Composite a) = command.Composite a
-linked known (command.Member a b c) = command.Member a b c
-linked known (command.Set a b) = command.Set a b
-linked known (command.Unset a) = command.Unset a
-linked known (command.Link a b) = command.Link a b
-linked known (command.Unlink a) = command.Unlink a
-linked known (command.Engine a b) = command.Engine a b
-linked known (command.Today a) = command.Today a
-linked known (command.Fixing a b c) = command.Fixing a b c
-linked known (command.Freeze a) = command.Freeze a
-linked known (command.Thaw a) = command.Thaw a
-linked known (command.Recalc a) = command.Recalc a
-linked known (command.Forward a b) = command.Forward a b
-linked known command.Defer = command.Defer
-linked known command.Resume = command.Resume
-linked known (command.Register a b) = command.Register a b
-linked known (command.Unregister a b) = command.Unregister a b
-linked known (command.Drop a) = command.Drop a
-linked known (command.Ask a) = command.Ask a
-linked known (command.Df a b) = command.Df a b
+linked known c = c
 
 -- the commands of a block, up to its `end`
 abbrev pub block_with : Known → Statement → List Command → List Command

@@ -122,31 +122,7 @@ fn linked(names: &Names, begun: &Names, command: Command) -> Command
             watcher,
             linked_action(names, begun, action),
         ),
-        Command::Quote(_, _)
-        | Command::Sum(_, _, _)
-        | Command::Difference(_, _, _)
-        | Command::Handle(_, _)
-        | Command::Stock(_, _)
-        | Command::Composite(_)
-        | Command::Member(_, _, _)
-        | Command::Set(_, _)
-        | Command::Unset(_)
-        | Command::Link(_, _)
-        | Command::Unlink(_)
-        | Command::Engine(_, _)
-        | Command::Today(_)
-        | Command::Fixing(_, _, _)
-        | Command::Freeze(_)
-        | Command::Thaw(_)
-        | Command::Recalc(_)
-        | Command::Forward(_, _)
-        | Command::Defer
-        | Command::Resume
-        | Command::Register(_, _)
-        | Command::Unregister(_, _)
-        | Command::Drop(_)
-        | Command::Ask(_)
-        | Command::Df(_, _) => command,
+        _ => command,
     }
 }
 

@@ -1,0 +1,74 @@
+// A ladder: what an instrument is worth, and what it gains where quotes are moved.
+use desk_names::ObjId;
+use desk_terms::Cause;
+use fixed_amount::Amount;
+use item_lists::Items;
+use std::alloc::{AllocError, AllocFailed};
+
+/// What an instrument gains where quotes are moved one way.
+#[derive(Clone, Copy, Debug, PartialEq, Eq)]
+pub enum Side {
+    /// What it is worth then less what it is worth where none is moved, in units of 10^-6, within 2 * 10^26 units either
+    /// way.
+    Moved(i128),
+    /// It is worth nothing then, for this cause.
+    Refused(Cause),
+    /// A quote would pass the limit of rates. None is moved.
+    Limit,
+    /// The quote has no value.
+    Unset,
+}
+
+/// What an instrument gains where a quote, or all quotes together, are moved up and down.
+#[derive(Clone, Copy, Debug, PartialEq, Eq)]
+pub struct Rung {
+    /// The quote; none where all are moved.
+    pub quote: Option<ObjId>,
+    pub up: Side,
+    pub down: Side,
+}
+
+/// Rungs in order. A clause sees the list of them.
+pub type RungList = Items<Rung>;
+
+/// What an instrument is worth, and what it gains on each rung.
+#[derive(Drop)]
+pub struct Ladder {
+    /// What it is worth where no quote is moved.
+    pub base: Amount,
+    /// A rung for each quote, and then one for all.
+    pub rungs: RungList,
+    /// How many times the bench was called.
+    pub runs: u128,
+}
+
+/// Why there is no ladder.
+#[derive(Clone, Copy, Debug, PartialEq, Eq)]
+pub enum LadderFault {
+    /// The instrument is worth nothing where no quote is moved, for this cause; the bench was called so many times.
+    Base { cause: Cause, runs: u128 },
+    /// Memory ran out.
+    NoMemory,
+}
+
+impl From<AllocError> for LadderFault {
+    ghost use Rattle.std.specs.Prelude.{◌≡◌};
+    ghost use Rattle.bump_model.specs.declared.ladder.LadderFault.TheVariants.{NoMemory};
+
+    ghost from_gives = { λ _ e. e ≡ NoMemory };
+
+    fn from(_: AllocError) -> Self {
+        LadderFault::NoMemory
+    }
+}
+
+impl<T: Drop> From<AllocFailed<T>> for LadderFault {
+    ghost use Rattle.std.specs.Prelude.{◌≡◌};
+    ghost use Rattle.bump_model.specs.declared.ladder.LadderFault.TheVariants.{NoMemory};
+
+    ghost from_gives = { λ _ e. e ≡ NoMemory };
+
+    fn from(_: AllocFailed<T>) -> Self {
+        LadderFault::NoMemory
+    }
+}

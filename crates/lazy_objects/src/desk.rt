@@ -41,7 +41,7 @@ use std::marker::Model;
 pub struct Desk {
     alloc: Global,
     today: Day,
-    objects: Objects,
+    pub(crate) objects: Objects,
     store: Store,
     scratch: Scratch,
 }

@@ -7,6 +7,7 @@
 mod changes;
 mod desk;
 mod links;
+mod quotes;
 mod weights;
 
 pub use ask_walk::Recalced;

@@ -1,0 +1,4 @@
+pub mod Answered
+pub mod Siding
+pub mod Climbing
+pub mod Laddering

@@ -1,0 +1,163 @@
+// The two sides of a rung.
+ghost use Rattle.std.specs.Prelude.{◌≡◌, ◌<◌, ◌^◌, ◌+ℤ◌, ℕ, false, true, length, Some, IfOk, OnOk, OnErr};
+ghost use Rattle.desk_terms.specs.Reading.{Calc};
+ghost use Rattle.desk_model.specs.Links.{is_lazy_at};
+ghost use Rattle.desk_model.specs.Sound.{IsSound};
+ghost use Rattle.desk_model.specs.Unheld.{HoldsNothing};
+ghost use Rattle.bump_model.specs.declared.held.Way.TheVariants.{Up, Down};
+ghost use Rattle.bump_model.specs.Moves.{moved, all_set, is_limit, AreHeld, AreLive, DifferAt};
+ghost use Rattle.bump_model.specs.Sides.{side_of, gain};
+ghost use Rattle.bump_model.specs.Asking.{Asks, MadeFront, side_asking, sides_asking, rung_asking};
+
+use crate::pricing::price;
+use bump_model::{Held, Side, Way, is_limit};
+use desk_names::ObjId;
+use desk_terms::{Bench, Cause};
+use fixed_amount::Amount;
+use lazy_objects::Desk;
+use std::alloc::AllocError;
+
+// One side, and how many times the bench was called for it.
+#[derive(Clone, Copy)]
+pub(crate) struct Sided {
+    pub(crate) side: Side,
+    pub(crate) runs: u64,
+}
+
+// Both sides, and how many times the bench was called for them.
+#[derive(Clone, Copy)]
+pub(crate) struct Sides {
+    pub(crate) up: Side,
+    pub(crate) down: Side,
+    pub(crate) runs: u128,
+}
+
+// Both sides of the rung of these quotes, each of which has its value. They are set back on every exit, which takes no
+// memory.
+pub(crate) fn rung_sides<B: Bench>(
+    desk: &mut Desk,
+    object: ObjId,
+    base: Amount,
+    group: &[Held],
+    bench: &mut B,
+) -> Result<Sides, AllocError>
+    requires lazy { is_lazy_at desk.old.market object ≡ true }
+    requires held { AreHeld desk.old.market group.now }
+    requires sound { IsSound (B.calc bench.old) desk.old }
+    requires unheld { HoldsNothing desk.old }
+    ensures same { B.calc bench.new ≡ B.calc bench.old }
+    ensures up { IfOk result (λ sides. sides.up ≡ side_of (B.calc bench.old) desk.old.market object base Up group.now) }
+    ensures down { IfOk result (λ sides. sides.down ≡ side_of (B.calc bench.old) desk.old.market object base Down group.now) }
+    ensures runs { IfOk result (λ sides. sides.runs ≡ length (rung_asking (B.calc bench.old) object group.now desk.old).calls) }
+    ensures few { IfOk result (λ sides. sides.runs < 2 ^ 66) }
+    ensures asks { Asks (rung_asking (B.calc bench.old) object group.now desk.old) result desk.new
+        (B.count bench.old) (B.count bench.new) (B.log bench.old) (B.log bench.new) }
+    ensures market { desk.new.market ≡ desk.old.market }
+    ensures sound { IsSound (B.calc bench.old) desk.new }
+    ensures unheld { HoldsNothing desk.new }
+{
+    let sides = both_sides(desk, object, base, group, bench);
+    set_back(desk, group);
+    sides
+}
+
+// The side up, then the side down. The quotes are left where the last move put them.
+fn both_sides<B: Bench>(
+    desk: &mut Desk,
+    object: ObjId,
+    base: Amount,
+    group: &[Held],
+    bench: &mut B,
+) -> Result<Sides, AllocError>
+    requires lazy { is_lazy_at desk.old.market object ≡ true }
+    requires live { AreLive desk.old.market group.now }
+    requires sound { IsSound (B.calc bench.old) desk.old }
+    requires unheld { HoldsNothing desk.old }
+    ensures same { B.calc bench.new ≡ B.calc bench.old }
+    ensures up { IfOk result (λ sides. sides.up ≡ side_of (B.calc bench.old) desk.old.market object base Up group.now) }
+    ensures down { IfOk result (λ sides. sides.down ≡ side_of (B.calc bench.old) desk.old.market object base Down group.now) }
+    ensures runs { IfOk result (λ sides. sides.runs ≡ length (sides_asking (B.calc bench.old) object group.now desk.old).calls) }
+    ensures few { IfOk result (λ sides. sides.runs < 2 ^ 66) }
+    ensures asks { Asks (sides_asking (B.calc bench.old) object group.now desk.old) result desk.new
+        (B.count bench.old) (B.count bench.new) (B.log bench.old) (B.log bench.new) }
+    ensures differ { DifferAt group.now desk.old.market desk.new.market }
+    ensures sound { IsSound (B.calc bench.old) desk.new }
+    ensures unheld { HoldsNothing desk.new }
+{
+    let up = one_side(desk, object, base, Way::Up, group, bench)?;
+    let down = one_side(desk, object, base, Way::Down, group, bench)?;
+    Ok(Sides {
+        up: up.side,
+        down: down.side,
+        runs: up.runs as u128 + down.runs as u128,
+    })
+}
+
+// One side: the quotes are moved and the instrument asked for, unless one of them would pass the limit of rates.
+fn one_side<B: Bench>(
+    desk: &mut Desk,
+    object: ObjId,
+    base: Amount,
+    way: Way,
+    group: &[Held],
+    bench: &mut B,
+) -> Result<Sided, AllocError>
+    requires lazy { is_lazy_at desk.old.market object ≡ true }
+    requires live { AreLive desk.old.market group.now }
+    requires sound { IsSound (B.calc bench.old) desk.old }
+    requires unheld { HoldsNothing desk.old }
+    ensures same { B.calc bench.new ≡ B.calc bench.old }
+    ensures side { IfOk result (λ sided. sided.side ≡ side_of (B.calc bench.old) desk.old.market object base way group.now) }
+    ensures runs { IfOk result (λ sided. sided.runs ≡ length (side_asking (B.calc bench.old) object way group.now desk.old).calls) }
+    ensures asks { Asks (side_asking (B.calc bench.old) object way group.now desk.old) result desk.new
+        (B.count bench.old) (B.count bench.new) (B.log bench.old) (B.log bench.new) }
+    ensures differ { DifferAt group.now desk.old.market desk.new.market }
+    ensures sound { IsSound (B.calc bench.old) desk.new }
+    ensures unheld { HoldsNothing desk.new }
+{
+    if is_limit(way, group) {
+        return Ok(Sided {
+            side: Side::Limit,
+            runs: 0,
+        });
+    }
+    move_all(desk, way, group);
+    let priced = price(desk, object, bench)?;
+    Ok(Sided {
+        side: gain(base, priced.amount),
+        runs: priced.runs,
+    })
+}
+
+// What is gained over a base.
+fn gain(base: Amount, amount: Result<Amount, Cause>) -> Side
+    ensures { result ≡ gain base amount }
+{
+    match amount {
+        Ok(amount) => Side::Moved(amount.units() - base.units()),
+        Err(cause) => Side::Refused(cause),
+    }
+}
+
+// Moves quotes one way from the values that they had, none of them past the limit of rates.
+fn move_all(desk: &mut Desk, way: Way, group: &[Held])
+    requires live { AreLive desk.old.market group.now }
+    requires within { is_limit way group.now ≡ false }
+    ensures moved { desk.new ≡ all_set (moved way) group.now desk.old }
+    ensures sound { (calc : Calc) → IsSound calc desk.old → IsSound calc desk.new }
+{
+    for held in group {
+        desk.set_quote(held.quote, Some(way.moved(held.value)));
+    }
+}
+
+// Sets quotes to the values that they had.
+fn set_back(desk: &mut Desk, group: &[Held])
+    requires live { AreLive desk.old.market group.now }
+    ensures back { desk.new ≡ all_set (λ value. value) group.now desk.old }
+    ensures sound { (calc : Calc) → IsSound calc desk.old → IsSound calc desk.new }
+{
+    for held in group {
+        desk.set_quote(held.quote, Some(held.value));
+    }
+}

@@ -16,14 +16,14 @@ use Rattle.desk_model.specs.Uses.{input_by, input_at}
 use Rattle.desk_model.specs.Fresh.{answer_by}
 use Rattle.desk_model.specs.State.{State, unpriced, is_frozen, is_source, is_late, is_late_of, is_held_back, least_source, held, seen}
 use Rattle.desk_model.specs.Told.{registered, subjects, forwards, told}
-use Rattle.desk_model.specs.Links.{IsLinked, IsWhole, reaches}
+use Rattle.desk_model.specs.Links.{IsLinked, IsWhole, CanTell, reaches}
 use Rattle.desk_model.specs.Sound.{has_source}
 use Rattle.desk_model.specs.Visit.{visit_by, runs}
 use Rattle.desk_model.specs.Laws.{WalksFindPaths}
 use Rattle.desk_model.proofs.Locality.{input_same}
 use Rattle.desk_model.proofs.Bounds.{ranks_of, answer_steps}
 use Rattle.desk_model.proofs.Visits.{visit_steps}
-use Rattle.desk_model.proofs.Watchers.{observed_plain, subjects_plain, whole_registers}
+use Rattle.desk_model.proofs.Watchers.{RegistersWatchers, observed_plain, subjects_plain, whole_tells}
 use Rattle.desk_model.proofs.Changes.{observed_within}
 
 both : {P Q : Type 0} → (P → Q) → (Q → P) → P ↔ Q
@@ -41,47 +41,55 @@ no_edges_in Today is = absurd (cc)
 no_edges_in Watcher is = refl
 no_edges_in (Live terms) is = absurd (cc)
 
-module _ (s : State) (whole : IsWhole s) where
+module _ (s : State) (can : CanTell s.market s.registrations s.noticed) where
+  only : RegistersWatchers s
+  only w x among = (can.registered w x among).watcher
+
   watched_plain : (o x : ℕ) → is_watcher (slot_at s.market o) ≡ true → Among x (subjects s o)
       → is_watcher (slot_at s.market x) ≡ false
-  watched_plain o x is among = observed_plain s.market x (whole.registered o x (subst (λ (l : List ℕ). Among x (l ++ registered s.registrations o)) (no_edges_in (slot_at s.market o) is) among)).observed
+  watched_plain o x is among = observed_plain s.market x (can.registered o x (subst (λ (l : List ℕ). Among x (l ++ registered s.registrations o)) (no_edges_in (slot_at s.market o) is) among)).observed
 
   watched_within : (o x : ℕ) → Among x (subjects s o) → x < length s.market.objects
   watched_within o x among = elim (cases_Bool (is_watcher (slot_at s.market o))) [
-    | inl is ↦ observed_within s.market x (whole.registered o x (subst (λ (l : List ℕ). Among x (l ++ registered s.registrations o)) (no_edges_in (slot_at s.market o) is) among)).observed
-    | inr plain ↦ whole.links.within o x (subst (λ (l : List ℕ). Among x l) (subjects_plain s (whole_registers s whole) o plain) among)
+    | inl is ↦ observed_within s.market x (can.registered o x (subst (λ (l : List ℕ). Among x (l ++ registered s.registrations o)) (no_edges_in (slot_at s.market o) is) among)).observed
+    | inr plain ↦ can.links.within o x (subst (λ (l : List ℕ). Among x l) (subjects_plain s only o plain) among)
   ]
 
   rank_of : ℕ → ℕ
-  rank_of o = if is_watcher (slot_at s.market o) then suc (length s.market.objects) else (ranks_of s.market whole.links).0 o
+  rank_of o = if is_watcher (slot_at s.market o) then suc (length s.market.objects) else (ranks_of s.market can.links).0 o
 
-  plain_rank : (o : ℕ) → is_watcher (slot_at s.market o) ≡ false → rank_of o ≡ (ranks_of s.market whole.links).0 o
+  plain_rank : (o : ℕ) → is_watcher (slot_at s.market o) ≡ false → rank_of o ≡ (ranks_of s.market can.links).0 o
   unfolding rank_of
-  plain_rank o plain = ap (λ (b : Bool). if b then suc (length s.market.objects) else (ranks_of s.market whole.links).0 o) plain
+  plain_rank o plain = ap (λ (b : Bool). if b then suc (length s.market.objects) else (ranks_of s.market can.links).0 o) plain
 
   watcher_rank : (o : ℕ) → is_watcher (slot_at s.market o) ≡ true → rank_of o ≡ suc (length s.market.objects)
   unfolding rank_of
-  watcher_rank o is = ap (λ (b : Bool). if b then suc (length s.market.objects) else (ranks_of s.market whole.links).0 o) is
+  watcher_rank o is = ap (λ (b : Bool). if b then suc (length s.market.objects) else (ranks_of s.market can.links).0 o) is
 
   subjects_fall : (o x : ℕ) → Among x (subjects s o) → rank_of x < rank_of o
   subjects_fall o x among = elim (cases_Bool (is_watcher (slot_at s.market o))) [
-    | inl is ↦ let a = plain_rank x (watched_plain o x is among) in let b = watcher_rank o is in let c = (ranks_of s.market whole.links).2 x in omega arith
+    | inl is ↦ let a = plain_rank x (watched_plain o x is among) in let b = watcher_rank o is in let c = (ranks_of s.market can.links).2 x in omega arith
     | inr plain ↦
-        let edge = subst (λ (l : List ℕ). Among x l) (subjects_plain s (whole_registers s whole) o plain) among in
-        let a = plain_rank x (observed_plain s.market x (whole.links.observed o x edge)) in
+        let edge = subst (λ (l : List ℕ). Among x l) (subjects_plain s only o plain) among in
+        let a = plain_rank x (observed_plain s.market x (can.links.observed o x edge)) in
         let b = plain_rank o plain in
-        let c = (ranks_of s.market whole.links).1 o x edge in omega arith
+        let c = (ranks_of s.market can.links).1 o x edge in omega arith
   ]
 
+  pub told_paths : (from : ℕ → Bool) (o : ℕ) → (told s from o ≡ true) ↔ Below (subjects s) from (forwards s) o
+  unfolding told
+  told_paths from o = exactly_below (subjects s) (length s.market.objects) watched_within (rank_of, subjects_fall) from (forwards s) o
+
+module _ (s : State) (whole : IsWhole s) where
   -- WALKS FIND PATHS
   pub find_paths : WalksFindPaths s
-  unfolding has_source reaches told
+  unfolding has_source reaches
   find_paths = record {
     late = exactly_below (edges s.market) (length s.market.objects) whole.links.within whole.links.acyclic (is_source s) (λ x. not (is_frozen s x));
     clear = exactly_below (edges s.market) (length s.market.objects) whole.links.within whole.links.acyclic (is_held_back s) (λ x. true);
     near = exactly_below (edges s.market) (length s.market.objects) whole.links.within whole.links.acyclic (is_source s) (is_forwarder s.market);
     reaches = λ o x. exactly_below (edges s.market) (length s.market.objects) whole.links.within whole.links.acyclic (λ y. y == x) (λ y. true) o;
-    told = λ from o. exactly_below (subjects s) (length s.market.objects) watched_within (rank_of, subjects_fall) from (forwards s) o;
+    told = told_paths s (whole_tells s whole);
   }
 
 -- no bound matters

@@ -114,6 +114,13 @@ module _ (s : State) (whole : IsWhole s) where
     current = rest_keeps s (without_pair w o s.registrations) s.noticed;
   }
 
+  -- fewer notices
+  pub fewer_keep : (noticed : List ℕ) → ((w : ℕ) → Among w noticed → Among w s.noticed) → Keeps s (record s { noticed = noticed })
+  fewer_keep noticed fewer = record {
+    whole = whole_rest s.registrations noticed whole.registered fewer;
+    current = rest_keeps s s.registrations noticed;
+  }
+
   -- a notice is handed out
   pub hand_out_keeps : (w : ℕ) → Keeps s (handed_out w s)
   unfolding handed_out

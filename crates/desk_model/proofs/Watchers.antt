@@ -13,7 +13,7 @@ use Rattle.desk_model.specs.declared.slot.Slot.TheVariants.{Free, Today, Watcher
 use Rattle.desk_model.specs.Market.{Market, slot_at, terms_in, terms_at, is_watcher, is_observable, is_lazy, is_forwarding, is_forwarder, role_of, edges}
 use Rattle.desk_model.specs.State.{State, kept_at, is_frozen}
 use Rattle.desk_model.specs.Told.{registered, subjects, forwards_as, forwards, told}
-use Rattle.desk_model.specs.Links.{is_lazy_at, IsWhole}
+use Rattle.desk_model.specs.Links.{is_lazy_at, IsWhole, CanTell}
 use Rattle.std.proofs.lemmas.List.{append-nil}
 
 -- only watchers are registered
@@ -22,6 +22,10 @@ RegistersWatchers s = (w x : ℕ) → Among x (registered s.registrations w) →
 
 pub whole_registers : (s : State) → IsWhole s → RegistersWatchers s
 whole_registers s whole w x among = (whole.registered w x among).watcher
+
+-- in a state that is whole a notice goes to the right places
+pub whole_tells : (s : State) → IsWhole s → CanTell s.market s.registrations s.noticed
+whole_tells s whole = record { links = whole.links; registered = whole.registered; watchers = whole.noticed }
 
 -- an object that is no watcher
 abbrev pub IsPlain : Market → ℕ → Type 0

@@ -29,6 +29,13 @@ pub record IsRegistration (market : Market) (w o : ℕ) : Type 0 where
   pub watcher : is_watcher (slot_at market w) ≡ true
   pub observed : is_observable (slot_at market o) ≡ true
 
+-- WHERE A NOTICE GOES: edges lead downwards, watchers watch live objects that are no watchers, and only watchers are
+-- noticed
+pub record CanTell (market : Market) (registrations : List (ℕ × ℕ)) (noticed : List ℕ) : Type 0 where
+  pub links : IsLinked market
+  pub registered : (w o : ℕ) → Among o (registered registrations w) → IsRegistration market w o
+  pub watchers : (w : ℕ) → Among w noticed → is_watcher (slot_at market w) ≡ true
+
 -- what an object with these terms may be worth
 abbrev pub IsValued : Option Terms → ℕ → Value → Type 0
 IsValued None o value = ⊥

@@ -9,6 +9,7 @@ ghost use Rattle.desk_model.specs.Links.{is_lazy_at};
 ghost use Rattle.desk_model.specs.Uses.{reading_at};
 ghost use Rattle.desk_model.specs.State.{unpriced, held};
 ghost use Rattle.object_store.specs.Slots.{market_of, state_of, is_now};
+ghost use Rattle.object_store.specs.Store.{registry_of};
 ghost use Rattle.object_store.specs.Scratch.{AreClear, IsEmpty};
 ghost use Rattle.object_store.specs.Shape.{IsJoined, role_at};
 ghost use Rattle.observer_graph.specs.declared.node.Role.TheVariants as role;
@@ -35,19 +36,19 @@ pub fn ask<B: Bench>(
     object: ObjId,
     bench: &mut B,
 ) -> Result<Asked, AllocError>
-    requires may { MayAsk (B.calc bench.old) (state_of today objects.now store.old.kept store.old.deferring) object }
+    requires may { MayAsk (B.calc bench.old) (state_of today objects.now store.old.kept (registry_of store.old)) object }
     requires empty { IsEmpty (length objects.now) scratch.old }
     requires joined { IsJoined (market_of today objects.now) store.old.shape }
     ensures same { B.calc bench.new ≡ B.calc bench.old }
-    ensures asks { IfOk result (λ answer. Asks (B.calc bench.old) object (state_of today objects.now store.old.kept store.old.deferring) (state_of today objects.now store.new.kept store.old.deferring) answer
+    ensures asks { IfOk result (λ answer. Asks (B.calc bench.old) object (state_of today objects.now store.old.kept (registry_of store.old)) (state_of today objects.now store.new.kept (registry_of store.old)) answer
         (B.count bench.old) (B.count bench.new) (B.log bench.old) (B.log bench.new)) }
-    ensures stops { OnErr result (Stops (B.calc bench.old) object (state_of today objects.now store.old.kept store.old.deferring) (state_of today objects.now store.new.kept store.old.deferring)
+    ensures stops { OnErr result (Stops (B.calc bench.old) object (state_of today objects.now store.old.kept (registry_of store.old)) (state_of today objects.now store.new.kept (registry_of store.old))
         (B.count bench.old) (B.count bench.new) (B.log bench.old) (B.log bench.new)) }
-    ensures stays { Stays (B.calc bench.old) (state_of today objects.now store.new.kept store.old.deferring) }
-    ensures ready { (held (state_of today objects.now store.old.kept store.old.deferring) object ≢ None) ⊎ (is_now store.old.kept object ≡ true) → IsOk result }
+    ensures stays { Stays (B.calc bench.old) (state_of today objects.now store.new.kept (registry_of store.old)) }
+    ensures ready { (held (state_of today objects.now store.old.kept (registry_of store.old)) object ≢ None) ⊎ (is_now store.old.kept object ≡ true) → IsOk result }
     ensures empty { IsEmpty (length objects.now) scratch.new }
     ensures shape { store.new.shape ≡ store.old.shape }
-    ensures switch { store.new.deferring ≡ store.old.deferring }
+    ensures registry { registry_of store.new ≡ registry_of store.old }
 {
     if store.is_frozen(object) {
         return Ok(last_answer(store, object, Mark::Frozen));
@@ -92,21 +93,21 @@ pub fn compute_all<B: Bench>(
     mark: Mark,
     bench: &mut B,
 ) -> Result<Asked, AllocError>
-    requires may { MayAsk (B.calc bench.old) (state_of today objects.now store.old.kept store.old.deferring) object }
-    requires free { held (state_of today objects.now store.old.kept store.old.deferring) object ≡ None }
+    requires may { MayAsk (B.calc bench.old) (state_of today objects.now store.old.kept (registry_of store.old)) object }
+    requires free { held (state_of today objects.now store.old.kept (registry_of store.old)) object ≡ None }
     requires stale { is_now store.old.kept object ≡ false }
     requires remembers { Remembers (market_of today objects.now) scratch.old.entries }
     requires begun { Begun objects.now store.old.kept scratch.old.positions }
     requires joined { IsJoined (market_of today objects.now) store.old.shape }
     ensures same { B.calc bench.new ≡ B.calc bench.old }
-    ensures walks { IfOk result (λ answer. Walks (B.calc bench.old) object (state_of today objects.now store.old.kept store.old.deferring) (state_of today objects.now store.new.kept store.old.deferring) mark answer
+    ensures walks { IfOk result (λ answer. Walks (B.calc bench.old) object (state_of today objects.now store.old.kept (registry_of store.old)) (state_of today objects.now store.new.kept (registry_of store.old)) mark answer
         (B.count bench.old) (B.count bench.new) (B.log bench.old) (B.log bench.new)) }
     ensures few { IfOk result (λ answer. answer.runs < 2 ^ 17) }
-    ensures stops { OnErr result (Stops (B.calc bench.old) object (state_of today objects.now store.old.kept store.old.deferring) (state_of today objects.now store.new.kept store.old.deferring)
+    ensures stops { OnErr result (Stops (B.calc bench.old) object (state_of today objects.now store.old.kept (registry_of store.old)) (state_of today objects.now store.new.kept (registry_of store.old))
         (B.count bench.old) (B.count bench.new) (B.log bench.old) (B.log bench.new)) }
-    ensures stays { Stays (B.calc bench.old) (state_of today objects.now store.new.kept store.old.deferring) }
+    ensures stays { Stays (B.calc bench.old) (state_of today objects.now store.new.kept (registry_of store.old)) }
     ensures shape { store.new.shape ≡ store.old.shape }
-    ensures switch { store.new.deferring ≡ store.old.deferring }
+    ensures registry { registry_of store.new ≡ registry_of store.old }
     ensures remembers { Remembers (market_of today objects.now) scratch.new.entries }
     ensures begun { Begun objects.now store.new.kept scratch.new.positions }
 {
@@ -150,7 +151,7 @@ pub fn compute<'a, B: Bench>(
         (B.count bench.old) (B.count bench.new) (B.log bench.old) (B.log bench.new)) }
     ensures err { OnErr result ((store.new.kept ≡ store.old.kept) × (B.count bench.new ≡ counted (B.count bench.old) 1) × (B.log bench.new ≡ B.log bench.old)) }
     ensures shape { store.new.shape ≡ store.old.shape }
-    ensures switch { store.new.deferring ≡ store.old.deferring }
+    ensures registry { registry_of store.new ≡ registry_of store.old }
 {
     let terms = objects.own_terms(object);
     let job = Job {

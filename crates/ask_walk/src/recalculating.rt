@@ -1,11 +1,12 @@
 // A recalculation: an object is priced over its inputs, whatever its flags say.
 ghost use Rattle.std.specs.Prelude.{◌≡◌, true, false, length, is_some, Some, Ok, Err, IfOk, OnErr};
 ghost use Rattle.desk_model.specs.State.{is_late};
-ghost use Rattle.object_store.specs.Slots.{market_of, state_of, AreUnwatched};
+ghost use Rattle.object_store.specs.Slots.{market_of, state_of};
 ghost use Rattle.object_store.specs.Shape.{IsJoined, role_at};
 ghost use Rattle.ask_walk.specs.Reads.{Remembers};
 ghost use Rattle.ask_walk.specs.Begun.{Begun};
 ghost use Rattle.object_store.specs.Scratch.{IsEmpty};
+ghost use Rattle.object_store.specs.Store.{registry_of};
 ghost use Rattle.ask_walk.specs.Asks.{MayAsk, Stays};
 ghost use Rattle.ask_walk.specs.Recalcs.{Recalcs, RecalcEnds, RecalcStops, Reprices, refused_as};
 
@@ -30,19 +31,17 @@ pub fn recalc<B: Bench>(
     object: ObjId,
     bench: &mut B,
 ) -> Result<Recalced, AllocError>
-    requires may { MayAsk (B.calc bench.old) (state_of today objects.now store.old.kept store.old.deferring) object }
+    requires may { MayAsk (B.calc bench.old) (state_of today objects.now store.old.kept (registry_of store.old)) object }
     requires empty { IsEmpty (length objects.now) scratch.old }
     requires joined { IsJoined (market_of today objects.now) store.old.shape }
-    requires unwatched { AreUnwatched objects.now }
     ensures same { B.calc bench.new ≡ B.calc bench.old }
-    ensures ends { IfOk result (λ answer. RecalcEnds (B.calc bench.old) object (state_of today objects.now store.old.kept store.old.deferring) (state_of today objects.now store.new.kept store.old.deferring) answer
+    ensures ends { IfOk result (λ answer. RecalcEnds (B.calc bench.old) object (state_of today objects.now store.old.kept (registry_of store.old)) (state_of today objects.now store.new.kept (registry_of store.new)) answer
         (B.count bench.old) (B.count bench.new) (B.log bench.old) (B.log bench.new)) }
-    ensures stops { OnErr result (RecalcStops (B.calc bench.old) object (state_of today objects.now store.old.kept store.old.deferring) (state_of today objects.now store.new.kept store.old.deferring)
+    ensures stops { OnErr result (RecalcStops (B.calc bench.old) object (state_of today objects.now store.old.kept (registry_of store.old)) (state_of today objects.now store.new.kept (registry_of store.new))
         (B.count bench.old) (B.count bench.new) (B.log bench.old) (B.log bench.new)) }
-    ensures stays { Stays (B.calc bench.old) (state_of today objects.now store.new.kept store.old.deferring) }
+    ensures stays { Stays (B.calc bench.old) (state_of today objects.now store.new.kept (registry_of store.new)) }
     ensures empty { IsEmpty (length objects.now) scratch.new }
     ensures shape { store.new.shape ≡ store.old.shape }
-    ensures switch { store.new.deferring ≡ store.old.deferring }
 {
     match store.late(object) {
         Some(source) => Ok(Recalced::Deferred(source)),
@@ -64,20 +63,18 @@ fn rerun<B: Bench>(
     object: ObjId,
     bench: &mut B,
 ) -> Result<Asked, AllocError>
-    requires may { MayAsk (B.calc bench.old) (state_of today objects.now store.old.kept store.old.deferring) object }
-    requires early { is_late (state_of today objects.now store.old.kept store.old.deferring) object ≡ false }
+    requires may { MayAsk (B.calc bench.old) (state_of today objects.now store.old.kept (registry_of store.old)) object }
+    requires early { is_late (state_of today objects.now store.old.kept (registry_of store.old)) object ≡ false }
     requires remembers { Remembers (market_of today objects.now) scratch.old.entries }
     requires begun { Begun objects.now store.old.kept scratch.old.positions }
     requires joined { IsJoined (market_of today objects.now) store.old.shape }
-    requires unwatched { AreUnwatched objects.now }
     ensures same { B.calc bench.new ≡ B.calc bench.old }
-    ensures recalcs { IfOk result (λ answer. Recalcs (B.calc bench.old) object (state_of today objects.now store.old.kept store.old.deferring) (state_of today objects.now store.new.kept store.old.deferring) answer
+    ensures recalcs { IfOk result (λ answer. Recalcs (B.calc bench.old) object (state_of today objects.now store.old.kept (registry_of store.old)) (state_of today objects.now store.new.kept (registry_of store.new)) answer
         (B.count bench.old) (B.count bench.new) (B.log bench.old) (B.log bench.new)) }
-    ensures stops { OnErr result (RecalcStops (B.calc bench.old) object (state_of today objects.now store.old.kept store.old.deferring) (state_of today objects.now store.new.kept store.old.deferring)
+    ensures stops { OnErr result (RecalcStops (B.calc bench.old) object (state_of today objects.now store.old.kept (registry_of store.old)) (state_of today objects.now store.new.kept (registry_of store.new))
         (B.count bench.old) (B.count bench.new) (B.log bench.old) (B.log bench.new)) }
-    ensures stays { Stays (B.calc bench.old) (state_of today objects.now store.new.kept store.old.deferring) }
+    ensures stays { Stays (B.calc bench.old) (state_of today objects.now store.new.kept (registry_of store.new)) }
     ensures shape { store.new.shape ≡ store.old.shape }
-    ensures switch { store.new.deferring ≡ store.old.deferring }
     ensures long { (length scratch.new.entries ≡ length objects.now) × (length scratch.new.positions ≡ length objects.now) }
 {
     let answer = reprice(alloc, today, objects, store, scratch, object, bench)?;
@@ -106,19 +103,19 @@ fn reprice<B: Bench>(
     object: ObjId,
     bench: &mut B,
 ) -> Result<Asked, AllocError>
-    requires may { MayAsk (B.calc bench.old) (state_of today objects.now store.old.kept store.old.deferring) object }
-    requires early { is_late (state_of today objects.now store.old.kept store.old.deferring) object ≡ false }
+    requires may { MayAsk (B.calc bench.old) (state_of today objects.now store.old.kept (registry_of store.old)) object }
+    requires early { is_late (state_of today objects.now store.old.kept (registry_of store.old)) object ≡ false }
     requires remembers { Remembers (market_of today objects.now) scratch.old.entries }
     requires begun { Begun objects.now store.old.kept scratch.old.positions }
     requires joined { IsJoined (market_of today objects.now) store.old.shape }
     ensures same { B.calc bench.new ≡ B.calc bench.old }
-    ensures reprices { IfOk result (λ answer. Reprices (B.calc bench.old) object (state_of today objects.now store.old.kept store.old.deferring) store.new.kept answer
+    ensures reprices { IfOk result (λ answer. Reprices (B.calc bench.old) object (state_of today objects.now store.old.kept (registry_of store.old)) store.new.kept answer
         (B.count bench.old) (B.count bench.new) (B.log bench.old) (B.log bench.new)) }
-    ensures stops { OnErr result (RecalcStops (B.calc bench.old) object (state_of today objects.now store.old.kept store.old.deferring) (state_of today objects.now store.new.kept store.old.deferring)
+    ensures stops { OnErr result (RecalcStops (B.calc bench.old) object (state_of today objects.now store.old.kept (registry_of store.old)) (state_of today objects.now store.new.kept (registry_of store.old))
         (B.count bench.old) (B.count bench.new) (B.log bench.old) (B.log bench.new)) }
-    ensures stays { OnErr result (Stays (B.calc bench.old) (state_of today objects.now store.new.kept store.old.deferring)) }
+    ensures stays { OnErr result (Stays (B.calc bench.old) (state_of today objects.now store.new.kept (registry_of store.old))) }
     ensures shape { store.new.shape ≡ store.old.shape }
-    ensures switch { store.new.deferring ≡ store.old.deferring }
+    ensures registry { registry_of store.new ≡ registry_of store.old }
     ensures long { (length scratch.new.entries ≡ length objects.now) × (length scratch.new.positions ≡ length objects.now) }
 {
     let mut runs: u64 = 0;

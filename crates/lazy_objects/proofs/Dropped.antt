@@ -1,5 +1,5 @@
 -- What stands after an object that none observes is taken out.
-use Rattle.std.proofs.Common.{◌≡◌, ◌≢◌, inl, inr, ◌<◌, ℕ, Bool, true, false, List, length, None, refl, sym, ◌∙◌, ap, subst, arith}
+use Rattle.std.proofs.Common.{◌≡◌, ◌≢◌, inl, inr, ◌<◌, ℕ, true, false, List, length, None, sym, ◌∙◌, ap, subst, arith}
 use Rattle.std.specs.Prelude.{ℤ, slice_index_or, slice_set}
 use Rattle.std.proofs.lemmas.List.{length-set, get_or-set_same, get_or-set_other, get_or_past}
 use Rattle.std.proofs.lemmas.Bool.{cases_eq, cases_lt, false≢true}
@@ -7,19 +7,22 @@ use Rattle.desk_terms.specs.Reading.{Calc}
 use Rattle.desk_model.specs.declared.kept.Kept.{Kept}
 use Rattle.desk_model.specs.declared.slot.Slot.{Slot}
 use Rattle.desk_model.specs.declared.slot.Slot.TheVariants.{Free}
-use Rattle.desk_model.specs.Market.{terms_in, is_given, is_watcher, least_user}
-use Rattle.desk_model.specs.State.{State, unpriced}
+use Rattle.desk_model.specs.Market.{terms_in, is_given, least_user, without}
+use Rattle.desk_model.specs.State.{State}
 use Rattle.desk_model.specs.Sound.{IsSound, KeepsCurrent}
 use Rattle.desk_model.specs.Laws.{Keeps}
 use Rattle.desk_model.specs.Links.{IsRanged}
-use Rattle.desk_model.specs.Effect.{dropped}
+use Rattle.desk_model.specs.Effect.{without_pairs, dropped}
 use Rattle.desk_model.proofs.Births.{dropped_keeps}
 use Rattle.desk_model.proofs.KindsKept.{dropped_kinded}
 use Rattle.desk_model.proofs.Carried.{sound_kept}
 use Rattle.desk_model.proofs.Users.{none_uses}
-use Rattle.object_store.specs.Slots.{market_of, state_of}
+use Rattle.object_store.specs.Slots.{Registry, market_of, state_of}
+use Rattle.object_store.specs.Shape.{registrations_of}
 use Rattle.object_store.specs.Scratch.{ScratchView, IsEmpty}
-use Rattle.object_store.specs.Store.{StoreView, TakesObject}
+use Rattle.object_store.specs.Store.{registry_of, StoreView, TakesObject}
+use Rattle.object_store.proofs.Registered.{takes_registered}
+use Rattle.object_store.proofs.Rising.{same_without}
 use Rattle.lazy_objects.specs.Stands.{Stands}
 
 -- an object is there
@@ -27,16 +30,6 @@ pub given_within : (slots : List Slot) (x : ℕ) → is_given (slice_index_or sl
 given_within slots x is = elim (cases_lt x (length slots)) [
   | inl within ↦ within
   | inr past ↦ absurd (false≢true (ap is_given (sym (get_or_past slots x Free past)) ∙ is))
-]
-
--- what of a list with one item set is as before where the item is
-set_as : {A : Type 0} {B : Type 0} (f : A → B) (b : B) (l : List A) (x : ℕ) (a d : A) → f a ≡ b → f d ≡ b → ((y : ℕ) → f (slice_index_or l y d) ≡ b) → (y : ℕ) → f (slice_index_or (slice_set l x a) y d) ≡ b
-set_as f b l x a d here none was y = elim (cases_eq y x) [
-  | inl same ↦ ap (λ n. f (slice_index_or (slice_set l x a) n d)) same ∙ elim (cases_lt x (length l)) [
-    | inl within ↦ ap f (get_or-set_same l x a d within) ∙ here
-    | inr past ↦ ap f (get_or_past (slice_set l x a) x d (let e = length-set l x a in omega arith)) ∙ none
-  ]
-  | inr other ↦ ap f (get_or-set_other l x y a d other) ∙ was y
 ]
 
 -- what is left is in range
@@ -63,7 +56,6 @@ module _ (s : State) (scratch : ScratchView) (stands : Stands s scratch) (x : �
     sources = drop_keeps.current.sources stands.sources;
     kinds = dropped_kinded s x stands.whole apart (none_uses s.market x unused) stands.kinds;
     ranged = set_in s.market.objects x stands.ranged;
-    unwatched = set_as is_watcher false s.market.objects x Free Free refl refl stands.unwatched;
     limit = let l = length-set s.market.objects x Free in let k = stands.limit in omega arith;
     empty = subst (λ (n : ℕ). IsEmpty n scratch) (sym (length-set s.market.objects x Free)) stands.empty;
   }
@@ -75,16 +67,23 @@ pub record Drops (s new : State) (x : ℕ) (scratch : ScratchView) : Type 0 wher
   pub keeps : KeepsCurrent s new
   pub sound : (calc : Calc) → IsSound calc s → IsSound calc new
 
-dropped_state : (today : ℤ) (slots slots2 : List Slot) (kept kept2 : List Kept) (on on2 : Bool) (x : ℕ) → on2 ≡ on → slots2 ≡ slice_set slots x Free → kept2 ≡ slice_set kept x unpriced
-    → state_of today slots2 kept2 on2 ≡ dropped x (state_of today slots kept on)
-unfolding dropped
-dropped_state today slots slots2 kept kept2 on on2 x switch is are = ap (state_of today slots2 kept2) switch ∙ ap (λ (l : List Slot). state_of today l kept2 on) is ∙ ap (λ (k : List Kept). state_of today (slice_set slots x Free) k on) are
+-- the registrations and the told watchers that are left
+abbrev left_of : ℕ → StoreView → Registry
+left_of x old = record { deferring = old.deferring; registrations = without_pairs x (registrations_of old.shape); noticed = without x old.noticed }
 
-pub drops : (today : ℤ) (slots slots2 : List Slot) (old new : StoreView) (scratch : ScratchView) (x : ℕ) → Stands (state_of today slots old.kept old.deferring) scratch → x ≢ 0 → least_user (market_of today slots) x ≡ None
-    → slots2 ≡ slice_set slots x Free → TakesObject x old new → Drops (state_of today slots old.kept old.deferring) (state_of today slots2 new.kept new.deferring) x scratch
+dropped_state : (today : ℤ) (slots slots2 : List Slot) (old new : StoreView) (x : ℕ) → slots2 ≡ slice_set slots x Free → TakesObject x old new
+    → state_of today slots2 new.kept (registry_of new) ≡ dropped x (state_of today slots old.kept (registry_of old))
+unfolding dropped
+dropped_state today slots slots2 old new x is takes = ap (state_of today slots2 new.kept) registry_is ∙ ap (λ (l : List Slot). state_of today l new.kept (left_of x old)) is ∙ ap (λ (k : List Kept). state_of today (slice_set slots x Free) k (left_of x old)) takes.kept
+  where
+    registry_is : registry_of new ≡ left_of x old
+    registry_is = λ i. record { deferring = takes.switch i; registrations = takes_registered old new x takes i; noticed = (takes.told ∙ same_without x old.noticed) i }
+
+pub drops : (today : ℤ) (slots slots2 : List Slot) (old new : StoreView) (scratch : ScratchView) (x : ℕ) → Stands (state_of today slots old.kept (registry_of old)) scratch → x ≢ 0 → least_user (market_of today slots) x ≡ None
+    → slots2 ≡ slice_set slots x Free → TakesObject x old new → Drops (state_of today slots old.kept (registry_of old)) (state_of today slots2 new.kept (registry_of new)) x scratch
 drops today slots slots2 old new scratch x stands apart unused is takes =
-    let s = state_of today slots old.kept old.deferring in
-    let e = dropped_state today slots slots2 old.kept new.kept old.deferring new.deferring x takes.switch is takes.kept in
+    let s = state_of today slots old.kept (registry_of old) in
+    let e = dropped_state today slots slots2 old new x is takes in
     let current = (drop_keeps s scratch stands x apart unused).current in
     record {
       stands = subst (λ (t : State). Stands t scratch) (sym e) (drop_stands s scratch stands x apart unused);

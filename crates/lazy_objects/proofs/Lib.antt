@@ -8,4 +8,5 @@ pub mod Revised
 pub mod Rewatched
 pub mod Reweighted
 pub mod Stored
+pub mod Watched
 pub mod Weighed

@@ -22,12 +22,14 @@ use Rattle.desk_model.proofs.Commands.{relink_keeps}
 use Rattle.desk_model.proofs.KindsKept.{relink_kinded}
 use Rattle.observer_graph.specs.declared.node.Role.{Role}
 use Rattle.observer_graph.specs.declared.node.Role.TheVariants.{Forwarder}
-use Rattle.object_store.specs.Slots.{market_of, state_of}
+use Rattle.observer_graph.specs.declared.node.Role.TheVariants as role
+use Rattle.object_store.specs.Slots.{Registry, market_of, state_of}
 use Rattle.object_store.specs.Shape.{IsJoined, role_at, observed_by, slot_role}
-use Rattle.object_store.specs.Store.{StoreView, JoinsAny, LeavesAny}
+use Rattle.object_store.specs.Store.{registry_of, StoreView, JoinsAny, LeavesAny}
 use Rattle.object_store.specs.Scratch.{ScratchView}
 use Rattle.lazy_objects.specs.Stands.{Stands}
-use Rattle.object_store.proofs.Joined.{joined_set, there_seen, revised_market}
+use Rattle.object_store.proofs.Joined.{joined_set, there_seen, revised_market, terms_watch}
+use Rattle.object_store.proofs.Registered.{joins_plain, leaves_plain}
 use Rattle.object_store.proofs.Telling.{IsKept}
 use Rattle.lazy_objects.proofs.Revised.{Changed}
 use Rattle.lazy_objects.proofs.Commanded.{link_stands, commanded}
@@ -102,7 +104,7 @@ leaves_roles (Some y) h old new leaves = (leaves.kept, leaves.roles)
 
 module _ (today : ℤ) (slots : List Slot) (h : ℕ) (kind : HandleKind) (held target : Option ℕ) (old : StoreView) (joined : IsJoined (market_of today slots) old.shape)
     (is : terms_in (slice_index_or slots h Free) ≡ Some (Handle kind held)) where
-  handle_within : h < length slots
+  pub handle_within : h < length slots
   handle_within = elim (cases_lt h (length slots)) [ inl within ↦ within | inr past ↦ absurd (none_some (sym (ap terms_in (get_or_past slots h Free past)) ∙ is)) ]
     where
       none_some : None ≡ Some (Handle kind held) → ⊥
@@ -111,8 +113,15 @@ module _ (today : ℤ) (slots : List Slot) (h : ℕ) (kind : HandleKind) (held t
   pub handle_there : is_some (role_at old.shape h) ≡ true
   handle_there = ap is_some (joined.roles h ∙ role_there (slice_index_or slots h Free) kind held is)
 
+  -- a handle is no watcher
+  pub handle_plain : role_at old.shape h ≡ Some role.Watcher → ⊥
+  handle_plain watcher = other_role (sym (joined.roles h ∙ role_there (slice_index_or slots h Free) kind held is) ∙ watcher)
+    where
+      other_role : Some Forwarder ≡ Some role.Watcher → ⊥
+      other_role e = absurd (cc)
+
   observes : (x : ℕ) → Among x (observed_by old.shape h) → held ≡ Some x
-  observes x a = (handle_edges kind held x).0 (subst (λ (t : Option Terms). Among x (edges_of t)) is ((joined.pairs h x).0 a))
+  observes x a = (handle_edges kind held x).0 (subst (λ (t : Option Terms). Among x (edges_of t)) is ((joined.pairs h x (terms_watch (slice_index_or slots h Free) (Handle kind held) is)).0 a))
 
   pub target_there : MayLink (market_of today slots) h target → IfSome target (λ x. is_some (role_at old.shape x) ≡ true)
   target_there may = by_target target may
@@ -145,24 +154,33 @@ module _ (today : ℤ) (slots : List Slot) (h : ℕ) (kind : HandleKind) (held t
         λ a. let are = (handle_edges kind target x).0 a in (less x h).1 ((more x h).1 (inr (are, refl)), λ p. false≢true (sym differs ∙ same_target held target x p.0 are)),
       ))
       (λ o other. role o ∙ joined.roles o)
-      (λ o x other. (
-        λ a. (joined.pairs o x).0 (elim ((more x o).0 ((less x o).0 a).0) [ inl was ↦ was | inr p ↦ absurd (other p.1) ]),
-        λ a. (less x o).1 ((more x o).1 (inl ((joined.pairs o x).1 a)), λ p. other p.1),
+      (λ o x other plain. (
+        λ a. (joined.pairs o x plain).0 (elim ((more x o).0 ((less x o).0 a).0) [ inl was ↦ was | inr p ↦ absurd (other p.1) ]),
+        λ a. (less x o).1 ((more x o).1 (inl ((joined.pairs o x plain).1 a)), λ p. other p.1),
       ))
 
-pub joins_switch : (target : Option ℕ) (h : ℕ) (old new : StoreView) → JoinsAny target h old new → new.deferring ≡ old.deferring
-joins_switch None h old new same = ap (λ (v : StoreView). v.deferring) same
-joins_switch (Some y) h old new joins = joins.switch
+pub joins_switch : (target : Option ℕ) (h : ℕ) (old new : StoreView) → JoinsAny target h old new → (new.deferring ≡ old.deferring) × (new.noticed ≡ old.noticed)
+joins_switch None h old new same = (ap (λ (v : StoreView). v.deferring) same, ap (λ (v : StoreView). v.noticed) same)
+joins_switch (Some y) h old new joins = (joins.switch, joins.told)
 
-pub leaves_switch : (held : Option ℕ) (h : ℕ) (old new : StoreView) → LeavesAny held h old new → new.deferring ≡ old.deferring
-leaves_switch None h old new same = ap (λ (v : StoreView). v.deferring) same
-leaves_switch (Some y) h old new leaves = leaves.switch
+pub leaves_switch : (held : Option ℕ) (h : ℕ) (old new : StoreView) → LeavesAny held h old new → (new.deferring ≡ old.deferring) × (new.noticed ≡ old.noticed)
+leaves_switch None h old new same = (ap (λ (v : StoreView). v.deferring) same, ap (λ (v : StoreView). v.noticed) same)
+leaves_switch (Some y) h old new leaves = (leaves.switch, leaves.told)
+
+joins_registry : (target : Option ℕ) (h : ℕ) (old new : StoreView) → (role_at old.shape h ≡ Some role.Watcher → ⊥) → JoinsAny target h old new → registry_of new ≡ registry_of old
+joins_registry None h old new plain same = ap registry_of same
+joins_registry (Some y) h old new plain joins = joins_plain old new y h plain joins
+
+leaves_registry : (held : Option ℕ) (h : ℕ) (old new : StoreView) → (role_at old.shape h ≡ Some role.Watcher → ⊥) → LeavesAny held h old new → registry_of new ≡ registry_of old
+leaves_registry None h old new plain same = ap registry_of same
+leaves_registry (Some y) h old new plain leaves = leaves_plain old new y h plain leaves
 
 -- other pairs change nothing that is stored
-pub linked_kept : (held target : Option ℕ) (h : ℕ) (old middle new : StoreView) → JoinsAny target h old middle → LeavesAny held h middle new → IsKept old new
-linked_kept held target h old middle new joins leaves = record {
+pub linked_kept : (held target : Option ℕ) (h : ℕ) (old middle new : StoreView) → (role_at old.shape h ≡ Some role.Watcher → ⊥) → JoinsAny target h old middle → LeavesAny held h middle new → IsKept old new
+linked_kept held target h old middle new plain joins leaves = record {
   kept = (leaves_roles held h middle new leaves).0 ∙ (joins_roles target h old middle joins).0;
-  switch = leaves_switch held h middle new leaves ∙ joins_switch target h old middle joins;
+  registry = leaves_registry held h middle new (λ is. plain (sym (ap (λ (l : List (Option Role)). slice_index_or l h None) (joins_roles target h old middle joins).1) ∙ is)) leaves
+      ∙ joins_registry target h old middle plain joins;
 }
 
 -- a link tells where its target is another
@@ -172,22 +190,22 @@ unfolding relinked
 link_as s h kind held target b is e = ap (λ (t : Option Terms). target_set (changeable t) h target s) is ∙ ap (λ (c : Bool). if c then s else revised h (Handle kind target) s) e
 
 -- a change tells nothing of the market but the terms
-pub linked_before : (h : ℕ) (terms : Terms) (today : ℤ) (slots : List Slot) (kept : List Kept) (on : Bool) → IsLinked (revised h terms (state_of today slots kept on)).market → IsLinked (with_terms h terms (state_of today slots kept on)).market
-linked_before h terms today slots kept on links = subst IsLinked (revised_market h terms (state_of today slots kept on)) links
+pub linked_before : (h : ℕ) (terms : Terms) (today : ℤ) (slots : List Slot) (kept : List Kept) (registry : Registry) → IsLinked (revised h terms (state_of today slots kept registry)).market → IsLinked (with_terms h terms (state_of today slots kept registry)).market
+linked_before h terms today slots kept registry links = subst IsLinked (revised_market h terms (state_of today slots kept registry)) links
 
-module _ (today : ℤ) (slots : List Slot) (kept : List Kept) (on : Bool) (scratch : ScratchView) (stands : Stands (state_of today slots kept on) scratch) (h : ℕ) (kind : HandleKind) (held target : Option ℕ)
+module _ (today : ℤ) (slots : List Slot) (kept : List Kept) (registry : Registry) (scratch : ScratchView) (stands : Stands (state_of today slots kept registry) scratch) (h : ℕ) (kind : HandleKind) (held target : Option ℕ)
     (is : terms_in (slice_index_or slots h Free) ≡ Some (Handle kind held)) (may : MayLink (market_of today slots) h target) (differs : option_eq number_eq held target ≡ false) where
-  changed : relinked h target (state_of today slots kept on) ≡ revised h (Handle kind target) (state_of today slots kept on)
-  changed = link_as (state_of today slots kept on) h kind held target false is differs
+  changed : relinked h target (state_of today slots kept registry) ≡ revised h (Handle kind target) (state_of today slots kept registry)
+  changed = link_as (state_of today slots kept registry) h kind held target false is differs
 
-  keeps : Keeps (state_of today slots kept on) (relinked h target (state_of today slots kept on))
-  keeps = relink_keeps (state_of today slots kept on) stands.whole h target may
+  keeps : Keeps (state_of today slots kept registry) (relinked h target (state_of today slots kept registry))
+  keeps = relink_keeps (state_of today slots kept registry) stands.whole h target may
 
-  pub link_links : IsLinked (with_terms h (Handle kind target) (state_of today slots kept on)).market
-  link_links = linked_before h (Handle kind target) today slots kept on (subst (λ (t : State). IsLinked t.market) changed keeps.whole.links)
+  pub link_links : IsLinked (with_terms h (Handle kind target) (state_of today slots kept registry)).market
+  link_links = linked_before h (Handle kind target) today slots kept registry (subst (λ (t : State). IsLinked t.market) changed keeps.whole.links)
 
   pub link_changed : ((k : HandleKind) (t : Option ℕ) → terms_in (slice_index_or slots h Free) ≡ Some (Handle k t) → AreOfKind (market_of today slots) (Some (Handle k target)))
-      → (new : State) → new ≡ revised h (Handle kind target) (state_of today slots kept on) → Changed (state_of today slots kept on) new (relinked h target (state_of today slots kept on)) scratch
+      → (new : State) → new ≡ revised h (Handle kind target) (state_of today slots kept registry) → Changed (state_of today slots kept registry) new (relinked h target (state_of today slots kept registry)) scratch
   link_changed kinds new e =
-      commanded today slots kept on scratch stands (relinked h target (state_of today slots kept on)) new keeps
-      (link_stands today slots kept on scratch stands h target keeps (relink_kinded (state_of today slots kept on) stands.whole stands.kinds h target kinds)) (e ∙ sym changed)
+      commanded today slots kept registry scratch stands (relinked h target (state_of today slots kept registry)) new keeps
+      (link_stands today slots kept registry scratch stands h target keeps (relink_kinded (state_of today slots kept registry) stands.whole stands.kinds h target kinds)) (e ∙ sym changed)

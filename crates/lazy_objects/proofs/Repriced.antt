@@ -1,5 +1,5 @@
 -- The graph of a desk after another engine of an instrument.
-use Rattle.std.proofs.Common.{◌≡◌, ◌≢◌, ◌⊎◌, inl, inr, ◌<◌, ℕ, suc, Bool, true, false, List, [], ◌∷◌, ◌++◌, length, Option, None, Some, refl, sym, ◌∙◌, ap, subst}
+use Rattle.std.proofs.Common.{◌≡◌, ◌≢◌, ◌⊎◌, inl, inr, ◌<◌, ℕ, suc, true, false, List, [], ◌∷◌, ◌++◌, length, Option, None, Some, refl, sym, ◌∙◌, ap, subst}
 use Rattle.std.specs.Prelude.{ℤ, ◌↔◌, ◌==◌, slice_index_or, slice_set, is_some, IfSome}
 use Rattle.std.specs.List.{list_any}
 use Rattle.std.specs.Option.{option_eq}
@@ -34,15 +34,17 @@ use Rattle.desk_model.proofs.Commands.{kind_there, engine_keeps}
 use Rattle.desk_model.proofs.KindsKept.{engine_kinded}
 use Rattle.observer_graph.specs.declared.node.Role.{Role}
 use Rattle.observer_graph.specs.declared.node.Role.TheVariants.{Lazy}
-use Rattle.object_store.specs.Slots.{market_of, state_of, outdated, engine_in}
+use Rattle.observer_graph.specs.declared.node.Role.TheVariants as role
+use Rattle.object_store.specs.Slots.{Registry, market_of, state_of, outdated, engine_in}
 use Rattle.object_store.specs.Shape.{IsJoined, role_at, observed_by, slot_role}
-use Rattle.object_store.specs.Store.{StoreView, JoinsAny, LeavesAny, Moves}
+use Rattle.object_store.specs.Store.{registry_of, StoreView, JoinsAny, LeavesAny, Moves}
 use Rattle.object_store.specs.Scratch.{ScratchView}
 use Rattle.lazy_objects.specs.Stands.{Stands}
-use Rattle.object_store.proofs.Joined.{joined_set, there_seen}
+use Rattle.object_store.proofs.Joined.{joined_set, there_seen, terms_watch}
+use Rattle.object_store.proofs.Registered.{moves_plain}
 use Rattle.lazy_objects.proofs.Linked.{same_target, joins_pairs, leaves_pairs, joins_roles, leaves_roles, joins_switch, leaves_switch, linked_before}
 use Rattle.lazy_objects.proofs.Revised.{Changed, After, kind_within}
-use Rattle.object_store.proofs.Telling.{revised_told, kept_state}
+use Rattle.object_store.proofs.Telling.{IsKept, revised_told, kept_state}
 use Rattle.lazy_objects.proofs.Commanded.{engine_stands, commanded}
 
 -- what is named as a member is named as nothing else
@@ -208,7 +210,8 @@ moved held target i old middle new differs joins leaves =
     let less = leaves_pairs held i middle new leaves in
     record {
       kept = (leaves_roles held i middle new leaves).0 ∙ (joins_roles target i old middle joins).0;
-      switch = leaves_switch held i middle new leaves ∙ joins_switch target i old middle joins;
+      switch = (leaves_switch held i middle new leaves).0 ∙ (joins_switch target i old middle joins).0;
+      told = (leaves_switch held i middle new leaves).1 ∙ (joins_switch target i old middle joins).1;
       roles = (leaves_roles held i middle new leaves).1 ∙ (joins_roles target i old middle joins).1;
       own = λ x. (
         λ a. let p = (less x i).0 a in elim ((more x i).0 p.0) [ inl was ↦ inl (was, λ e. p.1 (e, refl)) | inr q ↦ inr q.0 ],
@@ -277,10 +280,10 @@ module _ (today : ℤ) (slots : List Slot) (i : ℕ) (flows : FlowTerms) (held :
       by_kind engine_is (inr index) = false≢true (sym (ap (λ (k : Option Kind). serves_as k wanted.Index) engine_is) ∙ served_index x index)
 
   observes : (y : ℕ) → Among y (observed_by old.shape i) → ((y ≡ 0) ⊎ (flows.index ≡ Some y)) ⊎ (held ≡ Some y)
-  observes y a = (flows_edges flows held y).0 (subst (λ (t : Option Terms). Among y (edges_of t)) is ((joined.pairs i y).0 a))
+  observes y a = (flows_edges flows held y).0 (subst (λ (t : Option Terms). Among y (edges_of t)) is ((joined.pairs i y (terms_watch (slice_index_or slots i Free) (terms_of.Flows flows held) is)).0 a))
 
   observed : (y : ℕ) → ((y ≡ 0) ⊎ (flows.index ≡ Some y)) ⊎ (held ≡ Some y) → Among y (observed_by old.shape i)
-  observed y p = (joined.pairs i y).1 (subst (λ (t : Option Terms). Among y (edges_of t)) (sym is) ((flows_edges flows held y).1 p))
+  observed y p = (joined.pairs i y (terms_watch (slice_index_or slots i Free) (terms_of.Flows flows held) is)).1 (subst (λ (t : Option Terms). Among y (edges_of t)) (sym is) ((flows_edges flows held y).1 p))
 
   pub instrument_there : is_some (role_at old.shape i) ≡ true
   instrument_there = ap is_some (joined.roles i ∙ flows_role (slice_index_or slots i Free) flows held is)
@@ -316,31 +319,41 @@ module _ (today : ℤ) (slots : List Slot) (i : ℕ) (flows : FlowTerms) (held :
         ]),
       ))
       (λ o other. role o ∙ joined.roles o)
-      (λ o y other. (
-        λ a. (joined.pairs o y).0 ((moves.others o y other).0 a),
-        λ a. (moves.others o y other).1 ((joined.pairs o y).1 a),
+      (λ o y other plain. (
+        λ a. (joined.pairs o y plain).0 ((moves.others o y other).0 a),
+        λ a. (moves.others o y other).1 ((joined.pairs o y plain).1 a),
       ))
+
+  -- another engine is no registration
+  pub moves_kept : (engine : Option ℕ) (new : StoreView) → Moves held engine i old new → IsKept old new
+  moves_kept engine new moves = record { kept = moves.kept; registry = moves_plain held engine i old new other_role moves }
+    where
+      lazy_watcher : Some Lazy ≡ Some role.Watcher → ⊥
+      lazy_watcher e = absurd (cc)
+
+      other_role : role_at old.shape i ≡ Some role.Watcher → ⊥
+      other_role watcher = lazy_watcher (sym (joined.roles i ∙ flows_role (slice_index_or slots i Free) flows held is) ∙ watcher)
 
 -- an engine that is set tells, whatever it is
 engine_as : (s : State) (i : ℕ) (flows : FlowTerms) (held engine : Option ℕ) → terms_in (slot_at s.market i) ≡ Some (terms_of.Flows flows held) → engine_set i engine s ≡ revised i (terms_of.Flows flows engine) s
 unfolding engine_set
 engine_as s i flows held engine is = ap (λ (t : Option Terms). priced_by_engine (changeable t) i engine s) is
 
-module _ (today : ℤ) (slots : List Slot) (kept : List Kept) (on : Bool) (scratch : ScratchView) (stands : Stands (state_of today slots kept on) scratch) (i : ℕ) (flows : FlowTerms) (held engine : Option ℕ)
+module _ (today : ℤ) (slots : List Slot) (kept : List Kept) (registry : Registry) (scratch : ScratchView) (stands : Stands (state_of today slots kept registry) scratch) (i : ℕ) (flows : FlowTerms) (held engine : Option ℕ)
     (is : terms_in (slice_index_or slots i Free) ≡ Some (terms_of.Flows flows held)) (instrument : kind_at (market_of today slots) i ≡ Some kind.Flows) (serve : Serve (market_of today slots) (optional_reference wanted.Engine engine)) where
-  changed : engine_set i engine (state_of today slots kept on) ≡ revised i (terms_of.Flows flows engine) (state_of today slots kept on)
-  changed = engine_as (state_of today slots kept on) i flows held engine is
+  changed : engine_set i engine (state_of today slots kept registry) ≡ revised i (terms_of.Flows flows engine) (state_of today slots kept registry)
+  changed = engine_as (state_of today slots kept registry) i flows held engine is
 
-  keeps : Keeps (state_of today slots kept on) (engine_set i engine (state_of today slots kept on))
-  keeps = engine_keeps (state_of today slots kept on) stands.whole i engine (engine_may (market_of today slots) stands.kinds stands.whole.today i instrument engine serve)
+  keeps : Keeps (state_of today slots kept registry) (engine_set i engine (state_of today slots kept registry))
+  keeps = engine_keeps (state_of today slots kept registry) stands.whole i engine (engine_may (market_of today slots) stands.kinds stands.whole.today i instrument engine serve)
 
   pub engine_links : IsLinked (market_of today (slice_set slots i (Live (terms_of.Flows flows engine))))
-  engine_links = linked_before i (terms_of.Flows flows engine) today slots kept on (subst (λ (t : State). IsLinked t.market) changed keeps.whole.links)
+  engine_links = linked_before i (terms_of.Flows flows engine) today slots kept registry (subst (λ (t : State). IsLinked t.market) changed keeps.whole.links)
 
-  pub engine_changed : (new : State) → new ≡ revised i (terms_of.Flows flows engine) (state_of today slots kept on) → Changed (state_of today slots kept on) new (engine_set i engine (state_of today slots kept on)) scratch
+  pub engine_changed : (new : State) → new ≡ revised i (terms_of.Flows flows engine) (state_of today slots kept registry) → Changed (state_of today slots kept registry) new (engine_set i engine (state_of today slots kept registry)) scratch
   engine_changed new e =
-      commanded today slots kept on scratch stands (engine_set i engine (state_of today slots kept on)) new keeps
-      (engine_stands today slots kept on scratch stands i engine keeps (engine_kinded (state_of today slots kept on) stands.whole stands.kinds i engine serve)) (e ∙ sym changed)
+      commanded today slots kept registry scratch stands (engine_set i engine (state_of today slots kept registry)) new keeps
+      (engine_stands today slots kept registry scratch stands i engine keeps (engine_kinded (state_of today slots kept registry) stands.whole stands.kinds i engine serve)) (e ∙ sym changed)
 
 -- the terms of an instrument
 pub flows_there : (m : Market) (i : ℕ) → kind_at m i ≡ Some kind.Flows → (flows : FlowTerms) × (held : Option ℕ) × (terms_at m i ≡ Some (terms_of.Flows flows held))
@@ -369,15 +382,16 @@ priced_there m i is e held =
 
 -- what an engine that is set leaves of a desk
 pub engine_left : (today : ℤ) (slots slots2 : List Slot) (old middle new : StoreView) (scratch : ScratchView) (i : ℕ) (flows : FlowTerms) (held engine : Option ℕ)
-    → Stands (state_of today slots old.kept old.deferring) scratch → IsJoined (market_of today slots) old.shape → terms_in (slice_index_or slots i Free) ≡ Some (terms_of.Flows flows held)
+    → Stands (state_of today slots old.kept (registry_of old)) scratch → IsJoined (market_of today slots) old.shape → terms_in (slice_index_or slots i Free) ≡ Some (terms_of.Flows flows held)
     → kind_at (market_of today slots) i ≡ Some kind.Flows → Serve (market_of today slots) (optional_reference wanted.Engine engine)
     → slots2 ≡ slice_set slots i (Live (terms_of.Flows flows engine)) → Moves held engine i old middle
-    → state_of today slots2 new.kept new.deferring ≡ notified i (outdated i (state_of today slots2 middle.kept middle.deferring)) → new.shape ≡ middle.shape
-    → After (state_of today slots old.kept old.deferring) (state_of today slots2 new.kept new.deferring) (engine_set i engine (state_of today slots old.kept old.deferring)) scratch new.shape
+    → state_of today slots2 new.kept (registry_of new) ≡ notified i (outdated i (state_of today slots2 middle.kept (registry_of middle))) → new.shape ≡ middle.shape
+    → After (state_of today slots old.kept (registry_of old)) (state_of today slots2 new.kept (registry_of new)) (engine_set i engine (state_of today slots old.kept (registry_of old))) scratch new.shape
 engine_left today slots slots2 old middle new scratch i flows held engine stands joined is instrument serve are moves told same = record {
-  changed = engine_changed today slots old.kept old.deferring scratch stands i flows held engine is instrument serve (state_of today slots2 new.kept new.deferring)
-      (revised_told today slots slots2 old.kept old.deferring (state_of today slots2 new.kept new.deferring) i (terms_of.Flows flows engine) are
-      (told ∙ ap (λ (s : State). notified i (outdated i s)) (kept_state today slots2 old middle (record { kept = moves.kept; switch = moves.switch }))));
+  changed = engine_changed today slots old.kept (registry_of old) scratch stands i flows held engine is instrument serve (state_of today slots2 new.kept (registry_of new))
+      (revised_told today slots slots2 old.kept (registry_of old) (state_of today slots2 new.kept (registry_of new)) i (terms_of.Flows flows engine) are
+      (told ∙ ap (λ (s : State). notified i (outdated i s)) (kept_state today slots2 old middle
+      (moves_kept today slots i flows held old joined is stands.kinds stands.whole.today engine middle moves))));
   joined = subst (IsJoined (market_of today slots2)) (sym same)
       (subst (λ (l : List Slot). IsJoined (market_of today l) middle.shape) (sym are)
       (joined_repriced today slots i flows held old joined is stands.kinds stands.whole.today engine middle (kind_within slots today i kind.Flows instrument) moves));

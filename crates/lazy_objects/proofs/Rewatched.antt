@@ -68,6 +68,7 @@ module _ (k m : ℕ) (weight : ℤ) (parts : List Part) (old : StoreView) (watch
   rewatched_less new none leaves = record {
     kept = leaves.kept;
     switch = leaves.switch;
+    told = leaves.told;
     roles = leaves.roles;
     own = λ x. subst (λ (l : List Part). Among x (observed_by new.shape k) ↔ Among x (members l)) (sym (ap (λ (b : Bool). if b then without_member parts m else if has_member parts m then reweighted parts m weight else parts ++ record { weight = weight; member = m } ∷ []) none)) (
       λ a. let p = (leaves.pairs x k).0 a in without_back parts m x ((watched x).0 p.0) (λ e. p.1 (e, refl)),
@@ -80,6 +81,7 @@ module _ (k m : ℕ) (weight : ℤ) (parts : List Part) (old : StoreView) (watch
   rewatched_same some there = record {
     kept = refl;
     switch = refl;
+    told = refl;
     roles = refl;
     own = λ x. subst (λ (l : List Part). Among x (observed_by old.shape k) ↔ Among x (members l))
         (sym (ap (λ (b : Bool). if b then without_member parts m else if has_member parts m then reweighted parts m weight else parts ++ record { weight = weight; member = m } ∷ []) some
@@ -92,6 +94,7 @@ module _ (k m : ℕ) (weight : ℤ) (parts : List Part) (old : StoreView) (watch
   rewatched_more new some none joins = record {
     kept = joins.kept;
     switch = joins.switch;
+    told = joins.told;
     roles = joins.roles;
     own = λ x. subst (λ (l : List Part). Among x (observed_by new.shape k) ↔ Among x (members l))
         (sym (ap (λ (b : Bool). if b then without_member parts m else if has_member parts m then reweighted parts m weight else parts ++ record { weight = weight; member = m } ∷ []) some

@@ -1,5 +1,5 @@
 -- What stands after a fixing.
-use Rattle.std.proofs.Common.{◌≡◌, ◌<◌, ℕ, Bool, true, length, Option, Some, refl, sym, ◌∙◌, ap, subst}
+use Rattle.std.proofs.Common.{◌≡◌, ◌<◌, ℕ, true, length, Option, Some, refl, sym, ◌∙◌, ap, subst}
 use Rattle.std.specs.Prelude.{ℤ, List, Result, Err, ◌↔◌, slice_index_or, slice_set}
 use Rattle.walks.specs.Walk.{Among}
 use Rattle.flow_terms.specs.declared.indexes.IndexTerms.{IndexTerms}
@@ -23,13 +23,13 @@ use Rattle.desk_model.specs.Effect.{notified, revised, fixing_stored, fixing_add
 use Rattle.desk_model.proofs.Commands.{fixing_keeps}
 use Rattle.desk_model.proofs.KindsKept.{fixing_kinded}
 use Rattle.observer_graph.specs.declared.node.Role.TheVariants.{Forwarder}
-use Rattle.object_store.specs.Slots.{market_of, state_of, outdated, has_fixings}
+use Rattle.object_store.specs.Slots.{Registry, market_of, state_of, outdated, has_fixings}
 use Rattle.object_store.specs.Shape.{Shape, IsJoined, slot_role}
-use Rattle.object_store.specs.Store.{StoreView}
+use Rattle.object_store.specs.Store.{registry_of, StoreView}
 use Rattle.object_store.specs.Scratch.{ScratchView}
 use Rattle.lazy_objects.specs.Stands.{Stands}
 use Rattle.object_store.proofs.Indexes.{same_terms}
-use Rattle.object_store.proofs.Joined.{joined_set}
+use Rattle.object_store.proofs.Joined.{joined_set, terms_watch}
 use Rattle.lazy_objects.proofs.Linked.{linked_before}
 use Rattle.lazy_objects.proofs.Revised.{Changed, After}
 use Rattle.object_store.proofs.Telling.{revised_told}
@@ -76,10 +76,10 @@ pub joined_fixing : (today : ℤ) (slots : List Slot) (shape : Shape) (x : ℕ) 
 joined_fixing today slots shape x terms fixings more joined within is =
     joined_set today slots x (terms_of.Index terms more) shape joined.long within (joined.roles x ∙ index_role (slice_index_or slots x Free) terms fixings is)
     (λ y. (
-      λ a. subst (λ (t : Option Terms). Among y (edges_of t)) is ((joined.pairs x y).0 a),
-      λ a. (joined.pairs x y).1 (subst (λ (t : Option Terms). Among y (edges_of t)) (sym is) a),
+      λ a. subst (λ (t : Option Terms). Among y (edges_of t)) is ((joined.pairs x y (terms_watch (slice_index_or slots x Free) (terms_of.Index terms fixings) is)).0 a),
+      λ a. (joined.pairs x y (terms_watch (slice_index_or slots x Free) (terms_of.Index terms fixings) is)).1 (subst (λ (t : Option Terms). Among y (edges_of t)) (sym is) a),
     ))
-    (λ o other. joined.roles o) (λ o y other. joined.pairs o y)
+    (λ o other. joined.roles o) (λ o y other plain. joined.pairs o y plain)
 
 -- a fixing that is stored tells
 fixing_as : (s : State) (x : ℕ) (terms : IndexTerms) (fixings : Stored) (day rate : ℤ) → terms_in (slot_at s.market x) ≡ Some (terms_of.Index terms fixings)
@@ -87,32 +87,32 @@ fixing_as : (s : State) (x : ℕ) (terms : IndexTerms) (fixings : Stored) (day r
 unfolding fixing_added
 fixing_as s x terms fixings day rate is = ap (λ (t : Option Terms). fixing_stored (changeable t) x day rate s) is
 
-module _ (today : ℤ) (slots : List Slot) (kept : List Kept) (on : Bool) (scratch : ScratchView) (stands : Stands (state_of today slots kept on) scratch) (x : ℕ) (terms : IndexTerms) (fixings : Stored) (day rate : ℤ)
+module _ (today : ℤ) (slots : List Slot) (kept : List Kept) (registry : Registry) (scratch : ScratchView) (stands : Stands (state_of today slots kept registry) scratch) (x : ℕ) (terms : IndexTerms) (fixings : Stored) (day rate : ℤ)
     (is : terms_in (slice_index_or slots x Free) ≡ Some (terms_of.Index terms fixings)) where
-  changed : fixing_added x day rate (state_of today slots kept on) ≡ revised x (terms_of.Index terms (with_fixing fixings day rate)) (state_of today slots kept on)
-  changed = fixing_as (state_of today slots kept on) x terms fixings day rate is
+  changed : fixing_added x day rate (state_of today slots kept registry) ≡ revised x (terms_of.Index terms (with_fixing fixings day rate)) (state_of today slots kept registry)
+  changed = fixing_as (state_of today slots kept registry) x terms fixings day rate is
 
-  keeps : Keeps (state_of today slots kept on) (fixing_added x day rate (state_of today slots kept on))
-  keeps = fixing_keeps (state_of today slots kept on) stands.whole x day rate
+  keeps : Keeps (state_of today slots kept registry) (fixing_added x day rate (state_of today slots kept registry))
+  keeps = fixing_keeps (state_of today slots kept registry) stands.whole x day rate
 
   pub fixing_links : IsLinked (market_of today (slice_set slots x (Live (terms_of.Index terms (with_fixing fixings day rate)))))
-  fixing_links = linked_before x (terms_of.Index terms (with_fixing fixings day rate)) today slots kept on (subst (λ (t : State). IsLinked t.market) changed keeps.whole.links)
+  fixing_links = linked_before x (terms_of.Index terms (with_fixing fixings day rate)) today slots kept registry (subst (λ (t : State). IsLinked t.market) changed keeps.whole.links)
 
-  pub fixing_changed : (new : State) → new ≡ revised x (terms_of.Index terms (with_fixing fixings day rate)) (state_of today slots kept on)
-      → Changed (state_of today slots kept on) new (fixing_added x day rate (state_of today slots kept on)) scratch
+  pub fixing_changed : (new : State) → new ≡ revised x (terms_of.Index terms (with_fixing fixings day rate)) (state_of today slots kept registry)
+      → Changed (state_of today slots kept registry) new (fixing_added x day rate (state_of today slots kept registry)) scratch
   fixing_changed new e =
-      commanded today slots kept on scratch stands (fixing_added x day rate (state_of today slots kept on)) new keeps
-      (fixing_stands today slots kept on scratch stands x day rate keeps (fixing_kinded (state_of today slots kept on) stands.whole stands.kinds x day rate)) (e ∙ sym changed)
+      commanded today slots kept registry scratch stands (fixing_added x day rate (state_of today slots kept registry)) new keeps
+      (fixing_stands today slots kept registry scratch stands x day rate keeps (fixing_kinded (state_of today slots kept registry) stands.whole stands.kinds x day rate)) (e ∙ sym changed)
 
 -- what a fixing that is stored leaves of a desk
 pub fixing_left : (today : ℤ) (slots slots2 : List Slot) (old new : StoreView) (scratch : ScratchView) (x : ℕ) (terms : IndexTerms) (fixings : Stored) (day rate : ℤ)
-    → Stands (state_of today slots old.kept old.deferring) scratch → IsJoined (market_of today slots) old.shape → x < length slots → terms_in (slice_index_or slots x Free) ≡ Some (terms_of.Index terms fixings)
+    → Stands (state_of today slots old.kept (registry_of old)) scratch → IsJoined (market_of today slots) old.shape → x < length slots → terms_in (slice_index_or slots x Free) ≡ Some (terms_of.Index terms fixings)
     → slots2 ≡ slice_set slots x (Live (terms_of.Index terms (with_fixing fixings day rate)))
-    → state_of today slots2 new.kept new.deferring ≡ notified x (outdated x (state_of today slots2 old.kept old.deferring)) → new.shape ≡ old.shape
-    → After (state_of today slots old.kept old.deferring) (state_of today slots2 new.kept new.deferring) (fixing_added x day rate (state_of today slots old.kept old.deferring)) scratch new.shape
+    → state_of today slots2 new.kept (registry_of new) ≡ notified x (outdated x (state_of today slots2 old.kept (registry_of old))) → new.shape ≡ old.shape
+    → After (state_of today slots old.kept (registry_of old)) (state_of today slots2 new.kept (registry_of new)) (fixing_added x day rate (state_of today slots old.kept (registry_of old))) scratch new.shape
 fixing_left today slots slots2 old new scratch x terms fixings day rate stands joined within is are told same = record {
-  changed = fixing_changed today slots old.kept old.deferring scratch stands x terms fixings day rate is (state_of today slots2 new.kept new.deferring)
-      (revised_told today slots slots2 old.kept old.deferring (state_of today slots2 new.kept new.deferring) x (terms_of.Index terms (with_fixing fixings day rate)) are told);
+  changed = fixing_changed today slots old.kept (registry_of old) scratch stands x terms fixings day rate is (state_of today slots2 new.kept (registry_of new))
+      (revised_told today slots slots2 old.kept (registry_of old) (state_of today slots2 new.kept (registry_of new)) x (terms_of.Index terms (with_fixing fixings day rate)) are told);
   joined = subst (IsJoined (market_of today slots2)) (sym same)
       (subst (λ (l : List Slot). IsJoined (market_of today l) old.shape) (sym are) (joined_fixing today slots old.shape x terms fixings (with_fixing fixings day rate) joined within is));
 }

@@ -22,9 +22,15 @@ use Rattle.desk_model.specs.Sound.{IsSound, KeepsCurrent}
 use Rattle.desk_model.proofs.Carried.{sound_kept}
 use Rattle.desk_model.proofs.Commands.{member_keeps}
 use Rattle.desk_model.proofs.KindsKept.{member_kinded}
-use Rattle.object_store.specs.Slots.{market_of, state_of}
+use Rattle.object_store.specs.Slots.{Registry, market_of, state_of}
 use Rattle.object_store.specs.Scratch.{ScratchView}
 use Rattle.object_store.specs.Parts.{parts_in}
+use Rattle.observer_graph.specs.declared.node.Role.TheVariants as role
+use Rattle.object_store.specs.Shape.{IsJoined, role_at}
+use Rattle.object_store.specs.Store.{StoreView, IsRewatched}
+use Rattle.object_store.proofs.Joined.{composite_slot}
+use Rattle.object_store.proofs.Registered.{rewatched_plain}
+use Rattle.object_store.proofs.Telling.{IsKept}
 use Rattle.lazy_objects.specs.Stands.{Stands}
 use Rattle.lazy_objects.proofs.Linked.{linked_before}
 use Rattle.lazy_objects.proofs.Revised.{Changed, revised_stands}
@@ -69,29 +75,40 @@ module _ (s : State) (k member : ℕ) (weight : ℤ) (is : kind_at s.market k �
   weight_as b e = ap (λ (c : Changeable). weight_set c k member weight s) (by_slot (slot_at s.market k) is)
       ∙ ap (λ (c : Bool). if c then s else revised k (terms_of.Composite (with_member (parts_in (slot_at s.market k)) member weight)) s) e
 
-module _ (today : ℤ) (slots : List Slot) (kept : List Kept) (on : Bool) (scratch : ScratchView) (stands : Stands (state_of today slots kept on) scratch) (k member : ℕ) (weight : ℤ)
+module _ (today : ℤ) (slots : List Slot) (kept : List Kept) (registry : Registry) (scratch : ScratchView) (stands : Stands (state_of today slots kept registry) scratch) (k member : ℕ) (weight : ℤ)
     (may : MayWeigh (market_of today slots) k member weight) (differs : int_eq (weight_of (parts_in (slot_at (market_of today slots) k)) member) weight ≡ false)
     (parts : List Part) (reweighed : parts ≡ with_member (parts_in (slot_at (market_of today slots) k)) member weight) where
   abbrev changed : State
-  changed = revised k (terms_of.Composite parts) (state_of today slots kept on)
+  changed = revised k (terms_of.Composite parts) (state_of today slots kept registry)
 
-  same : member_set k member weight (state_of today slots kept on) ≡ changed
-  same = weight_as (state_of today slots kept on) k member weight may.0 false differs ∙ ap (λ (p : List Part). revised k (terms_of.Composite p) (state_of today slots kept on)) (sym reweighed)
+  same : member_set k member weight (state_of today slots kept registry) ≡ changed
+  same = weight_as (state_of today slots kept registry) k member weight may.0 false differs ∙ ap (λ (p : List Part). revised k (terms_of.Composite p) (state_of today slots kept registry)) (sym reweighed)
 
-  keeps : Keeps (state_of today slots kept on) changed
-  keeps = subst (Keeps (state_of today slots kept on)) same (member_keeps (state_of today slots kept on) stands.whole k member weight (may_link (market_of today slots) k member weight may.1 may.2))
+  keeps : Keeps (state_of today slots kept registry) changed
+  keeps = subst (Keeps (state_of today slots kept registry)) same (member_keeps (state_of today slots kept registry) stands.whole k member weight (may_link (market_of today slots) k member weight may.1 may.2))
 
   kinded : IsKinded changed.market
-  kinded = subst (λ (t : State). IsKinded t.market) same (member_kinded (state_of today slots kept on) stands.whole stands.kinds k member weight (λ some. may.1))
+  kinded = subst (λ (t : State). IsKinded t.market) same (member_kinded (state_of today slots kept registry) stands.whole stands.kinds k member weight (λ some. may.1))
 
-  pub member_links : IsLinked (with_terms k (terms_of.Composite parts) (state_of today slots kept on)).market
-  member_links = linked_before k (terms_of.Composite parts) today slots kept on keeps.whole.links
+  pub member_links : IsLinked (with_terms k (terms_of.Composite parts) (state_of today slots kept registry)).market
+  member_links = linked_before k (terms_of.Composite parts) today slots kept registry keeps.whole.links
 
-  pub member_changed : (new : State) → new ≡ revised k (terms_of.Composite parts) (state_of today slots kept on)
-      → Changed (state_of today slots kept on) new (member_set k member weight (state_of today slots kept on)) scratch
+  pub member_changed : (new : State) → new ≡ revised k (terms_of.Composite parts) (state_of today slots kept registry)
+      → Changed (state_of today slots kept registry) new (member_set k member weight (state_of today slots kept registry)) scratch
   member_changed new e = record {
-    stands = subst (λ (t : State). Stands t scratch) (sym e) (revised_stands today slots kept on scratch stands k (terms_of.Composite parts) may.0 tt keeps kinded);
+    stands = subst (λ (t : State). Stands t scratch) (sym e) (revised_stands today slots kept registry scratch stands k (terms_of.Composite parts) may.0 tt keeps kinded);
     state = e ∙ sym same;
-    keeps = subst (KeepsCurrent (state_of today slots kept on)) (sym e) keeps.current;
-    sound = λ calc sound. subst (IsSound calc) (sym e) (sound_kept calc (state_of today slots kept on) changed keeps.current sound);
+    keeps = subst (KeepsCurrent (state_of today slots kept registry)) (sym e) keeps.current;
+    sound = λ calc sound. subst (IsSound calc) (sym e) (sound_kept calc (state_of today slots kept registry) changed keeps.current sound);
   }
+
+-- another member is no registration
+pub rewatched_kept : (today : ℤ) (slots : List Slot) (old new : StoreView) (k : ℕ) (parts : List Part) → IsJoined (market_of today slots) old.shape → kind_at (market_of today slots) k ≡ Some kind.Composite
+    → IsRewatched k parts old new → IsKept old new
+rewatched_kept today slots old new k parts joined is rewatched = record { kept = rewatched.kept; registry = rewatched_plain k parts old new other_role rewatched }
+  where
+    lazy_watcher : Some role.Lazy ≡ Some role.Watcher → ⊥
+    lazy_watcher e = absurd (cc)
+
+    other_role : role_at old.shape k ≡ Some role.Watcher → ⊥
+    other_role watcher = lazy_watcher (sym (joined.roles k ∙ (composite_slot (slot_at (market_of today slots) k) is).0) ∙ watcher)

@@ -4,13 +4,13 @@ ghost use Rattle.std.specs.Option.{option_eq};
 ghost use Rattle.std.specs.Ordering.{int_eq};
 ghost use Rattle.desk_terms.specs.declared.terms.Terms.TheVariants.{Quote};
 ghost use Rattle.desk_model.specs.Market.{is_given};
-ghost use Rattle.desk_model.specs.Links.{IsLinked};
+ghost use Rattle.desk_model.specs.Links.{CanTell};
 ghost use Rattle.desk_model.specs.Effect.{with_terms, revised, notified};
 ghost use Rattle.desk_model.specs.declared.slot.Slot.TheVariants.{Live, Free};
-ghost use Rattle.object_store.specs.Slots.{market_of, state_of, outdated, AreUnwatched};
+ghost use Rattle.object_store.specs.Slots.{market_of, state_of, outdated};
 ghost use Rattle.object_store.specs.Objects.{has_quote};
-ghost use Rattle.object_store.specs.Shape.{IsJoined};
-ghost use Rattle.object_store.specs.Store.{HasNoMarkWhereOff};
+ghost use Rattle.object_store.specs.Shape.{registrations_of, IsJoined};
+ghost use Rattle.object_store.specs.Store.{registry_of, HasNoMarkWhereOff};
 
 use day_number::Day;
 use desk_names::ObjId;
@@ -24,11 +24,10 @@ pub fn revise(today: Day, objects: &mut Objects, store: &mut Store, object: ObjI
     requires plain { has_quote (slice_index_or objects.old object Free) ≡ false }
     requires new { has_quote (Live terms) ≡ false }
     requires kept { length store.old.kept ≡ length objects.old }
-    requires joined { IsJoined (with_terms object terms (state_of today objects.old store.old.kept store.old.deferring)).market store.old.shape }
+    requires joined { IsJoined (with_terms object terms (state_of today objects.old store.old.kept (registry_of store.old))).market store.old.shape }
     requires sources { HasNoMarkWhereOff store.old }
-    requires unwatched { AreUnwatched objects.old }
-    requires linked { IsLinked (with_terms object terms (state_of today objects.old store.old.kept store.old.deferring)).market }
-    ensures state { state_of today objects.new store.new.kept store.new.deferring ≡ revised object terms (state_of today objects.old store.old.kept store.old.deferring) }
+    requires told { CanTell (with_terms object terms (state_of today objects.old store.old.kept (registry_of store.old))).market (registrations_of store.old.shape) store.old.noticed }
+    ensures state { state_of today objects.new store.new.kept (registry_of store.new) ≡ revised object terms (state_of today objects.old store.old.kept (registry_of store.old)) }
     ensures shape { store.new.shape ≡ store.old.shape }
     ensures long { length objects.new ≡ length objects.old }
 {
@@ -44,9 +43,8 @@ pub fn tell_changed(today: Day, objects: &Objects, store: &mut Store, object: Ob
     requires kept { length store.old.kept ≡ length objects.now }
     requires joined { IsJoined (market_of today objects.now) store.old.shape }
     requires sources { HasNoMarkWhereOff store.old }
-    requires unwatched { AreUnwatched objects.now }
-    requires linked { IsLinked (market_of today objects.now) }
-    ensures state { state_of today objects.now store.new.kept store.new.deferring ≡ notified object (outdated object (state_of today objects.now store.old.kept store.old.deferring)) }
+    requires told { CanTell (market_of today objects.now) (registrations_of store.old.shape) store.old.noticed }
+    ensures state { state_of today objects.now store.new.kept (registry_of store.new) ≡ notified object (outdated object (state_of today objects.now store.old.kept (registry_of store.old))) }
     ensures shape { store.new.shape ≡ store.old.shape }
 {
     store.outdate(object);

@@ -1,13 +1,14 @@
 // The objects of a session. A clause sees the desk as its state.
-ghost use Rattle.std.specs.Prelude.{◌≡◌, ◌≢◌, ◌↔◌, ℕ, ℤ, Option, Err, ◌⊎◌, ◌<◌, ◌^◌, ◌==◌, ◌||◌, true, false, pos, Some, None, length, IsOk, IfOk, OnOk, OnErr};
+ghost use Rattle.std.specs.Prelude.{◌≡◌, ◌≢◌, ◌↔◌, ℕ, ℤ, Option, Err, ◌⊎◌, ◌<◌, ◌^◌, ◌==◌, ◌||◌, [], ◌∷◌, not, if◌then◌else◌, true, false, pos, Some, None, length, IsOk, IfOk, IfSome, IfNone, OnOk, OnErr};
 ghost use Rattle.std.specs.Option.{option_copied};
 ghost use Rattle.desk_terms.specs.Reading.{Calc, AreInRange};
-ghost use Rattle.desk_model.specs.Market.{kind_at, terms_at, slot_at, is_given, least_user};
+ghost use Rattle.desk_model.specs.Market.{kind_at, terms_at, slot_at, is_given, is_watcher, is_observable, least_user};
+ghost use Rattle.desk_model.specs.Told.{is_registered, is_watching};
 ghost use Rattle.desk_model.specs.Uses.{index_at, fixings_in};
 ghost use Rattle.desk_model.specs.State.{kept_at, held, least_source};
 ghost use Rattle.desk_model.specs.Sound.{IsSound, KeepsCurrent};
 ghost use Rattle.desk_model.specs.Links.{AreOfKind, Serve, is_lazy_at, reaches, serves_as};
-ghost use Rattle.desk_model.specs.Effect.{start, made, quote_set, relinked, engine_set, member_set, fixing_added, today_set, dropped, frozen_set, thawed, forward_set, deferred, resumed};
+ghost use Rattle.desk_model.specs.Effect.{start, made, quote_set, relinked, engine_set, member_set, fixing_added, today_set, dropped, watching, registered_with, unregistered, handed_out, frozen_set, thawed, forward_set, deferred, resumed};
 ghost use Rattle.desk_terms.specs.declared.kind.Kind.TheVariants.{Quote, Index, Composite, Flows};
 ghost use Rattle.desk_terms.specs.declared.kind.Wanted.TheVariants.{Member, Engine};
 ghost use Rattle.desk_terms.specs.Terms.{optional_reference};
@@ -36,7 +37,8 @@ use std::alloc::{AllocError, Global};
 use std::marker::Model;
 
 /// The objects of a session by number, and what is stored of each. It takes memory from the allocator that it was made
-/// with. While deferral is on, a change tells nobody: what was changed holds its notice back until `resume`.
+/// with. While deferral is on, a change tells nobody: what was changed holds its notice back until `resume`. A watcher
+/// that was told is remembered until `next_told` hands it out.
 #[derive(Drop)]
 pub struct Desk {
     alloc: Global,
@@ -50,13 +52,14 @@ impl Model for Desk {
     ghost use Rattle.desk_model.specs.State.{State};
     ghost use Rattle.object_store.specs.Slots.{market_of, state_of};
     ghost use Rattle.object_store.specs.Shape.{IsJoined};
+    ghost use Rattle.object_store.specs.Store.{registry_of};
     ghost use Rattle.lazy_objects.specs.Stands.{Stands};
 
     ghost Value = { State };
 
-    ghost view = { λ d. state_of d.today d.objects d.store.kept d.store.deferring };
+    ghost view = { λ d. state_of d.today d.objects d.store.kept (registry_of d.store) };
 
-    ghost invariant = { λ d. Stands (state_of d.today d.objects d.store.kept d.store.deferring) d.scratch × IsJoined (market_of d.today d.objects) d.store.shape };
+    ghost invariant = { λ d. Stands (state_of d.today d.objects d.store.kept (registry_of d.store)) d.scratch × IsJoined (market_of d.today d.objects) d.store.shape };
 }
 
 impl Desk {
@@ -230,7 +233,8 @@ impl Desk {
         Ok(())
     }
 
-    /// Takes out an object that no object observes, and what is stored of it. Its number is not given again.
+    /// Takes out an object that no object observes, or a watcher, and what is stored of it. Its registrations go with it,
+    /// as a watcher and as what is watched, and it is told no more. Its number is not given again.
     pub fn remove(&mut self, object: ObjId)
         requires live { is_given (slot_at self.old.market object) ≡ true }
         requires apart { object ≢ 0 }
@@ -241,6 +245,76 @@ impl Desk {
     {
         self.objects.remove(object);
         self.store.forget(object);
+    }
+
+    /// Makes a watcher, which is registered with nothing, and answers its number: how many were given before. Where
+    /// memory is wanting, nothing is changed.
+    pub fn add_watcher(&mut self) -> Result<ObjId, AllocError>
+        requires room { length self.old.market.objects < 2 ^ 16 }
+        ensures number { IfOk result (λ watcher. watcher ≡ length self.old.market.objects) }
+        ensures added { OnOk result (self.new ≡ watching self.old) }
+        ensures same { OnErr result (self.new ≡ self.old) }
+        ensures keeps { KeepsCurrent self.old self.new }
+        ensures sound { (calc : Calc) → IsSound calc self.old → IsSound calc self.new }
+    {
+        let watcher = ObjId(self.objects.len() as u32);
+        self.scratch.reserve()?;
+        self.objects.add_watcher(&mut self.store)?;
+        self.scratch.grow();
+        Ok(watcher)
+    }
+
+    /// Registers a watcher with an object that is no watcher (QuantLib's `Observer::registerWith`). False exactly where it
+    /// was registered with it before: then, and where memory is wanting, nothing is changed. A registration counts neither
+    /// as a use nor as an edge of a cycle. It costs what the watcher is registered with.
+    pub fn register(&mut self, watcher: ObjId, object: ObjId) -> Result<bool, AllocError>
+        requires watcher { is_watcher (slot_at self.old.market watcher) ≡ true }
+        requires subject { is_observable (slot_at self.old.market object) ≡ true }
+        ensures was { IfOk result (λ is_new. is_new ≡ not (is_registered self.old watcher object)) }
+        ensures set { IfOk result (λ is_new. self.new ≡ (if is_new then registered_with watcher object self.old else self.old)) }
+        ensures same { OnErr result (self.new ≡ self.old) }
+        ensures keeps { KeepsCurrent self.old self.new }
+        ensures sound { (calc : Calc) → IsSound calc self.old → IsSound calc self.new }
+    {
+        if self.store.has_pair(object, watcher) {
+            return Ok(false);
+        }
+        self.store.watch(object, watcher)?;
+        Ok(true)
+    }
+
+    /// A watcher is registered with an object no more; whether it was (QuantLib's `Observer::unregisterWith`). No notice
+    /// that is held back is lost. It takes no memory.
+    pub fn unregister(&mut self, watcher: ObjId, object: ObjId) -> bool
+        requires watcher { is_watcher (slot_at self.old.market watcher) ≡ true }
+        requires subject { is_observable (slot_at self.old.market object) ≡ true }
+        ensures was { result ≡ is_registered self.old watcher object }
+        ensures set { self.new ≡ unregistered watcher object self.old }
+        ensures keeps { KeepsCurrent self.old self.new }
+        ensures sound { (calc : Calc) → IsSound calc self.old → IsSound calc self.new }
+    {
+        self.store.unwatch(object, watcher)
+    }
+
+    /// Whether a watcher is registered with any object.
+    pub fn watching(&self, watcher: ObjId) -> bool
+        requires { is_watcher (slot_at self.now.market watcher) ≡ true }
+        ensures { result ≡ is_watching self.now watcher }
+    {
+        self.store.has_subject(watcher)
+    }
+
+    /// The first by creation of the watchers that were told and not handed out since, each once however often it was
+    /// told; it is forgotten, so that only a later change tells it again. None where there is none. It takes no memory.
+    pub fn next_told(&mut self) -> Option<ObjId>
+        ensures none { IfNone result ((self.old.noticed ≡ []) × (self.new ≡ self.old)) }
+        ensures some { IfSome result (λ watcher. (self.old.noticed ≡ watcher ∷ self.new.noticed)
+            × (self.new ≡ record self.old { noticed = self.new.noticed })) }
+        ensures handed { IfSome result (λ watcher. self.new ≡ handed_out watcher self.old) }
+        ensures keeps { KeepsCurrent self.old self.new }
+        ensures sound { (calc : Calc) → IsSound calc self.old → IsSound calc self.new }
+    {
+        self.store.next_told()
     }
 
     /// Freezes a lazy object: it answers its last value until it is thawed, and takes notices without passing them on
@@ -370,7 +444,7 @@ impl Desk {
         self.store.reaches(from, to)
     }
 
-    /// The least object that observes another, if any does.
+    /// The least object that observes another, if any does: a watcher observes nothing.
     pub fn user_of(&self, object: ObjId) -> Option<ObjId>
         ensures { result ≡ least_user self.now.market object }
     {

@@ -73,7 +73,9 @@ pub fn unwatch_any(store: &mut Store, subject: Option<ObjId>, observer: ObjId)
 {
     match subject {
         None => {}
-        Some(object) => store.unwatch(object, observer),
+        Some(object) => {
+            store.unwatch(object, observer);
+        }
     }
 }
 

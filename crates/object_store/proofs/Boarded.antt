@@ -346,6 +346,17 @@ module _ (board room new : Board) (slots : List Slot) (terms : Terms) (boarded :
   pub made_boarded : IsBoarded new (slots ++ Live (with_quote None terms) ∷ [])
   made_boarded = boarded_added board new slots (quoted terms) (Live (with_quote None terms)) over_board (bare_quote terms) (ap Live (twice None None terms)) boarded
 
+-- a watcher has no quote
+module _ (board : Board) (slots : List Slot) (boarded : IsBoarded board slots) where
+  nothing_put : IsPut (length slots) None board board
+  nothing_put = subst (λ (e : Option (Option ℤ)). IsPut (length slots) e board board) (nothing_past board slots boarded) (put_held board (length slots))
+
+  pub watcher_is : objects_of board (slots ++ Watcher ∷ []) ≡ objects_of board slots ++ Watcher ∷ []
+  watcher_is = objects_added board board slots None Watcher nothing_put
+
+  pub watcher_boarded : IsBoarded board (slots ++ Watcher ∷ [])
+  watcher_boarded = boarded_added board board slots None Watcher nothing_put refl refl boarded
+
 -- whether the board has this value is whether the quote has it
 pub value_is : (board : Board) (slots : List Slot) (x : ℕ) (value : Option ℤ) → IsBoarded board slots → has_quote (slice_index_or (objects_of board slots) x Free) ≡ true
     → is_equal (entry board x) (Some value) ≡ holds_value value (slice_index_or (objects_of board slots) x Free)

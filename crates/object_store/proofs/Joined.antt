@@ -18,7 +18,7 @@ use Rattle.desk_terms.specs.Kind.{observes_today}
 use Rattle.desk_terms.specs.Terms.{part_references}
 use Rattle.desk_model.specs.declared.slot.Slot.{Slot}
 use Rattle.desk_model.specs.declared.slot.Slot.TheVariants.{Live, Free, Today, Watcher}
-use Rattle.desk_model.specs.Market.{Market, slot_at, terms_in, kind_in, is_given, is_observable, is_lazy, role_of, named, each_once, edges_of, edges, or_number, least_where, least_user}
+use Rattle.desk_model.specs.Market.{Market, slot_at, terms_in, kind_in, is_watcher, is_given, is_observable, is_lazy, role_of, named, each_once, edges_of, edges, or_number, least_where, least_user}
 use Rattle.desk_model.specs.Links.{IsLinked, is_lazy_at, reaches}
 use Rattle.desk_model.specs.Laws.{MayBeMade}
 use Rattle.desk_model.specs.State.{State}
@@ -29,6 +29,7 @@ use Rattle.desk_model.proofs.Edges.{once_among, among_once}
 use Rattle.desk_model.proofs.Users.{least_first, none_uses}
 use Rattle.observer_graph.specs.declared.node.Role.{Role}
 use Rattle.observer_graph.specs.declared.node.Role.TheVariants.{Source, Lazy}
+use Rattle.observer_graph.specs.declared.node.Role.TheVariants as role
 use Rattle.observer_graph.specs.Notice.{IsLeast}
 use Rattle.observer_graph.proofs.Exactly.{below_there}
 use Rattle.object_store.specs.Slots.{market_of}
@@ -97,7 +98,7 @@ module _ (m : Market) (shape : Shape) (joined : IsJoined m shape) where
   -- the edges in the graph are those of the market
   pub edges_there : (o x : ℕ) → Among x (edges_at shape o) ↔ Among x (edges m o)
   edges_there o x = subst (λ (r : Option Role). Among x (edges_from r (observed_by shape o)) ↔ Among x (edges m o)) (sym (joined.roles o))
-      (by_slot (slot_at m o) (joined.pairs o x))
+      (by_slot (slot_at m o) (λ plain. joined.pairs o x plain))
     where
       by_role : (r : kinds.Role) (subjects : List ℕ) → Among x (edges_from (Some (node_role r)) subjects) ↔ Among x subjects
       by_role kinds.Role.Source subjects = (λ a. a, λ a. a)
@@ -105,13 +106,14 @@ module _ (m : Market) (shape : Shape) (joined : IsJoined m shape) where
       by_role kinds.Role.Lazy subjects = (λ a. a, λ a. a)
       by_role kinds.Role.Watching subjects = (λ a. a, λ a. a)
 
-      by_slot : (slot : Slot) → Among x (observed_by shape o) ↔ Among x (edges_of (terms_in slot))
+      by_slot : (slot : Slot) → (is_watcher slot ≡ false → Among x (observed_by shape o) ↔ Among x (edges_of (terms_in slot)))
           → Among x (edges_from (slot_role slot) (observed_by shape o)) ↔ Among x (edges_of (terms_in slot))
       by_slot Free pairs = (λ a. a, λ a. a)
-      by_slot Today pairs = pairs
+      by_slot Today pairs = pairs refl
       by_slot Watcher pairs = (λ a. a, λ a. a)
       by_slot (Live terms) pairs = let r = by_role (role_of (Some terms)) (observed_by shape o) in
-          (λ a. pairs.0 (r.0 a), λ a. r.1 (pairs.1 a))
+          let p = pairs refl in
+          (λ a. p.0 (r.0 a), λ a. r.1 (p.1 a))
 
   -- a path of edges in the market and one in the graph
   pub pairs_below : (found through : ℕ → Bool) (o : ℕ) → Below (edges_at shape) found through o ↔ Below (edges m) found through o
@@ -186,7 +188,7 @@ pub joined_start : (today : ℤ) (old new : StoreView) → old.kept ≡ [] → o
 joined_start today old new kept roles subjects adds = record {
   long = ap length (adds.roles ∙ ap (λ (l : List (Option Role)). l ++ Some Source ∷ []) roles);
   roles = λ o. ap (λ (l : List (Option Role)). slice_index_or l o None) (adds.roles ∙ ap (λ (l : List (Option Role)). l ++ Some Source ∷ []) roles) ∙ role_is o;
-  pairs = λ o x. (
+  pairs = λ o x plain. (
     λ a. absurd (elim ((adds.pairs x o).0 a) [ inl was ↦ nothing o x (subst (λ (l : List (List ℕ)). Among x (slice_index_or l o [])) subjects was) | inr p ↦ p.0 ]),
     λ a. absurd (subst (Among x) (no_edges o) a),
   );
@@ -213,11 +215,11 @@ joined_start today old new kept roles subjects adds = record {
         past (suc o) = refl
 
 -- the item at a place of a list with one more
-last_item : {A : Type 0} (xs : List A) (a d : A) → slice_index_or (xs ++ a ∷ []) (length xs) d ≡ a
+pub last_item : {A : Type 0} (xs : List A) (a d : A) → slice_index_or (xs ++ a ∷ []) (length xs) d ≡ a
 last_item [] a d = refl
 last_item (x ∷ xs) a d = last_item xs a d
 
-other_item : {A : Type 0} (xs : List A) (a d : A) (o : ℕ) → o ≢ length xs → slice_index_or (xs ++ a ∷ []) o d ≡ slice_index_or xs o d
+pub other_item : {A : Type 0} (xs : List A) (a d : A) (o : ℕ) → o ≢ length xs → slice_index_or (xs ++ a ∷ []) o d ≡ slice_index_or xs o d
 other_item [] a d zero other = absurd (other refl)
 other_item [] a d (suc o) other = none o
   where
@@ -227,43 +229,69 @@ other_item [] a d (suc o) other = none o
 other_item (x ∷ xs) a d zero other = refl
 other_item (x ∷ xs) a d (suc o) other = other_item xs a d o (λ e. other (ap suc e))
 
+-- what has terms is no watcher
+pub terms_watch : (slot : Slot) (terms : Terms) → terms_in slot ≡ Some terms → is_watcher slot ≡ false
+terms_watch Free terms is = refl
+terms_watch Today terms is = refl
+terms_watch Watcher terms is = absurd (cc)
+terms_watch (Live held) terms is = refl
+
+-- past the last number nothing is observed
+pub past_nothing : (today : ℤ) (slots : List Slot) (shape : Shape) → IsJoined (market_of today slots) shape → (o x : ℕ) → o ≡ length slots → Among x (observed_by shape o) → ⊥
+past_nothing today slots shape joined o x same a =
+    let past = get_or_past slots o Free (let s = same in omega arith) in
+    subst (λ (t : Slot). Among x (edges_of (terms_in t))) past ((joined.pairs o x (ap is_watcher past)).0 a)
+
+-- one number more: an object observes its edges, a watcher nothing
+module _ (today : ℤ) (slots : List Slot) (slot : Slot) (role : Role) (named : List ℕ) (old new : StoreView) (joined : IsJoined (market_of today slots) old.shape) (long : length old.kept ≡ length slots)
+    (adds : AddsObject role named old new) (own : slot_role slot ≡ Some role) (edged : (x : ℕ) → Among x named ↔ Among x (edges_of (terms_in slot))) where
+  as_long : length old.shape.roles ≡ length slots
+  as_long = joined.long
+
+  here : (n : ℕ) → n ≡ length slots → slice_index_or (slots ++ slot ∷ []) n Free ≡ slot
+  here n same = ap (λ (m : ℕ). slice_index_or (slots ++ slot ∷ []) m Free) same ∙ last_item slots slot Free
+
+  role_added : (o : ℕ) → slice_index_or (old.shape.roles ++ Some role ∷ []) o None ≡ slot_role (slice_index_or (slots ++ slot ∷ []) o Free)
+  role_added o = elim (cases_eq o (length slots)) [
+    | inl same ↦ ap (λ (n : ℕ). slice_index_or (old.shape.roles ++ Some role ∷ []) n None) (same ∙ sym as_long) ∙ last_item old.shape.roles (Some role) None
+        ∙ sym own ∙ sym (ap slot_role (here o same))
+    | inr other ↦ other_item old.shape.roles (Some role) None o (λ e. other (e ∙ as_long)) ∙ joined.roles o ∙ sym (ap slot_role (other_item slots slot Free o other))
+  ]
+
+  pub joined_more : IsJoined (market_of today (slots ++ slot ∷ [])) new.shape
+  joined_more = record {
+    long = ap length adds.roles ∙ length-append old.shape.roles (Some role ∷ []) ∙ ap (λ (n : ℕ). n + 1) joined.long ∙ sym (length-append slots (slot ∷ []));
+    roles = λ o. ap (λ (l : List (Option Role)). slice_index_or l o None) adds.roles ∙ role_added o;
+    pairs = λ o x plain. elim (cases_eq o (length slots)) [
+      | inl same ↦ (
+        λ a. subst (λ (t : Slot). Among x (edges_of (terms_in t))) (sym (here o same))
+            (elim ((adds.pairs x o).0 a) [ inl was ↦ absurd (past_nothing today slots old.shape joined o x same was) | inr p ↦ (edged x).0 p.0 ]),
+        λ a. (adds.pairs x o).1 (inr ((edged x).1 (subst (λ (t : Slot). Among x (edges_of (terms_in t))) (here o same) a), same ∙ sym long)),
+      )
+      | inr other ↦ let before = ap is_watcher (sym (other_item slots slot Free o other)) ∙ plain in (
+        λ a. subst (λ (t : Slot). Among x (edges_of (terms_in t))) (sym (other_item slots slot Free o other))
+            (elim ((adds.pairs x o).0 a) [ inl was ↦ (joined.pairs o x before).0 was | inr p ↦ absurd (other (p.1 ∙ long)) ]),
+        λ a. (adds.pairs x o).1 (inl ((joined.pairs o x before).1 (subst (λ (t : Slot). Among x (edges_of (terms_in t))) (other_item slots slot Free o other) a))),
+      )
+    ];
+  }
+
 -- one object more
 pub joined_added : (today : ℤ) (slots slots2 : List Slot) (terms : Terms) (old new : StoreView) → IsJoined (market_of today slots) old.shape → length old.kept ≡ length slots
     → AddsObject (node_role (role_of (Some terms))) (watched terms) old new → slots2 ≡ slots ++ Live terms ∷ [] → IsJoined (market_of today slots2) new.shape
-joined_added today slots slots2 terms old new joined long adds is = subst (λ (l : List Slot). IsJoined (market_of today l) new.shape) (sym is) (record {
-  long = ap length adds.roles ∙ length-append old.shape.roles (Some (node_role (role_of (Some terms))) ∷ []) ∙ ap (λ (n : ℕ). n + 1) joined.long ∙ sym (length-append slots (Live terms ∷ []));
-  roles = λ o. ap (λ (l : List (Option Role)). slice_index_or l o None) adds.roles ∙ role_is o;
-  pairs = λ o x. elim (cases_eq o (length slots)) [
-    | inl same ↦ (
-      λ a. subst (λ (t : Slot). Among x (edges_of (terms_in t))) (sym (ap (λ (n : ℕ). slice_index_or (slots ++ Live terms ∷ []) n Free) same ∙ last_item slots (Live terms) Free))
-          (elim ((adds.pairs x o).0 a) [
-            | inl was ↦ absurd (subst (λ (t : Slot). Among x (edges_of (terms_in t))) (get_or_past slots o Free (let s = same in omega arith)) ((joined.pairs o x).0 was))
-            | inr p ↦ (watched_edges terms x).0 p.0
-          ]),
-      λ a. (adds.pairs x o).1 (inr ((watched_edges terms x).1 (subst (λ (t : Slot). Among x (edges_of (terms_in t))) (ap (λ (n : ℕ). slice_index_or (slots ++ Live terms ∷ []) n Free) same ∙ last_item slots (Live terms) Free) a), same ∙ sym long)),
-    )
-    | inr other ↦ (
-      λ a. subst (λ (t : Slot). Among x (edges_of (terms_in t))) (sym (other_item slots (Live terms) Free o other))
-          (elim ((adds.pairs x o).0 a) [ inl was ↦ (joined.pairs o x).0 was | inr p ↦ absurd (other (p.1 ∙ long)) ]),
-      λ a. (adds.pairs x o).1 (inl ((joined.pairs o x).1 (subst (λ (t : Slot). Among x (edges_of (terms_in t))) (other_item slots (Live terms) Free o other) a))),
-    )
-  ];
-})
-  where
-    as_long : length old.shape.roles ≡ length slots
-    as_long = joined.long
+joined_added today slots slots2 terms old new joined long adds is = subst (λ (l : List Slot). IsJoined (market_of today l) new.shape) (sym is)
+    (joined_more today slots (Live terms) (node_role (role_of (Some terms))) (watched terms) old new joined long adds refl (watched_edges terms))
 
-    role_is : (o : ℕ) → slice_index_or (old.shape.roles ++ Some (node_role (role_of (Some terms))) ∷ []) o None ≡ slot_role (slice_index_or (slots ++ Live terms ∷ []) o Free)
-    role_is o = elim (cases_eq o (length slots)) [
-      | inl same ↦ ap (λ (n : ℕ). slice_index_or (old.shape.roles ++ Some (node_role (role_of (Some terms))) ∷ []) n None) (same ∙ sym as_long) ∙ last_item old.shape.roles (Some (node_role (role_of (Some terms)))) None
-          ∙ sym (ap slot_role (ap (λ (n : ℕ). slice_index_or (slots ++ Live terms ∷ []) n Free) same ∙ last_item slots (Live terms) Free))
-      | inr other ↦ other_item old.shape.roles (Some (node_role (role_of (Some terms)))) None o (λ e. other (e ∙ as_long)) ∙ joined.roles o ∙ sym (ap slot_role (other_item slots (Live terms) Free o other))
-    ]
+-- one watcher more
+pub joined_watcher : (today : ℤ) (slots slots2 : List Slot) (old new : StoreView) → IsJoined (market_of today slots) old.shape → length old.kept ≡ length slots
+    → AddsObject role.Watcher [] old new → slots2 ≡ slots ++ Watcher ∷ [] → IsJoined (market_of today slots2) new.shape
+joined_watcher today slots slots2 old new joined long adds is = subst (λ (l : List Slot). IsJoined (market_of today l) new.shape) (sym is)
+    (joined_more today slots Watcher role.Watcher [] old new joined long adds refl (λ x. (λ a. a, λ a. a)))
 
 -- one object with other terms
 pub joined_set : (today : ℤ) (slots : List Slot) (x : ℕ) (terms : Terms) (shape : Shape) → length shape.roles ≡ length slots → x < length slots → role_at shape x ≡ slot_role (Live terms)
     → ((y : ℕ) → Among y (observed_by shape x) ↔ Among y (edges_of (Some terms)))
-    → ((o : ℕ) → o ≢ x → role_at shape o ≡ slot_role (slice_index_or slots o Free)) → ((o y : ℕ) → o ≢ x → Among y (observed_by shape o) ↔ Among y (edges_of (terms_in (slice_index_or slots o Free))))
+    → ((o : ℕ) → o ≢ x → role_at shape o ≡ slot_role (slice_index_or slots o Free)) → ((o y : ℕ) → o ≢ x → is_watcher (slice_index_or slots o Free) ≡ false → Among y (observed_by shape o) ↔ Among y (edges_of (terms_in (slice_index_or slots o Free))))
     → IsJoined (market_of today (slice_set slots x (Live terms))) shape
 joined_set today slots x terms shape long within own its roles pairs = record {
   long = long ∙ sym (length-set slots x (Live terms));
@@ -271,18 +299,19 @@ joined_set today slots x terms shape long within own its roles pairs = record {
     | inl same ↦ subst (λ (z : ℕ). role_at shape z ≡ slot_role (slice_index_or (slice_set slots x (Live terms)) z Free)) (sym same) (own ∙ sym (ap slot_role (get_or-set_same slots x (Live terms) Free within)))
     | inr other ↦ roles o other ∙ sym (ap slot_role (get_or-set_other slots x o (Live terms) Free other))
   ];
-  pairs = λ o y. elim (cases_eq o x) [
+  pairs = λ o y plain. elim (cases_eq o x) [
     | inl same ↦ subst (λ (z : ℕ). Among y (observed_by shape z) ↔ Among y (edges_of (terms_in (slice_index_or (slice_set slots x (Live terms)) z Free)))) (sym same)
         (subst (λ (t : Slot). Among y (observed_by shape x) ↔ Among y (edges_of (terms_in t))) (sym (get_or-set_same slots x (Live terms) Free within)) (its y))
-    | inr other ↦ subst (λ (t : Slot). Among y (observed_by shape o) ↔ Among y (edges_of (terms_in t))) (sym (get_or-set_other slots x o (Live terms) Free other)) (pairs o y other)
+    | inr other ↦ subst (λ (t : Slot). Among y (observed_by shape o) ↔ Among y (edges_of (terms_in t))) (sym (get_or-set_other slots x o (Live terms) Free other))
+        (pairs o y other (ap is_watcher (sym (get_or-set_other slots x o (Live terms) Free other)) ∙ plain))
   ];
 }
 
-quote_slot : (t : Slot) → kind_in t ≡ Some kind.Quote → (slot_role t ≡ Some Source) × (edges_of (terms_in t) ≡ [])
+quote_slot : (t : Slot) → kind_in t ≡ Some kind.Quote → (slot_role t ≡ Some Source) × (edges_of (terms_in t) ≡ []) × (is_watcher t ≡ false)
 quote_slot Free is = absurd (cc)
 quote_slot Today is = absurd (cc)
 quote_slot Watcher is = absurd (cc)
-quote_slot (Live (terms_of.Quote held)) is = (refl, refl)
+quote_slot (Live (terms_of.Quote held)) is = (refl, refl, refl)
 quote_slot (Live (terms_of.Derived minus first second)) is = absurd (cc)
 quote_slot (Live (terms_of.Handle handle.Quote target)) is = absurd (cc)
 quote_slot (Live (terms_of.Handle handle.Curve target)) is = absurd (cc)
@@ -294,15 +323,18 @@ quote_slot (Live (terms_of.Stock quote)) is = absurd (cc)
 quote_slot (Live (terms_of.Composite parts)) is = absurd (cc)
 quote_slot (Live (terms_of.Flows flows engine)) is = absurd (cc)
 
+pub quote_watch : (t : Slot) → kind_in t ≡ Some kind.Quote → is_watcher t ≡ false
+quote_watch t is = (quote_slot t is).2
+
 -- a quote with another value
 pub joined_quote : (today : ℤ) (slots : List Slot) (shape : Shape) (q : ℕ) (value : Option ℤ) → IsJoined (market_of today slots) shape → q < length slots → kind_in (slice_index_or slots q Free) ≡ Some kind.Quote
     → IsJoined (market_of today (slice_set slots q (Live (terms_of.Quote value)))) shape
 joined_quote today slots shape q value joined within is =
     let t = quote_slot (slice_index_or slots q Free) is in
     joined_set today slots q (terms_of.Quote value) shape joined.long within (joined.roles q ∙ t.0)
-    (λ y. (λ a. subst (Among y) t.1 ((joined.pairs q y).0 a), λ a. absurd a)) (λ o other. joined.roles o) (λ o y other. joined.pairs o y)
+    (λ y. (λ a. subst (Among y) t.1 ((joined.pairs q y t.2).0 a), λ a. absurd a)) (λ o other. joined.roles o) (λ o y other plain. joined.pairs o y plain)
 
-composite_slot : (t : Slot) → kind_in t ≡ Some kind.Composite → (slot_role t ≡ Some Lazy) × (edges_of (terms_in t) ≡ each_once (named (part_references (parts_in t))))
+pub composite_slot : (t : Slot) → kind_in t ≡ Some kind.Composite → (slot_role t ≡ Some Lazy) × (edges_of (terms_in t) ≡ each_once (named (part_references (parts_in t)))) × (is_watcher t ≡ false)
 composite_slot Free is = absurd (cc)
 composite_slot Today is = absurd (cc)
 composite_slot Watcher is = absurd (cc)
@@ -315,7 +347,7 @@ composite_slot (Live (terms_of.Implied curve reference)) is = absurd (cc)
 composite_slot (Live (terms_of.Index terms fixings)) is = absurd (cc)
 composite_slot (Live (terms_of.Engine curve)) is = absurd (cc)
 composite_slot (Live (terms_of.Stock quote)) is = absurd (cc)
-composite_slot (Live (terms_of.Composite parts)) is = (refl, refl)
+composite_slot (Live (terms_of.Composite parts)) is = (refl, refl, refl)
 composite_slot (Live (terms_of.Flows flows engine)) is = absurd (cc)
 
 -- what a composite observes are its members
@@ -323,8 +355,8 @@ pub composite_watches : (today : ℤ) (slots : List Slot) (shape : Shape) (k : �
     → (x : ℕ) → Among x (observed_by shape k) ↔ Among x (named (part_references (parts_in (slice_index_or slots k Free))))
 composite_watches today slots shape k joined is x =
     let t = composite_slot (slice_index_or slots k Free) is in (
-      λ a. among_once x (named (part_references (parts_in (slice_index_or slots k Free)))) (subst (Among x) t.1 ((joined.pairs k x).0 a)),
-      λ a. (joined.pairs k x).1 (subst (Among x) (sym t.1) (once_among x (named (part_references (parts_in (slice_index_or slots k Free)))) a)),
+      λ a. among_once x (named (part_references (parts_in (slice_index_or slots k Free)))) (subst (Among x) t.1 ((joined.pairs k x t.2).0 a)),
+      λ a. (joined.pairs k x t.2).1 (subst (Among x) (sym t.1) (once_among x (named (part_references (parts_in (slice_index_or slots k Free)))) a)),
     )
 
 -- a composite of other parts
@@ -339,9 +371,9 @@ joined_composite today slots old new k parts joined within is rewatched =
       λ a. (rewatched.own y).1 (among_once y (named (part_references parts)) a),
     ))
     (λ o other. role o ∙ joined.roles o)
-    (λ o y other. (
-      λ a. (joined.pairs o y).0 ((rewatched.others o y other).0 a),
-      λ a. (rewatched.others o y other).1 ((joined.pairs o y).1 a),
+    (λ o y other plain. (
+      λ a. (joined.pairs o y plain).0 ((rewatched.others o y other).0 a),
+      λ a. (rewatched.others o y other).1 ((joined.pairs o y plain).1 a),
     ))
 
 -- one object less
@@ -354,16 +386,16 @@ joined_dropped today slots slots2 x old new joined within unused takes is = subs
         (get_or-set_same old.shape.roles x None None low ∙ sym (ap slot_role (get_or-set_same slots x Free Free within)))
     | inr other ↦ get_or-set_other old.shape.roles x o None None other ∙ joined.roles o ∙ sym (ap slot_role (get_or-set_other slots x o Free Free other))
   ];
-  pairs = λ o y. elim (cases_eq o x) [
+  pairs = λ o y plain. elim (cases_eq o x) [
     | inl same ↦ (
       λ a. absurd (((takes.pairs y o).0 a).1 (inr same)),
       λ a. absurd (subst (λ (t : Slot). Among y (edges_of (terms_in t))) (ap (λ (z : ℕ). slice_index_or (slice_set slots x Free) z Free) same ∙ get_or-set_same slots x Free Free within) a),
     )
     | inr other ↦ (
-      λ a. subst (λ (t : Slot). Among y (edges_of (terms_in t))) (sym (get_or-set_other slots x o Free Free other)) ((joined.pairs o y).0 ((takes.pairs y o).0 a).0),
+      λ a. subst (λ (t : Slot). Among y (edges_of (terms_in t))) (sym (get_or-set_other slots x o Free Free other)) ((joined.pairs o y (plain_before o other plain)).0 ((takes.pairs y o).0 a).0),
       λ a. let e = subst (λ (t : Slot). Among y (edges_of (terms_in t))) (get_or-set_other slots x o Free Free other) a in
           (takes.pairs y o).1 (
-            (joined.pairs o y).1 e,
+            (joined.pairs o y (plain_before o other plain)).1 e,
             λ p. elim p [
               | inl same ↦ none_uses (market_of today slots) x unused o (subst (λ (z : ℕ). Among z (edges_of (terms_in (slice_index_or slots o Free)))) same e)
               | inr same ↦ other same
@@ -373,6 +405,9 @@ joined_dropped today slots slots2 x old new joined within unused takes is = subs
   ];
 })
   where
+    plain_before : (o : ℕ) → o ≢ x → is_watcher (slice_index_or (slice_set slots x Free) o Free) ≡ false → is_watcher (slice_index_or slots o Free) ≡ false
+    plain_before o other plain = ap is_watcher (sym (get_or-set_other slots x o Free Free other)) ∙ plain
+
     low : x < length old.shape.roles
     low = let l = joined.long in omega (arith, l, within)
 

@@ -1,6 +1,6 @@
 -- What is stored of each object, by number.
 use Rattle.std.proofs.Common.{◌≡◌, ◌≢◌, inl, inr, ℕ, zero, suc, ◌+◌, ◌<◌, Bool, true, false, List, [], ◌∷◌, ◌++◌, length, refl, sym, ◌∙◌, ap, subst, arith, Option, Some, None}
-use Rattle.std.specs.Prelude.{slice_index_or, slice_set, map, is_some, IsSome}
+use Rattle.std.specs.Prelude.{slice_index_or, slice_set, map, is_some, IsSome, IfSome, IfNone}
 use Rattle.std.proofs.lemmas.List.{length-set, length-append, get_or-set_same, get_or-set_other, get_or_past, map-set, map-append}
 use Rattle.std.proofs.lemmas.Bool.{cases_eq, cases_lt, false≢true}
 use Rattle.walks.proofs.Ranks.{below_wider}
@@ -11,7 +11,8 @@ use Rattle.desk_model.specs.State.{unpriced}
 use Rattle.observer_graph.specs.declared.node.Role.{Role}
 use Rattle.observer_graph.specs.declared.node.Flags.{Flags}
 use Rattle.observer_graph.specs.declared.node.Node.{Node}
-use Rattle.observer_graph.specs.GraphView.{GraphView, node_at, is_source, flags_of, no_flags}
+use Rattle.observer_graph.specs.declared.node.Role.TheVariants.{Watcher}
+use Rattle.observer_graph.specs.GraphView.{GraphView, IsWatcher, node_at, is_source, flags_of, no_flags}
 use Rattle.observer_graph.specs.Notice.{IsTold, Tells, passes_at, passes_of, unsettled, with_stale}
 use Rattle.observer_graph.specs.Change.{AddsNode, TakesNode, flagged, with_flags, with_source}
 use Rattle.desk_model.specs.Visit.{with_value}
@@ -94,8 +95,8 @@ pub same_shape : (graph new : GraphView) → map role_in new.nodes ≡ map role_
 same_shape graph new roles subjects = λ i. record { roles = roles i; subjects = subjects i }
 
 -- stores that have the same
-pub same_view : (a b : StoreView) → a.kept ≡ b.kept → a.shape ≡ b.shape → a.deferring ≡ b.deferring → a ≡ b
-same_view a b kept shape switch = λ i. record { kept = kept i; shape = shape i; deferring = switch i }
+pub same_view : (a b : StoreView) → a.kept ≡ b.kept → a.shape ≡ b.shape → a.deferring ≡ b.deferring → a.noticed ≡ b.noticed → a ≡ b
+same_view a b kept shape switch told = λ i. record { kept = kept i; shape = shape i; deferring = switch i; noticed = told i }
 
 -- a live node
 pub live_node : (graph : GraphView) (x : ℕ) → is_some (role_at (shape_of graph) x) ≡ true → IsSome (node_at graph x)
@@ -195,9 +196,10 @@ module _ (graph : GraphView) (lasts : List (Option Value)) (fits : Fits graph la
 
   -- an object that is gone
   pub taken_kept : (new : GraphView) (on : Bool) → TakesNode graph new x
-      → TakesObject x (record { kept = kept_of graph lasts; shape = shape_of graph; deferring = on }) (record { kept = kept_of new (slice_set lasts x None); shape = shape_of new; deferring = on })
+      → TakesObject x (record { kept = kept_of graph lasts; shape = shape_of graph; deferring = on; noticed = graph.noticed }) (record { kept = kept_of new (slice_set lasts x None); shape = shape_of new; deferring = on; noticed = new.noticed })
   taken_kept new on takes = record {
     switch = refl;
+    told = takes.noticed;
     kept = kept_set graph new lasts (slice_set lasts x None) fits
         (record { nodes = ap length takes.nodes ∙ length-set graph.nodes x None ∙ fits.nodes ∙ sym (length-set lasts x None); sources = ap length takes.sources ∙ length-set graph.sources x false ∙ fits.sources ∙ sym (length-set lasts x None) })
         (length-set lasts x None) x unpriced low
@@ -216,9 +218,10 @@ module _ (graph : GraphView) (lasts : List (Option Value)) (fits : Fits graph la
 
 -- an object more
 pub grown_kept : (graph new : GraphView) (lasts lasts2 : List (Option Value)) (on : Bool) (role : Role) (named : List ℕ) → Fits graph lasts → AddsNode role named graph new → lasts2 ≡ lasts ++ None ∷ []
-    → AddsObject role named (record { kept = kept_of graph lasts; shape = shape_of graph; deferring = on }) (record { kept = kept_of new lasts2; shape = shape_of new; deferring = on })
+    → AddsObject role named (record { kept = kept_of graph lasts; shape = shape_of graph; deferring = on; noticed = graph.noticed }) (record { kept = kept_of new lasts2; shape = shape_of new; deferring = on; noticed = new.noticed })
 grown_kept graph new lasts lasts2 on role named fits adds more = record {
   switch = refl;
+  told = adds.noticed;
   kept = kept_is new lasts2 (record { nodes = ap length adds.nodes ∙ length-append graph.nodes (Some node ∷ []) ∙ ap (λ (n : ℕ). n + 1) fits.nodes ∙ sym longer; sources = ap length adds.sources ∙ length-append graph.sources (false ∷ []) ∙ ap (λ (n : ℕ). n + 1) fits.sources ∙ sym longer })
       (kept_of graph lasts ++ unpriced ∷ []) (length-append (kept_of graph lasts) (unpriced ∷ []) ∙ ap (λ (n : ℕ). n + 1) (length-kept graph 0 lasts) ∙ sym longer)
       (λ o. pushed_default (kept_of graph lasts) unpriced o ∙ kept_at_node graph lasts fits o ∙ sym (at_each o));
@@ -268,7 +271,7 @@ module _ (graph new : GraphView) (lasts : List (Option Value)) (on off : Bool) (
   fits2 = record { nodes = tells.settles.len ∙ fits.nodes; sources = tells.settles.marks ∙ fits.sources }
 
   abbrev old_view : StoreView
-  old_view = record { kept = kept_of graph lasts; shape = shape_of graph; deferring = on }
+  old_view = record { kept = kept_of graph lasts; shape = shape_of graph; deferring = on; noticed = graph.noticed }
 
   source_is : (y : ℕ) → (stored_at old_view y).source ≡ is_source graph y
   source_is y = ap (λ (k : Kept). k.source) (kept_at_node graph lasts fits y)
@@ -293,11 +296,29 @@ module _ (graph new : GraphView) (lasts : List (Option Value)) (on off : Bool) (
   after : (o : ℕ) → slice_index_or (kept_of new lasts) o unpriced ≡ kept_as (node_at new o) false (slice_index_or lasts o None)
   after o = kept_at_node new lasts fits2 o ∙ ap (λ (b : Bool). kept_as (node_at new o) b (slice_index_or lasts o None)) (tells.settles.sources o)
 
+  -- a node that is a watcher has its role, and the other way round
+  watcher_there : (w : ℕ) → IsWatcher (node_at graph w) → role_at (shape_of graph) w ≡ Some Watcher
+  watcher_there w is = role_at_node graph.nodes w ∙ by_node (node_at graph w) is
+    where
+      by_node : (node : Option Node) → IsWatcher node → role_in node ≡ Some Watcher
+      by_node None none = absurd none
+      by_node (Some node) is = ap Some is
+
+  watcher_back : (w : ℕ) → role_at (shape_of graph) w ≡ Some Watcher → IsWatcher (node_at graph w)
+  watcher_back w is = by_node (node_at graph w) (sym (role_at_node graph.nodes w) ∙ is)
+    where
+      same_role : (a b : Role) → Some a ≡ Some b → a ≡ b
+      same_role a b e = cc
+
+      by_node : (node : Option Node) → role_in node ≡ Some Watcher → IsWatcher node
+      by_node None none = absurd (cc)
+      by_node (Some node) is = same_role node.role Watcher is
+
   told_as : (node : Option Node) (b : Bool) (last : Option Value) → kept_as (unsettled node) false last ≡ notified_kept true (kept_as node b last)
   told_as None b last = refl
   told_as (Some node) b last = refl
 
-  pub notices : Notices old_view (record { kept = kept_of new lasts; shape = shape_of new; deferring = off })
+  pub notices : Notices old_view (record { kept = kept_of new lasts; shape = shape_of new; deferring = off; noticed = new.noticed })
   notices = record {
     shape = same_shape graph new (same_roles graph.nodes new.nodes tells.settles.len (λ o. elim (tells.settles.node o) [
       | inl told ↦ ap role_in told.1 ∙ role_kept (node_at graph o)
@@ -317,6 +338,17 @@ module _ (graph new : GraphView) (lasts : List (Option Value)) (on off : Bool) (
             ∙ ap (notified_kept false) (sym (kept_at_node graph lasts fits o)),
       )
     ];
+    noticed = λ w. (
+      λ among. elim ((tells.noticed w).0 among) [
+        | inl was ↦ inl was
+        | inr now ↦ inr (watcher_there w now.0, told_there w now.1)
+      ],
+      λ either. (tells.noticed w).1 (elim either [
+        | inl was ↦ inl was
+        | inr now ↦ inr (watcher_back w now.0, told_back w now.1)
+      ]),
+    );
+    rising = tells.rising;
   }
     where
       role_kept : (node : Option Node) → role_in (unsettled node) ≡ role_in node
@@ -325,14 +357,14 @@ module _ (graph new : GraphView) (lasts : List (Option Value)) (on off : Bool) (
 
 -- a notice of one object more
 pub notices_marked : (graph new : GraphView) (lasts : List (Option Value)) (on off : Bool) → Fits graph lasts → (x : ℕ) → x < length lasts → Tells (with_source x graph) new
-    → Notices (marked x (record { kept = kept_of graph lasts; shape = shape_of graph; deferring = on })) (record { kept = kept_of new lasts; shape = shape_of new; deferring = off })
+    → Notices (marked x (record { kept = kept_of graph lasts; shape = shape_of graph; deferring = on; noticed = graph.noticed })) (record { kept = kept_of new lasts; shape = shape_of new; deferring = off; noticed = new.noticed })
 notices_marked graph new lasts on off fits x low tells =
-    subst (λ (k : List Kept). Notices (record { kept = k; shape = shape_of graph; deferring = on }) (record { kept = kept_of new lasts; shape = shape_of new; deferring = off })) (marked_kept graph lasts fits x low)
+    subst (λ (k : List Kept). Notices (record { kept = k; shape = shape_of graph; deferring = on; noticed = graph.noticed }) (record { kept = kept_of new lasts; shape = shape_of new; deferring = off; noticed = new.noticed })) (marked_kept graph lasts fits x low)
     (notices (with_source x graph) new lasts on off (record { nodes = fits.nodes; sources = length-set graph.sources x true ∙ fits.sources }) tells)
 
 -- THE VIEW of a store
 abbrev pub view_of : GraphView → List (Option Value) → Bool → StoreView
-view_of graph lasts on = record { kept = kept_of graph lasts; shape = shape_of graph; deferring = on }
+view_of graph lasts on = record { kept = kept_of graph lasts; shape = shape_of graph; deferring = on; noticed = graph.noticed }
 
 -- an object that is there has a last value, or none
 pub place_within : (graph : GraphView) (lasts : List (Option Value)) → Fits graph lasts → (x : ℕ) → is_some (role_at (shape_of graph) x) ≡ true → x < length lasts
@@ -347,23 +379,23 @@ module _ (graph : GraphView) (lasts : List (Option Value)) (on : Bool) (fits : F
 
   pub marked_view : (new : GraphView) (switch : Bool) → new ≡ with_source x graph → switch ≡ on → view_of new lasts switch ≡ marked x (view_of graph lasts on)
   marked_view new switch e same = ap (λ (g : GraphView). view_of g lasts switch) e
-      ∙ same_view (view_of (with_source x graph) lasts switch) (marked x (view_of graph lasts on)) (marked_kept graph lasts fits x low) refl same
+      ∙ same_view (view_of (with_source x graph) lasts switch) (marked x (view_of graph lasts on)) (marked_kept graph lasts fits x low) refl same refl
 
   pub outdated_view : (new : GraphView) → new ≡ with_stale x graph → view_of new lasts on ≡ stored_as x (record stored { current = false }) (view_of graph lasts on)
   outdated_view new e = ap (λ (g : GraphView). view_of g lasts on) e
-      ∙ same_view (view_of (with_stale x graph) lasts on) (stored_as x (record stored { current = false }) (view_of graph lasts on)) (outdated_kept graph lasts fits x low) (outdated_shape graph lasts fits x low) refl
+      ∙ same_view (view_of (with_stale x graph) lasts on) (stored_as x (record stored { current = false }) (view_of graph lasts on)) (outdated_kept graph lasts fits x low) (outdated_shape graph lasts fits x low) refl refl
 
   pub frozen_view : (new : GraphView) (flags : Flags) (frozen : Bool) → new ≡ with_flags x flags graph → flags ≡ record (flags_of (node_at graph x)) { frozen = frozen }
       → view_of new lasts on ≡ stored_as x (record stored { frozen = frozen }) (view_of graph lasts on)
   frozen_view new flags frozen e are = ap (λ (g : GraphView). view_of g lasts on) e
       ∙ same_view (view_of (with_flags x flags graph) lasts on) (stored_as x (record stored { frozen = frozen }) (view_of graph lasts on))
-      (frozen_kept graph lasts fits x low flags frozen are (live_node graph x is)) (flagged_shape graph lasts fits x low flags) refl
+      (frozen_kept graph lasts fits x low flags frozen are (live_node graph x is)) (flagged_shape graph lasts fits x low flags) refl refl
 
   pub forward_view : (new : GraphView) (flags : Flags) (forward : Bool) → new ≡ with_flags x flags graph → flags ≡ record (flags_of (node_at graph x)) { forward = forward }
       → view_of new lasts on ≡ stored_as x (record stored { forward = forward }) (view_of graph lasts on)
   forward_view new flags forward e are = ap (λ (g : GraphView). view_of g lasts on) e
       ∙ same_view (view_of (with_flags x flags graph) lasts on) (stored_as x (record stored { forward = forward }) (view_of graph lasts on))
-      (forward_kept graph lasts fits x low flags forward are (live_node graph x is)) (flagged_shape graph lasts fits x low flags) refl
+      (forward_kept graph lasts fits x low flags forward are (live_node graph x is)) (flagged_shape graph lasts fits x low flags) refl refl
 
 -- other pairs
 pub pairs_kept : (graph new : GraphView) (lasts : List (Option Value)) → new.nodes ≡ graph.nodes → new.sources ≡ graph.sources → (kept_of new lasts ≡ kept_of graph lasts) × (map role_in new.nodes ≡ map role_in graph.nodes)
@@ -374,3 +406,18 @@ pairs_kept graph new lasts nodes sources = (kept_both 0 lasts, ap (map role_in) 
     kept_both from (last ∷ lasts) = ap (λ (l : List (Option Node)). kept_as (slice_index_or l from None) (is_source new from) last ∷ kept_from new (from + 1) lasts) nodes
         ∙ ap (λ (l : List Bool). kept_as (node_at graph from) (slice_index_or l from false) last ∷ kept_from new (from + 1) lasts) sources
         ∙ ap (λ (l : List Kept). kept_as (node_at graph from) (is_source graph from) last ∷ l) (kept_both (from + 1) lasts)
+
+-- a told watcher that is handed out changes nothing else
+module _ (graph new : GraphView) (lasts : List (Option Value)) (on : Bool) where
+  pub none_told : (r : Option ℕ) → IfNone r ((graph.noticed ≡ []) × (new ≡ graph)) → IfNone r ((graph.noticed ≡ []) × (view_of new lasts on ≡ view_of graph lasts on))
+  none_told None none = (none.0, ap (λ (g : GraphView). view_of g lasts on) none.1)
+  none_told (Some w) none = tt
+
+  pub some_told : (r : Option ℕ) → IfSome r (λ w. (graph.noticed ≡ w ∷ new.noticed) × (new ≡ record graph { noticed = new.noticed }))
+      → IfSome r (λ w. (graph.noticed ≡ w ∷ new.noticed) × (view_of new lasts on ≡ record (view_of graph lasts on) { noticed = new.noticed }))
+  some_told None some = tt
+  some_told (Some w) some = (
+    some.0,
+    let p = pairs_kept graph new lasts (ap (λ (g : GraphView). g.nodes) some.1) (ap (λ (g : GraphView). g.sources) some.1) in
+        same_view (view_of new lasts on) (record (view_of graph lasts on) { noticed = new.noticed }) p.0 (same_shape graph new p.1 (ap (λ (g : GraphView). g.subjects) some.1)) refl refl,
+  )

@@ -1,5 +1,5 @@
 -- The graph of a desk: the role of each object and whom it observes.
-use Rattle.std.specs.Prelude.{◌≡◌, ◌↔◌, ◌+◌, ℕ, Bool, List, [], ◌∷◌, length, map, Option, Some, None, slice_index_or, if◌then◌else◌}
+use Rattle.std.specs.Prelude.{◌≡◌, ◌↔◌, ◌+◌, ℕ, Bool, false, List, [], ◌∷◌, length, map, Option, Some, None, slice_index_or, if◌then◌else◌}
 use Rattle.walks.specs.Walk.{Among}
 use Rattle.desk_terms.specs.declared.terms.Terms.{Terms}
 use Rattle.desk_terms.specs.declared.value.Value.{Value}
@@ -9,7 +9,8 @@ use Rattle.desk_terms.specs.Terms.{kind_of, inputs_of}
 use Rattle.desk_model.specs.declared.kept.Kept.{Kept}
 use Rattle.desk_model.specs.declared.slot.Slot.{Slot}
 use Rattle.desk_model.specs.declared.slot.Slot.TheVariants as slot
-use Rattle.desk_model.specs.Market.{Market, slot_at, edges, named, role_of}
+use Rattle.desk_model.specs.Effect.{with_pair}
+use Rattle.desk_model.specs.Market.{Market, slot_at, is_watcher, edges, named, role_of}
 use Rattle.observer_graph.specs.declared.node.Role.{Role}
 use Rattle.observer_graph.specs.declared.node.Role.TheVariants.{Source, Forwarder, Lazy, Watcher}
 use Rattle.observer_graph.specs.declared.node.Node.{Node}
@@ -62,11 +63,35 @@ abbrev pub linked : Option ℕ → List ℕ
 linked None = []
 linked (Some target) = target ∷ []
 
--- THE GRAPH OF A MARKET: each object has its role, and the pairs are the edges.
+-- THE GRAPH OF A MARKET: each object has its role, and an object that is no watcher observes its edges. What a watcher
+-- observes are its registrations.
 pub record IsJoined (market : Market) (shape : Shape) : Type 0 where
   pub long : length shape.roles ≡ length market.objects
   pub roles : (o : ℕ) → role_at shape o ≡ slot_role (slot_at market o)
-  pub pairs : (o x : ℕ) → Among x (observed_by shape o) ↔ Among x (edges market o)
+  pub pairs : (o x : ℕ) → is_watcher (slot_at market o) ≡ false → Among x (observed_by shape o) ↔ Among x (edges market o)
+
+-- the pairs of a watcher with these, each put at its place
+abbrev pub with_pairs : ℕ → List ℕ → List (ℕ × ℕ) → List (ℕ × ℕ)
+with_pairs w [] pairs = pairs
+with_pairs w (x ∷ xs) pairs = with_pair w x (with_pairs w xs pairs)
+
+abbrev pub with_watcher : Role → ℕ → List ℕ → List (ℕ × ℕ) → List (ℕ × ℕ)
+with_watcher Source w xs pairs = pairs
+with_watcher Forwarder w xs pairs = pairs
+with_watcher Lazy w xs pairs = pairs
+with_watcher Watcher w xs pairs = with_pairs w xs pairs
+
+abbrev pub with_any : Option Role → ℕ → List ℕ → List (ℕ × ℕ) → List (ℕ × ℕ)
+with_any None w xs pairs = pairs
+with_any (Some role) w xs pairs = with_watcher role w xs pairs
+
+abbrev pub registrations_from : ℕ → List (Option Role) → List (List ℕ) → List (ℕ × ℕ)
+registrations_from w [] subjects = []
+registrations_from w (role ∷ roles) subjects = with_any role w (list_at subjects w) (registrations_from (w + 1) roles subjects)
+
+-- THE REGISTRATIONS that a graph has: the pairs of its watchers, in order
+unfoldable pub registrations_of : Shape → List (ℕ × ℕ)
+registrations_of shape = registrations_from 0 shape.roles shape.subjects
 
 -- what is stored of an object: its flags and its mark are those of its node
 abbrev pub kept_as : Option Node → Bool → Option Value → Kept

@@ -1,5 +1,5 @@
 -- The state that the parts of a desk stand for.
-use Rattle.std.specs.Prelude.{◌≡◌, ℕ, ℤ, Bool, true, false, ◌||◌, if◌then◌else◌, List, [], Option, Some, None, Result, slice_index_or}
+use Rattle.std.specs.Prelude.{ℕ, ℤ, Bool, true, false, ◌||◌, if◌then◌else◌, List, Option, Some, None, Result, slice_index_or}
 use Rattle.std.specs.Borrow.{Bor}
 use Rattle.desk_terms.specs.declared.terms.Terms.{Terms}
 use Rattle.desk_terms.specs.declared.terms.Terms.TheVariants.{Quote, Derived, Handle, Curve, Implied, Index, Engine, Stock, Composite, Flows}
@@ -13,7 +13,7 @@ use Rattle.desk_model.specs.declared.slot.Slot.TheVariants as slot
 use Rattle.desk_model.specs.Held.{Changeable, changeable}
 use Rattle.desk_model.specs.Held.Changeable.{HasValue, HasTarget, HasFixings, HasParts, HasEngine, HasNone}
 use Rattle.desk_model.specs.declared.kept.Kept.{Kept}
-use Rattle.desk_model.specs.Market.{Market, is_watcher}
+use Rattle.desk_model.specs.Market.{Market}
 use Rattle.desk_model.specs.State.{State, unpriced, kept_at, last_of}
 use Rattle.desk_model.specs.Effect.{with_kept}
 
@@ -21,9 +21,21 @@ use Rattle.desk_model.specs.Effect.{with_kept}
 abbrev pub market_of : ℤ → List Slot → Market
 market_of today slots = record { today = today; objects = slots }
 
--- THE STATE of a desk: there are no watchers
-abbrev pub state_of : ℤ → List Slot → List Kept → Bool → State
-state_of today slots kept deferring = record { market = market_of today slots; kept = kept; deferring = deferring; registrations = []; noticed = [] }
+-- whether notices are held back, with which objects each watcher is registered, and the watchers that were told
+pub record Registry : Type 0 where
+  pub deferring : Bool
+  pub registrations : List (ℕ × ℕ)
+  pub noticed : List ℕ
+
+-- THE STATE of a desk
+abbrev pub state_of : ℤ → List Slot → List Kept → Registry → State
+state_of today slots kept registry = record {
+  market = market_of today slots;
+  kept = kept;
+  deferring = registry.deferring;
+  registrations = registry.registrations;
+  noticed = registry.noticed;
+}
 
 -- the state in which an object is not current
 abbrev pub outdated : ℕ → State → State
@@ -78,10 +90,6 @@ has_fixings (HasFixings terms fixings) = true
 has_fixings (HasParts parts) = false
 has_fixings (HasEngine flows held) = false
 has_fixings HasNone = false
-
--- none is a watcher
-abbrev pub AreUnwatched : List Slot → Type 0
-AreUnwatched slots = (x : ℕ) → is_watcher (slice_index_or slots x slot.Free) ≡ false
 
 -- whether these are the terms of a handle
 abbrev pub is_handle : Option Terms → Bool

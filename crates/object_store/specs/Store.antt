@@ -8,14 +8,23 @@ use Rattle.desk_model.specs.declared.kept.Kept.{Kept}
 use Rattle.desk_model.specs.State.{unpriced}
 use Rattle.desk_model.specs.Told.{unsettled}
 use Rattle.observer_graph.specs.declared.node.Role.{Role}
+use Rattle.observer_graph.specs.declared.node.Role.TheVariants.{Watcher}
 use Rattle.observer_graph.specs.Notice.{passes_as}
-use Rattle.object_store.specs.Shape.{Shape, role_at, observed_by}
+use Rattle.observer_graph.specs.Noticed.{IsRising, without}
+use Rattle.object_store.specs.Shape.{Shape, role_at, observed_by, registrations_of}
+use Rattle.object_store.specs.Slots.{Registry}
 
--- what is stored of each object, the graph of observers, and whether notices are held back
+-- what is stored of each object, the graph of observers, whether notices are held back, and the watchers that were told
+-- and not handed out since, by creation
 pub record StoreView : Type 0 where
   pub kept : List Kept
   pub shape : Shape
   pub deferring : Bool
+  pub noticed : List ℕ
+
+-- the registrations stand in the graph alone
+abbrev pub registry_of : StoreView → Registry
+registry_of store = record { deferring = store.deferring; registrations = registrations_of store.shape; noticed = store.noticed }
 
 abbrev pub stored_at : StoreView → ℕ → Kept
 stored_at store o = slice_index_or store.kept o unpriced
@@ -36,6 +45,7 @@ HasNoMarkWhereOff store = store.deferring ≡ false → (o : ℕ) → (stored_at
 pub record AddsObject (role : Role) (named : List ℕ) (old new : StoreView) : Type 0 where
   pub kept : new.kept ≡ old.kept ++ unpriced ∷ []
   pub switch : new.deferring ≡ old.deferring
+  pub told : new.noticed ≡ old.noticed
   pub roles : new.shape.roles ≡ old.shape.roles ++ Some role ∷ []
   pub pairs : (x o : ℕ) → Among x (observed_by new.shape o) ↔ (Among x (observed_by old.shape o) ⊎ (Among x named × (o ≡ length old.kept)))
 
@@ -43,6 +53,7 @@ pub record AddsObject (role : Role) (named : List ℕ) (old new : StoreView) : T
 pub record TakesObject (object : ℕ) (old new : StoreView) : Type 0 where
   pub kept : new.kept ≡ slice_set old.kept object unpriced
   pub switch : new.deferring ≡ old.deferring
+  pub told : new.noticed ≡ without object old.noticed
   pub roles : new.shape.roles ≡ slice_set old.shape.roles object None
   pub pairs : (x o : ℕ) → Among x (observed_by new.shape o) ↔ (Among x (observed_by old.shape o) × ((x ≡ object) ⊎ (o ≡ object) → ⊥))
 
@@ -50,6 +61,7 @@ pub record TakesObject (object : ℕ) (old new : StoreView) : Type 0 where
 pub record Joins (old new : StoreView) (subject observer : ℕ) : Type 0 where
   pub kept : new.kept ≡ old.kept
   pub switch : new.deferring ≡ old.deferring
+  pub told : new.noticed ≡ old.noticed
   pub roles : new.shape.roles ≡ old.shape.roles
   pub pairs : (x o : ℕ) → Among x (observed_by new.shape o) ↔ (Among x (observed_by old.shape o) ⊎ ((x ≡ subject) × (o ≡ observer)))
 
@@ -57,6 +69,7 @@ pub record Joins (old new : StoreView) (subject observer : ℕ) : Type 0 where
 pub record Leaves (old new : StoreView) (subject observer : ℕ) : Type 0 where
   pub kept : new.kept ≡ old.kept
   pub switch : new.deferring ≡ old.deferring
+  pub told : new.noticed ≡ old.noticed
   pub roles : new.shape.roles ≡ old.shape.roles
   pub pairs : (x o : ℕ) → Among x (observed_by new.shape o) ↔ (Among x (observed_by old.shape o) × ((x ≡ subject) × (o ≡ observer) → ⊥))
 
@@ -73,17 +86,20 @@ IsNotified store o = Below (observed_by store.shape) (λ y. (stored_at store y).
 abbrev pub notified_kept : Bool → Kept → Kept
 notified_kept is_told kept = record (unsettled is_told kept) { source = false }
 
--- a notice from the marked objects
+-- A NOTICE from the marked objects: the watchers that it reaches are told too, and stand by creation
 pub record Notices (old new : StoreView) : Type 0 where
   pub shape : new.shape ≡ old.shape
   pub long : length new.kept ≡ length old.kept
   pub each : (o : ℕ) → (IsNotified old o × (stored_at new o ≡ notified_kept true (stored_at old o)))
       ⊎ ((IsNotified old o → ⊥) × (stored_at new o ≡ notified_kept false (stored_at old o)))
+  pub noticed : (w : ℕ) → Among w new.noticed ↔ (Among w old.noticed ⊎ ((role_at old.shape w ≡ Some Watcher) × IsNotified old w))
+  pub rising : IsRising new.noticed
 
 -- a composite of these parts observes its members, and all else is as it was
 pub record IsRewatched (composite : ℕ) (parts : List Part) (old new : StoreView) : Type 0 where
   pub kept : new.kept ≡ old.kept
   pub switch : new.deferring ≡ old.deferring
+  pub told : new.noticed ≡ old.noticed
   pub roles : new.shape.roles ≡ old.shape.roles
   pub own : (x : ℕ) → Among x (observed_by new.shape composite) ↔ Among x (named (part_references parts))
   pub others : (o x : ℕ) → o ≢ composite → Among x (observed_by new.shape o) ↔ Among x (observed_by old.shape o)
@@ -102,6 +118,7 @@ LeavesAny (Some subject) observer old new = Leaves old new subject observer
 pub record Moves (held target : Option ℕ) (observer : ℕ) (old new : StoreView) : Type 0 where
   pub kept : new.kept ≡ old.kept
   pub switch : new.deferring ≡ old.deferring
+  pub told : new.noticed ≡ old.noticed
   pub roles : new.shape.roles ≡ old.shape.roles
   pub own : (x : ℕ) → Among x (observed_by new.shape observer) ↔ ((Among x (observed_by old.shape observer) × (held ≢ Some x)) ⊎ (target ≡ Some x))
   pub others : (o x : ℕ) → o ≢ observer → Among x (observed_by new.shape o) ↔ Among x (observed_by old.shape o)

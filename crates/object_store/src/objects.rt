@@ -10,7 +10,8 @@ ghost use Rattle.flow_terms.specs.declared.fixings.FixFault.TheVariants.{Exists}
 ghost use Rattle.flow_terms.specs.Fixings.{IsRate, Stored, fixing_on, with_fixing};
 ghost use Rattle.desk_model.specs.Held.{changeable};
 ghost use Rattle.desk_model.specs.Market.{kind_in, terms_in, role_of};
-ghost use Rattle.desk_model.specs.declared.slot.Slot.TheVariants.{Free, Today, Live};
+ghost use Rattle.desk_model.specs.declared.slot.Slot.TheVariants.{Free, Today, Watcher, Live};
+ghost use Rattle.observer_graph.specs.declared.node.Role.TheVariants as role;
 ghost use Rattle.object_store.specs.Objects.{quoted, with_quote, bare, has_quote, has_own_terms};
 ghost use Rattle.quote_board.specs.Board.{entry, IsPut, IsSame};
 ghost use Rattle.object_store.specs.Shape.{node_role, role_at};
@@ -26,6 +27,7 @@ use desk_model::Slot;
 use desk_names::ObjId;
 use desk_terms::{FixFault, Kind, Terms};
 use fixed_amount::Rate;
+use observer_graph::Role;
 use quote_board::Quotes;
 use std::alloc::{AllocError, Global};
 use std::marker::Model;
@@ -84,6 +86,20 @@ impl Objects {
         store.add(role_of(&terms), watched)?;
         self.slots.push_reserved(Slot::Live(bare(terms)));
         put_any(&mut self.board, object, value);
+        Ok(())
+    }
+
+    /// One watcher more, of which nothing is stored and which observes nothing. After want of memory nothing is changed.
+    pub fn add_watcher(&mut self, store: &mut Store) -> Result<(), AllocError>
+        requires room { length store.old.kept < 2 ^ 16 }
+        ensures made { OnOk result (self.new ≡ self.old ++ (Watcher ∷ [])) }
+        ensures added { OnOk result (AddsObject role.Watcher [] store.old store.new) }
+        ensures same { OnErr result (self.new ≡ self.old) }
+        ensures unstored { OnErr result (store.new ≡ store.old) }
+    {
+        self.slots.reserve(1)?;
+        store.add(Role::Watcher, &[])?;
+        self.slots.push_reserved(Slot::Watcher);
         Ok(())
     }
 

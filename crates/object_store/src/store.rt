@@ -1,9 +1,10 @@
 // What is stored of each object, and who observes whom: the flags stand in the graph of observers, the last values beside
 // it. Notices may be held back.
-ghost use Rattle.std.specs.Prelude.{◌≡◌, ◌↔◌, ◌⊎◌, ◌==◌, ◌<◌, ◌^◌, ℕ, [], true, false, Some, None, length, is_some, IsTrue, OnOk, OnErr, slice_index_or, slice_set};
+ghost use Rattle.std.specs.Prelude.{◌≡◌, ◌↔◌, ◌⊎◌, ◌==◌, ◌<◌, ◌^◌, ℕ, [], ◌∷◌, IfSome, IfNone, true, false, Some, None, length, is_some, IsTrue, OnOk, OnErr, slice_index_or, slice_set};
 ghost use Rattle.std.specs.Option.{option_copied};
 ghost use Rattle.walks.specs.Walk.{Among, Below};
 ghost use Rattle.observer_graph.specs.Notice.{IsLeast};
+ghost use Rattle.observer_graph.specs.Noticed.{IsRising};
 ghost use Rattle.observer_graph.specs.declared.node.Role.TheVariants as role;
 ghost use Rattle.desk_model.specs.State.{unpriced};
 ghost use Rattle.desk_model.specs.Visit.{with_value};
@@ -33,7 +34,7 @@ impl Model for Store {
 
     ghost Value = { StoreView };
 
-    ghost view = { λ s. record { kept = kept_of s.deferral.graph s.lasts.items; shape = shape_of s.deferral.graph; deferring = s.deferral.on } };
+    ghost view = { λ s. record { kept = kept_of s.deferral.graph s.lasts.items; shape = shape_of s.deferral.graph; deferring = s.deferral.on; noticed = s.deferral.graph.noticed } };
 
     ghost invariant = { λ s. (length s.deferral.graph.nodes ≡ length s.lasts.items) × (length s.deferral.graph.sources ≡ length s.lasts.items) };
 }
@@ -45,6 +46,7 @@ impl Store {
         ensures switch { result.deferring ≡ false }
         ensures roles { result.shape.roles ≡ [] }
         ensures subjects { result.shape.subjects ≡ [] }
+        ensures told { result.noticed ≡ [] }
     {
         Store {
             deferral: Deferral::new(Graph::new(alloc)),
@@ -101,6 +103,7 @@ impl Store {
         ensures kept { self.new.kept ≡ slice_set self.old.kept object (with_value (slice_index_or self.old.kept object unpriced) (Some value)) }
         ensures shape { self.new.shape ≡ self.old.shape }
         ensures switch { self.new.deferring ≡ self.old.deferring }
+        ensures told { self.new.noticed ≡ self.old.noticed }
     {
         let flags = self.deferral.as_graph().flags(object);
         self.deferral.graph().set_flags(object, settled(flags));
@@ -192,13 +195,42 @@ impl Store {
         self.deferral.graph().watch(subject, observer)
     }
 
-    /// An object does not observe another.
-    pub fn unwatch(&mut self, subject: ObjId, observer: ObjId)
+    /// An object does not observe another; whether it did. It takes no memory.
+    pub fn unwatch(&mut self, subject: ObjId, observer: ObjId) -> bool
         requires subject { is_some (role_at self.old.shape subject) ≡ true }
         requires observer { is_some (role_at self.old.shape observer) ≡ true }
-        ensures { Leaves self.old self.new subject observer }
+        ensures was { IsTrue result ↔ Among subject (observed_by self.old.shape observer) }
+        ensures leaves { Leaves self.old self.new subject observer }
     {
-        self.deferral.graph().unwatch(subject, observer);
+        self.deferral.graph().unwatch(subject, observer)
+    }
+
+    /// Whether an object observes another. It costs what the observer observes.
+    pub fn has_pair(&self, subject: ObjId, observer: ObjId) -> bool
+        requires subject { is_some (role_at self.now.shape subject) ≡ true }
+        requires observer { is_some (role_at self.now.shape observer) ≡ true }
+        ensures { IsTrue result ↔ Among subject (observed_by self.now.shape observer) }
+    {
+        self.deferral.as_graph().has_pair(subject, observer)
+    }
+
+    /// Whether an object observes any.
+    pub fn has_subject(&self, observer: ObjId) -> bool
+        requires { is_some (role_at self.now.shape observer) ≡ true }
+        ensures { IsTrue result ↔ ((x : ℕ) × Among x (observed_by self.now.shape observer)) }
+    {
+        self.deferral.as_graph().has_subject(observer)
+    }
+
+    /// The first by creation of the watchers that were told and not handed out since; it is forgotten. None where there
+    /// is none. It takes no memory.
+    pub fn next_told(&mut self) -> Option<ObjId>
+        ensures order { IsRising self.old.noticed }
+        ensures none { IfNone result ((self.old.noticed ≡ []) × (self.new ≡ self.old)) }
+        ensures some { IfSome result (λ w. (self.old.noticed ≡ w ∷ self.new.noticed)
+            × (self.new ≡ record self.old { noticed = self.new.noticed })) }
+    {
+        self.deferral.graph().next_told()
     }
 
     /// Whether an object is another, or reaches it by edges.

@@ -4,6 +4,7 @@ use Rattle.ask_walk.specs.Asks.{Stays, Computes}
 use Rattle.desk_terms.specs.declared.asked.Asked.{Asked}
 use Rattle.desk_model.specs.declared.kept.Kept.{Kept}
 use Rattle.object_store.specs.Slots.{market_of, state_of}
+use Rattle.object_store.specs.Store.{registry_of}
 use Rattle.ask_walk.proofs.Loop.{Asking, left, left_refused, top_lazy, top_within, open_of, begins, pushes, stops, fits, faulted, valued, ends, stack_bound, few, lazy_terms}
 use Rattle.desk_model.specs.Market.{terms_at}
 use Rattle.object_store.specs.Shape.{Shape, role_at}
@@ -16,9 +17,9 @@ use Rattle.ask_walk.proofs.asking.compute_all.Goals as goal
 pub loop-top-init : goal.loop-top-init
 loop-top-init g c = (
   refl,
-  subst (λ (st : List ℕ). Asking (g.B.Bench.calc c.args.bench.now) (state_of c.args.today c.args.objects.now c.args.store.now.kept c.args.store.now.deferring) c.args.object (g.B.Bench.count c.args.bench.now) (g.B.Bench.log c.args.bench.now) st c.args.store.now.kept 0 (g.B.Bench.count c.args.bench.now) (g.B.Bench.log c.args.bench.now))
+  subst (λ (st : List ℕ). Asking (g.B.Bench.calc c.args.bench.now) (state_of c.args.today c.args.objects.now c.args.store.now.kept (registry_of c.args.store.now)) c.args.object (g.B.Bench.count c.args.bench.now) (g.B.Bench.log c.args.bench.now) st c.args.store.now.kept 0 (g.B.Bench.count c.args.bench.now) (g.B.Bench.log c.args.bench.now))
       (sym (c.in_ok-push.ensures.items ∙ ap (λ (l : List ℕ). l ++ c.args.object ∷ []) c.new-stack.ensures.items))
-      (begins (g.B.Bench.calc c.args.bench.now) (state_of c.args.today c.args.objects.now c.args.store.now.kept c.args.store.now.deferring) c.args.object (g.B.Bench.count c.args.bench.now) (g.B.Bench.log c.args.bench.now) c.requires.may c.requires.free c.requires.stale),
+      (begins (g.B.Bench.calc c.args.bench.now) (state_of c.args.today c.args.objects.now c.args.store.now.kept (registry_of c.args.store.now)) c.args.object (g.B.Bench.count c.args.bench.now) (g.B.Bench.log c.args.bench.now) c.requires.may c.requires.free c.requires.stale),
   c.requires.remembers,
   c.requires.begun,
   refl,
@@ -34,7 +35,7 @@ returns-in-Stops-clause-same g c = c.loop-top.invariant.0
 pub returns-in-Stops-clause-walks : goal.returns-in-Stops-clause-walks
 returns-in-Stops-clause-walks g c =
     let calc = g.B.Bench.calc c.args.bench.now in
-    let s = state_of c.args.today c.args.objects.now c.args.store.now.kept c.args.store.now.deferring in
+    let s = state_of c.args.today c.args.objects.now c.args.store.now.kept (registry_of c.args.store.now) in
     let count0 = g.B.Bench.count c.args.bench.now in
     let log0 = g.B.Bench.log c.args.bench.now in
     let stack = c.pop.new.self.items in
@@ -44,7 +45,7 @@ returns-in-Stops-clause-walks g c =
 pub loop-top-smaller-in-Continue-branch-5 : goal.loop-top-smaller-in-Continue-branch-5
 loop-top-smaller-in-Continue-branch-5 g c =
     let calc = g.B.Bench.calc c.args.bench.now in
-    let s = state_of c.args.today c.args.objects.now c.args.store.now.kept c.args.store.now.deferring in
+    let s = state_of c.args.today c.args.objects.now c.args.store.now.kept (registry_of c.args.store.now) in
     let count0 = g.B.Bench.count c.args.bench.now in
     let log0 = g.B.Bench.log c.args.bench.now in
     let stack = c.pop.new.self.items in
@@ -57,7 +58,7 @@ loop-top-smaller-in-Continue-branch-5 g c =
 pub loop-top-preserved-in-Continue-branch-5 : goal.loop-top-preserved-in-Continue-branch-5
 loop-top-preserved-in-Continue-branch-5 g c =
     let calc = g.B.Bench.calc c.args.bench.now in
-    let s = state_of c.args.today c.args.objects.now c.args.store.now.kept c.args.store.now.deferring in
+    let s = state_of c.args.today c.args.objects.now c.args.store.now.kept (registry_of c.args.store.now) in
     let count0 = g.B.Bench.count c.args.bench.now in
     let log0 = g.B.Bench.log c.args.bench.now in
     let stack = c.pop.new.self.items in
@@ -77,7 +78,7 @@ returns-in_err-push-in-First-2-clause-same g c = c.loop-top.invariant.0
 pub compute-requires-clause-fits : goal.compute-requires-clause-fits
 compute-requires-clause-fits g c =
     let calc = g.B.Bench.calc c.args.bench.now in
-    let s = state_of c.args.today c.args.objects.now c.args.store.now.kept c.args.store.now.deferring in
+    let s = state_of c.args.today c.args.objects.now c.args.store.now.kept (registry_of c.args.store.now) in
     let count0 = g.B.Bench.count c.args.bench.now in
     let log0 = g.B.Bench.log c.args.bench.now in
     let stack = c.pop.new.self.items in
@@ -93,7 +94,7 @@ returns-then-is_some-clause-same g c = c.compute.ensures.same ∙ c.loop-top.inv
 pub returns-then-is_some-clause-walks : goal.returns-then-is_some-clause-walks
 returns-then-is_some-clause-walks g c =
     let calc = g.B.Bench.calc c.args.bench.now in
-    let s = state_of c.args.today c.args.objects.now c.args.store.now.kept c.args.store.now.deferring in
+    let s = state_of c.args.today c.args.objects.now c.args.store.now.kept (registry_of c.args.store.now) in
     let count0 = g.B.Bench.count c.args.bench.now in
     let log0 = g.B.Bench.log c.args.bench.now in
     let stack = c.pop.new.self.items in
@@ -104,7 +105,7 @@ returns-then-is_some-clause-walks g c =
 pub loop-top-smaller : goal.loop-top-smaller
 loop-top-smaller g c =
     let calc = g.B.Bench.calc c.args.bench.now in
-    let s = state_of c.args.today c.args.objects.now c.args.store.now.kept c.args.store.now.deferring in
+    let s = state_of c.args.today c.args.objects.now c.args.store.now.kept (registry_of c.args.store.now) in
     let count0 = g.B.Bench.count c.args.bench.now in
     let log0 = g.B.Bench.log c.args.bench.now in
     let stack = c.pop.new.self.items in
@@ -115,7 +116,7 @@ loop-top-smaller g c =
 pub loop-top-preserved : goal.loop-top-preserved
 loop-top-preserved g c =
     let calc = g.B.Bench.calc c.args.bench.now in
-    let s = state_of c.args.today c.args.objects.now c.args.store.now.kept c.args.store.now.deferring in
+    let s = state_of c.args.today c.args.objects.now c.args.store.now.kept (registry_of c.args.store.now) in
     let count0 = g.B.Bench.count c.args.bench.now in
     let log0 = g.B.Bench.log c.args.bench.now in
     let stack = c.pop.new.self.items in
@@ -128,7 +129,7 @@ loop-top-preserved g c =
           (top_within calc s c.args.object count0 log0 stack c.in-Some.top c.loop-top.store.kept c.loop-top.runs (g.B.Bench.count c.loop-top.bench) (g.B.Bench.log c.loop-top.bench) a) (top_lazy calc s c.args.object count0 log0 stack c.in-Some.top c.loop-top.store.kept c.loop-top.runs (g.B.Bench.count c.loop-top.bench) (g.B.Bench.log c.loop-top.bench) a)
           (subst (λ k. Computes k (market_of c.args.today c.args.objects.now) c.in-Some.top c.in-Ready.inputs c.loop-top.store.kept c.compute.new.store.kept c.in_ok-cause-in-Ready.cause (g.B.Bench.count c.loop-top.bench) (g.B.Bench.count c.compute.new.bench) (g.B.Bench.log c.loop-top.bench) (g.B.Bench.log c.compute.new.bench)) c.loop-top.invariant.0 c.in_ok-cause-in-Ready.ensures.computes) (sym c.is_some.ensures ∙ c.if-is_some.false),
       c.compute.ensures.shape ∙ c.loop-top.invariant.4,
-      c.compute.ensures.switch ∙ c.loop-top.invariant.5,
+      c.compute.ensures.registry ∙ c.loop-top.invariant.5,
     )
 
 pub returns-clause-same : goal.returns-clause-same
@@ -137,7 +138,7 @@ returns-clause-same g c = c.loop-top.invariant.0
 pub returns-clause-walks : goal.returns-clause-walks
 returns-clause-walks g c =
     let calc = g.B.Bench.calc c.args.bench.now in
-    let s = state_of c.args.today c.args.objects.now c.args.store.now.kept c.args.store.now.deferring in
+    let s = state_of c.args.today c.args.objects.now c.args.store.now.kept (registry_of c.args.store.now) in
     ends calc s c.args.object (g.B.Bench.count c.args.bench.now) (g.B.Bench.log c.args.bench.now) c.loop-top.store.kept c.loop-top.runs (g.B.Bench.count c.loop-top.bench) (g.B.Bench.log c.loop-top.bench) c.args.mark c.answered-2.result
     (subst (λ (st : List ℕ). Asking calc s c.args.object (g.B.Bench.count c.args.bench.now) (g.B.Bench.log c.args.bench.now) st c.loop-top.store.kept c.loop-top.runs (g.B.Bench.count c.loop-top.bench) (g.B.Bench.log c.loop-top.bench))
     (c.in_default.ensures.items ∙ ap (λ (l : List ℕ). l ++ []) (c.in_default.ensures.rest ∙ ap (λ (n : ℕ). take (n - 1) c.loop-top.stack.items) c.in_default.ensures.cases.0)) c.loop-top.invariant.1)
@@ -147,42 +148,42 @@ pub next-requires-clause-linked : goal.next-requires-clause-linked
 next-requires-clause-linked g c = c.loop-top.invariant.1.may.whole.links
 
 pub returns-in_err-cause-clause-stays : goal.returns-in_err-cause-clause-stays
-returns-in_err-cause-clause-stays g c = left (g.B.Bench.calc c.args.bench.now) (state_of c.args.today c.args.objects.now c.args.store.now.kept c.args.store.now.deferring) c.args.object (g.B.Bench.count c.args.bench.now) (g.B.Bench.log c.args.bench.now) c.loop-top.stack.items c.loop-top.store.kept c.loop-top.runs (g.B.Bench.count c.loop-top.bench) (g.B.Bench.log c.loop-top.bench) c.loop-top.invariant.1
+returns-in_err-cause-clause-stays g c = left (g.B.Bench.calc c.args.bench.now) (state_of c.args.today c.args.objects.now c.args.store.now.kept (registry_of c.args.store.now)) c.args.object (g.B.Bench.count c.args.bench.now) (g.B.Bench.log c.args.bench.now) c.loop-top.stack.items c.loop-top.store.kept c.loop-top.runs (g.B.Bench.count c.loop-top.bench) (g.B.Bench.log c.loop-top.bench) c.loop-top.invariant.1
 
 pub returns-in-Stops-clause-stays : goal.returns-in-Stops-clause-stays
-returns-in-Stops-clause-stays g c = left (g.B.Bench.calc c.args.bench.now) (state_of c.args.today c.args.objects.now c.args.store.now.kept c.args.store.now.deferring) c.args.object (g.B.Bench.count c.args.bench.now) (g.B.Bench.log c.args.bench.now) c.loop-top.stack.items c.loop-top.store.kept c.loop-top.runs (g.B.Bench.count c.loop-top.bench) (g.B.Bench.log c.loop-top.bench) c.loop-top.invariant.1
+returns-in-Stops-clause-stays g c = left (g.B.Bench.calc c.args.bench.now) (state_of c.args.today c.args.objects.now c.args.store.now.kept (registry_of c.args.store.now)) c.args.object (g.B.Bench.count c.args.bench.now) (g.B.Bench.log c.args.bench.now) c.loop-top.stack.items c.loop-top.store.kept c.loop-top.runs (g.B.Bench.count c.loop-top.bench) (g.B.Bench.log c.loop-top.bench) c.loop-top.invariant.1
 
 pub returns-in_err-push-in-First-2-clause-stays : goal.returns-in_err-push-in-First-2-clause-stays
-returns-in_err-push-in-First-2-clause-stays g c = left (g.B.Bench.calc c.args.bench.now) (state_of c.args.today c.args.objects.now c.args.store.now.kept c.args.store.now.deferring) c.args.object (g.B.Bench.count c.args.bench.now) (g.B.Bench.log c.args.bench.now) c.loop-top.stack.items c.loop-top.store.kept c.loop-top.runs (g.B.Bench.count c.loop-top.bench) (g.B.Bench.log c.loop-top.bench) c.loop-top.invariant.1
+returns-in_err-push-in-First-2-clause-stays g c = left (g.B.Bench.calc c.args.bench.now) (state_of c.args.today c.args.objects.now c.args.store.now.kept (registry_of c.args.store.now)) c.args.object (g.B.Bench.count c.args.bench.now) (g.B.Bench.log c.args.bench.now) c.loop-top.stack.items c.loop-top.store.kept c.loop-top.runs (g.B.Bench.count c.loop-top.bench) (g.B.Bench.log c.loop-top.bench) c.loop-top.invariant.1
 
 pub returns-clause-stays : goal.returns-clause-stays
-returns-clause-stays g c = left (g.B.Bench.calc c.args.bench.now) (state_of c.args.today c.args.objects.now c.args.store.now.kept c.args.store.now.deferring) c.args.object (g.B.Bench.count c.args.bench.now) (g.B.Bench.log c.args.bench.now) c.loop-top.stack.items c.loop-top.store.kept c.loop-top.runs (g.B.Bench.count c.loop-top.bench) (g.B.Bench.log c.loop-top.bench) c.loop-top.invariant.1
+returns-clause-stays g c = left (g.B.Bench.calc c.args.bench.now) (state_of c.args.today c.args.objects.now c.args.store.now.kept (registry_of c.args.store.now)) c.args.object (g.B.Bench.count c.args.bench.now) (g.B.Bench.log c.args.bench.now) c.loop-top.stack.items c.loop-top.store.kept c.loop-top.runs (g.B.Bench.count c.loop-top.bench) (g.B.Bench.log c.loop-top.bench) c.loop-top.invariant.1
 
 pub returns-in_err-cause-in-Ready-clause-stays : goal.returns-in_err-cause-in-Ready-clause-stays
-returns-in_err-cause-in-Ready-clause-stays g c = subst (λ (k : List Kept). Stays (g.B.Bench.calc c.args.bench.now) (state_of c.args.today c.args.objects.now k c.args.store.now.deferring)) (sym c.in_err-cause-in-Ready.ensures.err.0) (left (g.B.Bench.calc c.args.bench.now) (state_of c.args.today c.args.objects.now c.args.store.now.kept c.args.store.now.deferring) c.args.object (g.B.Bench.count c.args.bench.now) (g.B.Bench.log c.args.bench.now) c.loop-top.stack.items c.loop-top.store.kept c.loop-top.runs (g.B.Bench.count c.loop-top.bench) (g.B.Bench.log c.loop-top.bench) c.loop-top.invariant.1)
+returns-in_err-cause-in-Ready-clause-stays g c = subst (λ (k : List Kept). Stays (g.B.Bench.calc c.args.bench.now) (state_of c.args.today c.args.objects.now k (registry_of c.args.store.now))) (sym c.in_err-cause-in-Ready.ensures.err.0) (left (g.B.Bench.calc c.args.bench.now) (state_of c.args.today c.args.objects.now c.args.store.now.kept (registry_of c.args.store.now)) c.args.object (g.B.Bench.count c.args.bench.now) (g.B.Bench.log c.args.bench.now) c.loop-top.stack.items c.loop-top.store.kept c.loop-top.runs (g.B.Bench.count c.loop-top.bench) (g.B.Bench.log c.loop-top.bench) c.loop-top.invariant.1)
 
 pub returns-then-is_some-clause-stays : goal.returns-then-is_some-clause-stays
 returns-then-is_some-clause-stays g c =
     let calc = g.B.Bench.calc c.args.bench.now in
-    let s = state_of c.args.today c.args.objects.now c.args.store.now.kept c.args.store.now.deferring in
+    let s = state_of c.args.today c.args.objects.now c.args.store.now.kept (registry_of c.args.store.now) in
     let count0 = g.B.Bench.count c.args.bench.now in
     let log0 = g.B.Bench.log c.args.bench.now in
     let stack = c.pop.new.self.items in
     let a = subst (λ (st : List ℕ). Asking calc s c.args.object count0 log0 st c.loop-top.store.kept c.loop-top.runs (g.B.Bench.count c.loop-top.bench) (g.B.Bench.log c.loop-top.bench)) c.in-Some.ensures.items c.loop-top.invariant.1 in
     left_refused calc s c.in-Some.top c.in-Ready.inputs c.loop-top.store.kept c.compute.new.store.kept c.in_ok-cause-in-Ready.cause (g.B.Bench.count c.loop-top.bench) (g.B.Bench.count c.compute.new.bench) (g.B.Bench.log c.loop-top.bench) (g.B.Bench.log c.compute.new.bench)
-    (left (g.B.Bench.calc c.args.bench.now) (state_of c.args.today c.args.objects.now c.args.store.now.kept c.args.store.now.deferring) c.args.object (g.B.Bench.count c.args.bench.now) (g.B.Bench.log c.args.bench.now) c.loop-top.stack.items c.loop-top.store.kept c.loop-top.runs (g.B.Bench.count c.loop-top.bench) (g.B.Bench.log c.loop-top.bench) c.loop-top.invariant.1) (top_lazy calc s c.args.object count0 log0 stack c.in-Some.top c.loop-top.store.kept c.loop-top.runs (g.B.Bench.count c.loop-top.bench) (g.B.Bench.log c.loop-top.bench) a)
+    (left (g.B.Bench.calc c.args.bench.now) (state_of c.args.today c.args.objects.now c.args.store.now.kept (registry_of c.args.store.now)) c.args.object (g.B.Bench.count c.args.bench.now) (g.B.Bench.log c.args.bench.now) c.loop-top.stack.items c.loop-top.store.kept c.loop-top.runs (g.B.Bench.count c.loop-top.bench) (g.B.Bench.log c.loop-top.bench) c.loop-top.invariant.1) (top_lazy calc s c.args.object count0 log0 stack c.in-Some.top c.loop-top.store.kept c.loop-top.runs (g.B.Bench.count c.loop-top.bench) (g.B.Bench.log c.loop-top.bench) a)
     (subst (λ k. Computes k (market_of c.args.today c.args.objects.now) c.in-Some.top c.in-Ready.inputs c.loop-top.store.kept c.compute.new.store.kept c.in_ok-cause-in-Ready.cause (g.B.Bench.count c.loop-top.bench) (g.B.Bench.count c.compute.new.bench) (g.B.Bench.log c.loop-top.bench) (g.B.Bench.log c.compute.new.bench)) c.loop-top.invariant.0 c.in_ok-cause-in-Ready.ensures.computes) (sym c.is_some.ensures ∙ c.if-is_some.true)
 
 pub returns-in_err-cause-clause-stops : goal.returns-in_err-cause-clause-stops
-returns-in_err-cause-clause-stops g c = on_err _ (stopped (g.B.Bench.calc c.args.bench.now) (state_of c.args.today c.args.objects.now c.args.store.now.kept c.args.store.now.deferring) c.args.object (g.B.Bench.count c.args.bench.now) (g.B.Bench.log c.args.bench.now) c.loop-top.stack.items c.loop-top.store.kept c.loop-top.runs (g.B.Bench.count c.loop-top.bench) (g.B.Bench.log c.loop-top.bench) c.loop-top.invariant.1)
+returns-in_err-cause-clause-stops g c = on_err _ (stopped (g.B.Bench.calc c.args.bench.now) (state_of c.args.today c.args.objects.now c.args.store.now.kept (registry_of c.args.store.now)) c.args.object (g.B.Bench.count c.args.bench.now) (g.B.Bench.log c.args.bench.now) c.loop-top.stack.items c.loop-top.store.kept c.loop-top.runs (g.B.Bench.count c.loop-top.bench) (g.B.Bench.log c.loop-top.bench) c.loop-top.invariant.1)
 
 pub returns-in_err-push-in-First-2-clause-stops : goal.returns-in_err-push-in-First-2-clause-stops
-returns-in_err-push-in-First-2-clause-stops g c = on_err _ (stopped (g.B.Bench.calc c.args.bench.now) (state_of c.args.today c.args.objects.now c.args.store.now.kept c.args.store.now.deferring) c.args.object (g.B.Bench.count c.args.bench.now) (g.B.Bench.log c.args.bench.now) c.loop-top.stack.items c.loop-top.store.kept c.loop-top.runs (g.B.Bench.count c.loop-top.bench) (g.B.Bench.log c.loop-top.bench) c.loop-top.invariant.1)
+returns-in_err-push-in-First-2-clause-stops g c = on_err _ (stopped (g.B.Bench.calc c.args.bench.now) (state_of c.args.today c.args.objects.now c.args.store.now.kept (registry_of c.args.store.now)) c.args.object (g.B.Bench.count c.args.bench.now) (g.B.Bench.log c.args.bench.now) c.loop-top.stack.items c.loop-top.store.kept c.loop-top.runs (g.B.Bench.count c.loop-top.bench) (g.B.Bench.log c.loop-top.bench) c.loop-top.invariant.1)
 
 pub returns-in_err-cause-in-Ready-clause-stops : goal.returns-in_err-cause-in-Ready-clause-stops
 returns-in_err-cause-in-Ready-clause-stops g c =
     let calc = g.B.Bench.calc c.args.bench.now in
-    let s = state_of c.args.today c.args.objects.now c.args.store.now.kept c.args.store.now.deferring in
+    let s = state_of c.args.today c.args.objects.now c.args.store.now.kept (registry_of c.args.store.now) in
     let count0 = g.B.Bench.count c.args.bench.now in
     let log0 = g.B.Bench.log c.args.bench.now in
     let stack = c.pop.new.self.items in
@@ -192,13 +193,13 @@ returns-in_err-cause-in-Ready-clause-stops g c =
     (sym c.in_ok-cause.ensures.next ∙ c.in-Ready.is) t.1 c.in_err-cause-in-Ready.ensures.err.0 c.in_err-cause-in-Ready.ensures.err.1 c.in_err-cause-in-Ready.ensures.err.2)
 
 pub returns-in_err-push-clause-stops : goal.returns-in_err-push-clause-stops
-returns-in_err-push-clause-stops g c = on_err _ (stopped (g.B.Bench.calc c.args.bench.now) (state_of c.args.today c.args.objects.now c.args.store.now.kept c.args.store.now.deferring) c.args.object (g.B.Bench.count c.args.bench.now) (g.B.Bench.log c.args.bench.now) (c.args.object ∷ []) c.args.store.now.kept 0 (g.B.Bench.count c.args.bench.now) (g.B.Bench.log c.args.bench.now)
-    (begins (g.B.Bench.calc c.args.bench.now) (state_of c.args.today c.args.objects.now c.args.store.now.kept c.args.store.now.deferring) c.args.object (g.B.Bench.count c.args.bench.now) (g.B.Bench.log c.args.bench.now) c.requires.may c.requires.free c.requires.stale))
+returns-in_err-push-clause-stops g c = on_err _ (stopped (g.B.Bench.calc c.args.bench.now) (state_of c.args.today c.args.objects.now c.args.store.now.kept (registry_of c.args.store.now)) c.args.object (g.B.Bench.count c.args.bench.now) (g.B.Bench.log c.args.bench.now) (c.args.object ∷ []) c.args.store.now.kept 0 (g.B.Bench.count c.args.bench.now) (g.B.Bench.log c.args.bench.now)
+    (begins (g.B.Bench.calc c.args.bench.now) (state_of c.args.today c.args.objects.now c.args.store.now.kept (registry_of c.args.store.now)) c.args.object (g.B.Bench.count c.args.bench.now) (g.B.Bench.log c.args.bench.now) c.requires.may c.requires.free c.requires.stale))
 
 pub compute-requires-clause-role : goal.compute-requires-clause-role
 compute-requires-clause-role g c =
     let calc = g.B.Bench.calc c.args.bench.now in
-    let s = state_of c.args.today c.args.objects.now c.args.store.now.kept c.args.store.now.deferring in
+    let s = state_of c.args.today c.args.objects.now c.args.store.now.kept (registry_of c.args.store.now) in
     let count0 = g.B.Bench.count c.args.bench.now in
     let log0 = g.B.Bench.log c.args.bench.now in
     let stack = c.pop.new.self.items in
@@ -227,7 +228,7 @@ returns-clause-shape g c = c.loop-top.invariant.4
 pub overflow_add-runs : goal.overflow_add-runs
 overflow_add-runs g c =
     let calc = g.B.Bench.calc c.args.bench.now in
-    let s = state_of c.args.today c.args.objects.now c.args.store.now.kept c.args.store.now.deferring in
+    let s = state_of c.args.today c.args.objects.now c.args.store.now.kept (registry_of c.args.store.now) in
     let count0 = g.B.Bench.count c.args.bench.now in
     let log0 = g.B.Bench.log c.args.bench.now in
     let stack = c.pop.new.self.items in
@@ -241,7 +242,7 @@ next-requires-clause-kinds g c = c.loop-top.invariant.1.may.kinds
 pub returns-then-is_some-clause-begun : goal.returns-then-is_some-clause-begun
 returns-then-is_some-clause-begun g c =
     let calc = g.B.Bench.calc c.args.bench.now in
-    let s = state_of c.args.today c.args.objects.now c.args.store.now.kept c.args.store.now.deferring in
+    let s = state_of c.args.today c.args.objects.now c.args.store.now.kept (registry_of c.args.store.now) in
     let count0 = g.B.Bench.count c.args.bench.now in
     let log0 = g.B.Bench.log c.args.bench.now in
     let stack = c.pop.new.self.items in
@@ -252,33 +253,33 @@ returns-then-is_some-clause-begun g c =
 
 pub returns-in-Stops-clause-few : goal.returns-in-Stops-clause-few
 returns-in-Stops-clause-few g c =
-    let f = few (g.B.Bench.calc c.args.bench.now) (state_of c.args.today c.args.objects.now c.args.store.now.kept c.args.store.now.deferring) c.args.object (g.B.Bench.count c.args.bench.now) (g.B.Bench.log c.args.bench.now) c.loop-top.stack.items c.loop-top.store.kept c.loop-top.runs (g.B.Bench.count c.loop-top.bench) (g.B.Bench.log c.loop-top.bench) c.loop-top.invariant.1 in
+    let f = few (g.B.Bench.calc c.args.bench.now) (state_of c.args.today c.args.objects.now c.args.store.now.kept (registry_of c.args.store.now)) c.args.object (g.B.Bench.count c.args.bench.now) (g.B.Bench.log c.args.bench.now) c.loop-top.stack.items c.loop-top.store.kept c.loop-top.runs (g.B.Bench.count c.loop-top.bench) (g.B.Bench.log c.loop-top.bench) c.loop-top.invariant.1 in
     let said = ap (λ (a : Asked). a.runs) c.answered.ensures in omega (arith, f, said)
 
 pub returns-then-is_some-clause-few : goal.returns-then-is_some-clause-few
 returns-then-is_some-clause-few g c =
-    let f = few (g.B.Bench.calc c.args.bench.now) (state_of c.args.today c.args.objects.now c.args.store.now.kept c.args.store.now.deferring) c.args.object (g.B.Bench.count c.args.bench.now) (g.B.Bench.log c.args.bench.now) c.loop-top.stack.items c.loop-top.store.kept c.loop-top.runs (g.B.Bench.count c.loop-top.bench) (g.B.Bench.log c.loop-top.bench) c.loop-top.invariant.1 in
+    let f = few (g.B.Bench.calc c.args.bench.now) (state_of c.args.today c.args.objects.now c.args.store.now.kept (registry_of c.args.store.now)) c.args.object (g.B.Bench.count c.args.bench.now) (g.B.Bench.log c.args.bench.now) c.loop-top.stack.items c.loop-top.store.kept c.loop-top.runs (g.B.Bench.count c.loop-top.bench) (g.B.Bench.log c.loop-top.bench) c.loop-top.invariant.1 in
     let said = ap (λ (a : Asked). a.runs) c.answered-then-is_some.ensures in omega (arith, f, said)
 
 pub returns-clause-few : goal.returns-clause-few
 returns-clause-few g c =
-    let f = few (g.B.Bench.calc c.args.bench.now) (state_of c.args.today c.args.objects.now c.args.store.now.kept c.args.store.now.deferring) c.args.object (g.B.Bench.count c.args.bench.now) (g.B.Bench.log c.args.bench.now) c.loop-top.stack.items c.loop-top.store.kept c.loop-top.runs (g.B.Bench.count c.loop-top.bench) (g.B.Bench.log c.loop-top.bench) c.loop-top.invariant.1 in
+    let f = few (g.B.Bench.calc c.args.bench.now) (state_of c.args.today c.args.objects.now c.args.store.now.kept (registry_of c.args.store.now)) c.args.object (g.B.Bench.count c.args.bench.now) (g.B.Bench.log c.args.bench.now) c.loop-top.stack.items c.loop-top.store.kept c.loop-top.runs (g.B.Bench.count c.loop-top.bench) (g.B.Bench.log c.loop-top.bench) c.loop-top.invariant.1 in
     let said = ap (λ (a : Asked). a.runs) c.answered-2.ensures in omega (arith, f, said)
 
-pub returns-in_err-cause-clause-switch : goal.returns-in_err-cause-clause-switch
-returns-in_err-cause-clause-switch g c = c.loop-top.invariant.5
+pub returns-in_err-cause-clause-registry : goal.returns-in_err-cause-clause-registry
+returns-in_err-cause-clause-registry g c = c.loop-top.invariant.5
 
-pub returns-in-Stops-clause-switch : goal.returns-in-Stops-clause-switch
-returns-in-Stops-clause-switch g c = c.loop-top.invariant.5
+pub returns-in-Stops-clause-registry : goal.returns-in-Stops-clause-registry
+returns-in-Stops-clause-registry g c = c.loop-top.invariant.5
 
-pub returns-in_err-push-in-First-2-clause-switch : goal.returns-in_err-push-in-First-2-clause-switch
-returns-in_err-push-in-First-2-clause-switch g c = c.loop-top.invariant.5
+pub returns-in_err-push-in-First-2-clause-registry : goal.returns-in_err-push-in-First-2-clause-registry
+returns-in_err-push-in-First-2-clause-registry g c = c.loop-top.invariant.5
 
-pub returns-in_err-cause-in-Ready-clause-switch : goal.returns-in_err-cause-in-Ready-clause-switch
-returns-in_err-cause-in-Ready-clause-switch g c = c.compute.ensures.switch ∙ c.loop-top.invariant.5
+pub returns-in_err-cause-in-Ready-clause-registry : goal.returns-in_err-cause-in-Ready-clause-registry
+returns-in_err-cause-in-Ready-clause-registry g c = c.compute.ensures.registry ∙ c.loop-top.invariant.5
 
-pub returns-then-is_some-clause-switch : goal.returns-then-is_some-clause-switch
-returns-then-is_some-clause-switch g c = c.compute.ensures.switch ∙ c.loop-top.invariant.5
+pub returns-then-is_some-clause-registry : goal.returns-then-is_some-clause-registry
+returns-then-is_some-clause-registry g c = c.compute.ensures.registry ∙ c.loop-top.invariant.5
 
-pub returns-clause-switch : goal.returns-clause-switch
-returns-clause-switch g c = c.loop-top.invariant.5
+pub returns-clause-registry : goal.returns-clause-registry
+returns-clause-registry g c = c.loop-top.invariant.5

@@ -1,5 +1,6 @@
 use Rattle.std.proofs.Common.{◌≡◌}
 use Rattle.object_store.specs.Slots.{market_of, state_of}
+use Rattle.object_store.specs.Store.{registry_of}
 use Rattle.ask_walk.specs.Reads.{Remembers}
 use Rattle.ask_walk.specs.Begun.{Begun}
 use Rattle.ask_walk.proofs.Loop.{open_of}
@@ -8,11 +9,11 @@ use Rattle.ask_walk.proofs.recalculating.reprice.Given as goal
 
 abbrev pub invariant-loop-cause : goal.invariant-loop-cause
 invariant-loop-cause g l = (g.B.Bench.calc l.bench ≡ g.B.Bench.calc l.initial.bench)
-    × Settling (g.B.Bench.calc l.initial.bench) (state_of l.today l.objects l.initial.store.kept l.initial.store.deferring) l.fn.object (g.B.Bench.count l.initial.bench) (g.B.Bench.log l.initial.bench) l.store.kept l.runs (g.B.Bench.count l.bench) (g.B.Bench.log l.bench)
+    × Settling (g.B.Bench.calc l.initial.bench) (state_of l.today l.objects l.initial.store.kept (registry_of l.initial.store)) l.fn.object (g.B.Bench.count l.initial.bench) (g.B.Bench.log l.initial.bench) l.store.kept l.runs (g.B.Bench.count l.bench) (g.B.Bench.log l.bench)
     × Remembers (market_of l.today l.objects) l.scratch.entries
     × Begun l.objects l.store.kept l.scratch.positions
     × (l.store.shape ≡ l.initial.store.shape)
-    × (l.store.deferring ≡ l.initial.store.deferring)
+    × (registry_of l.store ≡ registry_of l.initial.store)
 
 abbrev pub decreases-loop-cause : goal.decreases-loop-cause
 decreases-loop-cause g l = open_of l.store.kept

@@ -3,8 +3,9 @@ use Rattle.std.specs.Prelude.{is_some}
 use Rattle.std.proofs.lemmas.List.{length-set}
 use Rattle.desk_model.specs.Effect.{notified}
 use Rattle.object_store.specs.Slots.{market_of, state_of}
-use Rattle.object_store.specs.Shape.{IsJoined, role_at}
-use Rattle.object_store.specs.Store.{StoreView, HasNoMarkWhereOff, stored_at}
+use Rattle.desk_model.specs.Links.{CanTell}
+use Rattle.object_store.specs.Shape.{registrations_of, IsJoined, role_at}
+use Rattle.object_store.specs.Store.{registry_of, StoreView, HasNoMarkWhereOff, stored_at}
 use Rattle.object_store.proofs.Joined.{there_given}
 use Rattle.object_store.proofs.Telling.{notified_state, tells_shape, stored_marks}
 use Rattle.lazy_objects.proofs.changes.tell_changed.Goals as goal
@@ -21,11 +22,12 @@ returns-clause-state c =
     let e = c.outdate.ensures in
     let shape = ap (λ (v : StoreView). v.shape) e in
     let long = ap (λ (v : StoreView). length v.kept) e ∙ length-set c.args.store.now.kept c.args.object (record (stored_at c.args.store.now c.args.object) { current = false }) ∙ c.requires.kept in
-    notified_state c.args.today c.args.objects.now c.outdate.new.self c.changed.new.self c.args.object c.requires.linked (subst (IsJoined (market_of c.args.today c.args.objects.now)) (sym shape) c.requires.joined) c.requires.unwatched
+    notified_state c.args.today c.args.objects.now c.outdate.new.self c.changed.new.self c.args.object (subst (λ (v : StoreView). CanTell (market_of c.args.today c.args.objects.now) (registrations_of v.shape) v.noticed) (sym e) c.requires.told)
+    (subst (IsJoined (market_of c.args.today c.args.objects.now)) (sym shape) c.requires.joined)
     (subst (λ (n : ℕ). c.args.object < n) (sym long) c.requires.within)
     (subst HasNoMarkWhereOff (sym e) (stored_marks c.args.store.now c.args.object (record (stored_at c.args.store.now c.args.object) { current = false }) refl c.requires.sources))
     (record { switch = c.changed.ensures.switch; held = c.changed.ensures.held; told = c.changed.ensures.told })
-    ∙ ap (λ (v : StoreView). notified c.args.object (state_of c.args.today c.args.objects.now v.kept v.deferring)) e
+    ∙ ap (λ (v : StoreView). notified c.args.object (state_of c.args.today c.args.objects.now v.kept (registry_of v))) e
 
 pub returns-clause-shape : goal.returns-clause-shape
 returns-clause-shape c = tells_shape c.args.object c.outdate.new.self c.changed.new.self (record { switch = c.changed.ensures.switch; held = c.changed.ensures.held; told = c.changed.ensures.told })

@@ -8,7 +8,7 @@ use Rattle.lazy_objects.proofs.weights.rewatch.Goals as goal
 
 pub returns-then-weight-eq0-clause-rewatched : goal.returns-then-weight-eq0-clause-rewatched
 returns-then-weight-eq0-clause-rewatched c = rewatched_less c.args.composite c.args.member c.args.weight c.args.parts.now c.args.store.now c.requires.watched c.unwatch.new.self
-    (is_zero c.args.weight c.if-weight-eq0.true (to_z-of_z w64 c.args.weight c.ranges.weight)) c.unwatch.ensures
+    (is_zero c.args.weight c.if-weight-eq0.true (to_z-of_z w64 c.args.weight c.ranges.weight)) c.unwatch.ensures.leaves
 
 pub returns-then-has_member-clause-rewatched : goal.returns-then-has_member-clause-rewatched
 returns-then-has_member-clause-rewatched c = rewatched_same c.args.composite c.args.member c.args.weight c.args.parts.now c.args.store.now c.requires.watched

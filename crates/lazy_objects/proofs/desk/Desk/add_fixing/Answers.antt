@@ -1,24 +1,26 @@
-use Rattle.std.proofs.Common.{arith, ◌≡◌, List, length, Some, sym, ◌∙◌, ap, subst}
-use Rattle.std.specs.Prelude.{Ok, Err}
+use Rattle.std.proofs.Common.{refl, arith, ◌≡◌, List, length, Some, sym, ◌∙◌, ap, subst}
+use Rattle.std.specs.Prelude.{slice_index_or, Ok, Err}
 use Rattle.std.proofs.lemmas.Result.{err_from_is_err_and}
 use Rattle.std.proofs.lemmas.List.{length-set}
 use Rattle.desk_terms.specs.declared.terms.Terms.TheVariants.{Index}
 use Rattle.desk_terms.specs.declared.kind.Kind.TheVariants as kind
 use Rattle.flow_terms.specs.Fixings.{with_fixing}
 use Rattle.desk_model.specs.declared.slot.Slot.{Slot}
-use Rattle.desk_model.specs.declared.slot.Slot.TheVariants.{Live}
+use Rattle.desk_model.specs.declared.slot.Slot.TheVariants.{Free, Live}
 use Rattle.desk_model.specs.Market.{kind_at}
 use Rattle.desk_model.specs.Uses.{index_at, fixings_in}
 use Rattle.desk_model.specs.State.{State}
-use Rattle.desk_model.specs.Links.{IsLinked}
+use Rattle.desk_model.specs.Links.{CanTell}
 use Rattle.desk_model.specs.Sound.{IsSound, KeepsCurrent}
 use Rattle.desk_model.specs.Effect.{fixing_added}
-use Rattle.object_store.specs.Slots.{market_of, state_of, AreUnwatched}
-use Rattle.object_store.specs.Shape.{IsJoined}
-use Rattle.object_store.proofs.Telling.{given_set, unwatched_set, no_marks}
-use Rattle.lazy_objects.proofs.Revised.{kind_within}
+use Rattle.object_store.specs.Slots.{market_of, state_of}
+use Rattle.object_store.specs.Store.{registry_of}
+use Rattle.object_store.specs.Shape.{registrations_of, IsJoined}
+use Rattle.object_store.proofs.Telling.{given_set, no_marks}
+use Rattle.lazy_objects.proofs.Revised.{tells_then, kind_within}
 use Rattle.lazy_objects.proofs.Ends.{keeps_same}
 use Rattle.lazy_objects.proofs.Stored.{index_there, fixings_are, refused_as, joined_fixing, fixing_links, fixing_left}
+use Rattle.object_store.proofs.Joined.{terms_watch}
 use Rattle.lazy_objects.proofs.desk.Desk.add_fixing.Goals as goal
 
 pub returns-in_err-store_fixing-clause-exists : goal.returns-in_err-store_fixing-clause-exists
@@ -34,9 +36,9 @@ returns-in_err-store_fixing-clause-exists c kept =
 pub returns-in_err-store_fixing-clause-keeps : goal.returns-in_err-store_fixing-clause-keeps
 returns-in_err-store_fixing-clause-keeps c =
     let same = c.in_err-store_fixing.ensures.same in
-    subst (λ (t : State). KeepsCurrent t (state_of c.self.inside.today c.store_fixing.new.self c.self.inside.store.kept c.self.inside.store.deferring)) c.self.view_is
-    (subst (λ (l : List Slot). KeepsCurrent (state_of c.self.inside.today c.self.inside.objects c.self.inside.store.kept c.self.inside.store.deferring) (state_of c.self.inside.today l c.self.inside.store.kept c.self.inside.store.deferring)) (sym same)
-    (keeps_same (state_of c.self.inside.today c.self.inside.objects c.self.inside.store.kept c.self.inside.store.deferring) c.self.inside.scratch c.self.invariant.0))
+    subst (λ (t : State). KeepsCurrent t (state_of c.self.inside.today c.store_fixing.new.self c.self.inside.store.kept (registry_of c.self.inside.store))) c.self.view_is
+    (subst (λ (l : List Slot). KeepsCurrent (state_of c.self.inside.today c.self.inside.objects c.self.inside.store.kept (registry_of c.self.inside.store)) (state_of c.self.inside.today l c.self.inside.store.kept (registry_of c.self.inside.store))) (sym same)
+    (keeps_same (state_of c.self.inside.today c.self.inside.objects c.self.inside.store.kept (registry_of c.self.inside.store)) c.self.inside.scratch c.self.invariant.0))
 
 pub tell_changed-requires-clause-within : goal.tell_changed-requires-clause-within
 tell_changed-requires-clause-within c =
@@ -72,20 +74,15 @@ tell_changed-requires-clause-joined c =
 pub tell_changed-requires-clause-sources : goal.tell_changed-requires-clause-sources
 tell_changed-requires-clause-sources c = no_marks c.self.inside.today c.self.inside.objects c.self.inside.store c.self.invariant.0.sources
 
-pub tell_changed-requires-clause-unwatched : goal.tell_changed-requires-clause-unwatched
-tell_changed-requires-clause-unwatched c =
+pub tell_changed-requires-clause-told : goal.tell_changed-requires-clause-told
+tell_changed-requires-clause-told c =
     let is = subst (λ (t : State). kind_at t.market c.args.index ≡ Some kind.Index) (sym c.self.view_is) c.requires.index in
     let f = index_there (market_of c.self.inside.today c.self.inside.objects) c.args.index is in
     let are = c.in_ok-store_fixing.ensures.added f.0 f.1 f.2 in
-    subst AreUnwatched (sym are) (unwatched_set c.self.inside.objects c.args.index (Index f.0 (with_fixing f.1 c.args.day c.args.rate)) (kind_within c.self.inside.objects c.self.inside.today c.args.index kind.Index is) c.self.invariant.0.unwatched)
-
-pub tell_changed-requires-clause-linked : goal.tell_changed-requires-clause-linked
-tell_changed-requires-clause-linked c =
-    let is = subst (λ (t : State). kind_at t.market c.args.index ≡ Some kind.Index) (sym c.self.view_is) c.requires.index in
-    let f = index_there (market_of c.self.inside.today c.self.inside.objects) c.args.index is in
-    let are = c.in_ok-store_fixing.ensures.added f.0 f.1 f.2 in
-    subst (λ (l : List Slot). IsLinked (market_of c.self.inside.today l)) (sym are)
-    (fixing_links c.self.inside.today c.self.inside.objects c.self.inside.store.kept c.self.inside.store.deferring c.self.inside.scratch c.self.invariant.0 c.args.index f.0 f.1 c.args.day c.args.rate f.2)
+    subst (λ (l : List Slot). CanTell (market_of c.self.inside.today l) (registrations_of c.self.inside.store.shape) c.self.inside.store.noticed) (sym are)
+    (tells_then c.self.inside.today c.self.inside.objects c.args.index (Index f.0 (with_fixing f.1 c.args.day c.args.rate)) (kind_within c.self.inside.objects c.self.inside.today c.args.index kind.Index is)
+    (terms_watch (slice_index_or c.self.inside.objects c.args.index Free) (Index f.0 f.1) f.2) c.self.inside.store c.self.inside.store c.self.invariant.0.whole refl
+    (fixing_links c.self.inside.today c.self.inside.objects c.self.inside.store.kept (registry_of c.self.inside.store) c.self.inside.scratch c.self.invariant.0 c.args.index f.0 f.1 c.args.day c.args.rate f.2))
 
 pub invariant_of-self-2 : goal.invariant_of-self-2
 invariant_of-self-2 c =
@@ -124,7 +121,7 @@ returns-clause-keeps c =
     let d = fixing_left c.self.inside.today c.self.inside.objects c.store_fixing.new.self c.self.inside.store c.tell_changed.new.store c.self.inside.scratch c.args.index f.0 f.1 c.args.day c.args.rate
     c.self.invariant.0 c.self.invariant.1 (kind_within c.self.inside.objects c.self.inside.today c.args.index kind.Index is) f.2 are
     c.tell_changed.ensures.state c.tell_changed.ensures.shape in
-    subst (λ (t : State). KeepsCurrent t (state_of c.self.inside.today c.store_fixing.new.self c.tell_changed.new.store.kept c.tell_changed.new.store.deferring)) c.self.view_is d.changed.keeps
+    subst (λ (t : State). KeepsCurrent t (state_of c.self.inside.today c.store_fixing.new.self c.tell_changed.new.store.kept (registry_of c.tell_changed.new.store))) c.self.view_is d.changed.keeps
 
 pub returns-clause-sound : goal.returns-clause-sound
 returns-clause-sound c calc sound =

@@ -3,6 +3,7 @@ use Rattle.desk_model.specs.State.{State}
 use Rattle.desk_model.specs.Sound.{IsSound, KeepsCurrent}
 use Rattle.desk_model.specs.Effect.{deferred}
 use Rattle.object_store.specs.Slots.{state_of}
+use Rattle.object_store.specs.Store.{registry_of}
 use Rattle.lazy_objects.proofs.Flagged.{deferred_left}
 use Rattle.lazy_objects.proofs.desk.Desk.defer.Goals as goal
 
@@ -19,7 +20,7 @@ returns-clause-set c =
 pub returns-clause-keeps : goal.returns-clause-keeps
 returns-clause-keeps c =
     let d = deferred_left c.self.inside.today c.self.inside.objects c.self.inside.store c.defer.new.self c.self.inside.scratch c.self.invariant.0 c.self.invariant.1 c.defer.ensures in
-    subst (λ (t : State). KeepsCurrent t (state_of c.self.inside.today c.self.inside.objects c.defer.new.self.kept c.defer.new.self.deferring)) c.self.view_is d.changed.keeps
+    subst (λ (t : State). KeepsCurrent t (state_of c.self.inside.today c.self.inside.objects c.defer.new.self.kept (registry_of c.defer.new.self))) c.self.view_is d.changed.keeps
 
 pub returns-clause-sound : goal.returns-clause-sound
 returns-clause-sound c calc sound =

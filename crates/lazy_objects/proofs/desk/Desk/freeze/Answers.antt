@@ -4,6 +4,7 @@ use Rattle.desk_model.specs.Links.{is_lazy_at}
 use Rattle.desk_model.specs.Sound.{IsSound, KeepsCurrent}
 use Rattle.desk_model.specs.Effect.{frozen_set}
 use Rattle.object_store.specs.Slots.{market_of, state_of}
+use Rattle.object_store.specs.Store.{registry_of}
 use Rattle.object_store.proofs.Joined.{lazy_there}
 use Rattle.lazy_objects.proofs.Flagged.{frozen_left}
 use Rattle.lazy_objects.proofs.desk.Desk.freeze.Goals as goal
@@ -29,7 +30,7 @@ pub returns-clause-keeps : goal.returns-clause-keeps
 returns-clause-keeps c =
     let lazy = subst (λ (t : State). is_lazy_at t.market c.args.object ≡ true) (sym c.self.view_is) c.requires.lazy in
     let d = frozen_left c.self.inside.today c.self.inside.objects c.self.inside.store c.freeze.new.self c.self.inside.scratch c.self.invariant.0 c.self.invariant.1 c.args.object lazy c.freeze.ensures in
-    subst (λ (t : State). KeepsCurrent t (state_of c.self.inside.today c.self.inside.objects c.freeze.new.self.kept c.freeze.new.self.deferring)) c.self.view_is d.changed.keeps
+    subst (λ (t : State). KeepsCurrent t (state_of c.self.inside.today c.self.inside.objects c.freeze.new.self.kept (registry_of c.freeze.new.self))) c.self.view_is d.changed.keeps
 
 pub returns-clause-sound : goal.returns-clause-sound
 returns-clause-sound c calc sound =

@@ -1,36 +1,30 @@
-use Rattle.std.proofs.Common.{Bool, sym, subst}
+use Rattle.std.proofs.Common.{sym, subst}
 use Rattle.std.specs.Prelude.{IfOk, OnErr}
 use Rattle.ask_walk.specs.declared.recalced.Recalced.{Recalced}
 use Rattle.desk_model.specs.State.{State}
-use Rattle.desk_model.specs.Sound.{IsSound}
 use Rattle.ask_walk.specs.Recalcs.{RecalcEnds, RecalcStops}
 use Rattle.object_store.specs.Shape.{Shape, IsJoined}
 use Rattle.object_store.specs.Slots.{market_of, state_of}
-use Rattle.lazy_objects.specs.Stands.{Stands}
+use Rattle.object_store.specs.Store.{registry_of}
 use Rattle.lazy_objects.proofs.Ends.{stands_then}
 use Rattle.lazy_objects.proofs.desk.Desk.recalc.Goals as goal
 
 pub invariant_of-self : goal.invariant_of-self
-invariant_of-self g c =
-    let s = state_of c.self.inside.today c.self.inside.objects c.self.inside.store.kept c.self.inside.store.deferring in (
-      subst (λ (on : Bool). Stands (state_of c.self.inside.today c.self.inside.objects c.recalc.new.store.kept on) c.recalc.new.scratch) (sym c.recalc.ensures.switch)
-          (stands_then (g.B.Bench.calc c.args.bench.now) s c.recalc.new.store.kept c.self.inside.scratch c.recalc.new.scratch c.self.invariant.0 c.recalc.ensures.stays c.recalc.ensures.empty),
-      subst (λ (h : Shape). IsJoined (market_of c.self.inside.today c.self.inside.objects) h) (sym c.recalc.ensures.shape) c.self.invariant.1,
-    )
+invariant_of-self g c = (
+  stands_then (g.B.Bench.calc c.args.bench.now) c.self.inside.today c.self.inside.objects c.self.inside.store.kept c.recalc.new.store.kept (registry_of c.self.inside.store) (registry_of c.recalc.new.store)
+      c.self.inside.scratch c.recalc.new.scratch c.self.invariant.0 c.recalc.ensures.stays c.recalc.ensures.empty,
+  subst (λ (h : Shape). IsJoined (market_of c.self.inside.today c.self.inside.objects) h) (sym c.recalc.ensures.shape) c.self.invariant.1,
+)
 
 pub returns-clause-ends : goal.returns-clause-ends
 returns-clause-ends g c =
-    subst (λ (on : Bool). IfOk c.recalc.result (λ (answer : Recalced). RecalcEnds (g.B.Bench.calc c.args.bench.now) c.args.object c.args.self.now (state_of c.self.inside.today c.self.inside.objects c.recalc.new.store.kept on) answer
-    (g.B.Bench.count c.args.bench.now) (g.B.Bench.count c.recalc.new.bench) (g.B.Bench.log c.args.bench.now) (g.B.Bench.log c.recalc.new.bench))) (sym c.recalc.ensures.switch)
-    (subst (λ (t : State). IfOk c.recalc.result (λ (answer : Recalced). RecalcEnds (g.B.Bench.calc c.args.bench.now) c.args.object t (state_of c.self.inside.today c.self.inside.objects c.recalc.new.store.kept c.self.inside.store.deferring) answer
-    (g.B.Bench.count c.args.bench.now) (g.B.Bench.count c.recalc.new.bench) (g.B.Bench.log c.args.bench.now) (g.B.Bench.log c.recalc.new.bench))) c.self.view_is c.recalc.ensures.ends)
+    subst (λ (t : State). IfOk c.recalc.result (λ (answer : Recalced). RecalcEnds (g.B.Bench.calc c.args.bench.now) c.args.object t (state_of c.self.inside.today c.self.inside.objects c.recalc.new.store.kept (registry_of c.recalc.new.store)) answer
+    (g.B.Bench.count c.args.bench.now) (g.B.Bench.count c.recalc.new.bench) (g.B.Bench.log c.args.bench.now) (g.B.Bench.log c.recalc.new.bench))) c.self.view_is c.recalc.ensures.ends
 
 pub returns-clause-stops : goal.returns-clause-stops
 returns-clause-stops g c =
-    subst (λ (on : Bool). OnErr c.recalc.result (RecalcStops (g.B.Bench.calc c.args.bench.now) c.args.object c.args.self.now (state_of c.self.inside.today c.self.inside.objects c.recalc.new.store.kept on)
-    (g.B.Bench.count c.args.bench.now) (g.B.Bench.count c.recalc.new.bench) (g.B.Bench.log c.args.bench.now) (g.B.Bench.log c.recalc.new.bench))) (sym c.recalc.ensures.switch)
-    (subst (λ (t : State). OnErr c.recalc.result (RecalcStops (g.B.Bench.calc c.args.bench.now) c.args.object t (state_of c.self.inside.today c.self.inside.objects c.recalc.new.store.kept c.self.inside.store.deferring)
-    (g.B.Bench.count c.args.bench.now) (g.B.Bench.count c.recalc.new.bench) (g.B.Bench.log c.args.bench.now) (g.B.Bench.log c.recalc.new.bench))) c.self.view_is c.recalc.ensures.stops)
+    subst (λ (t : State). OnErr c.recalc.result (RecalcStops (g.B.Bench.calc c.args.bench.now) c.args.object t (state_of c.self.inside.today c.self.inside.objects c.recalc.new.store.kept (registry_of c.recalc.new.store))
+    (g.B.Bench.count c.args.bench.now) (g.B.Bench.count c.recalc.new.bench) (g.B.Bench.log c.args.bench.now) (g.B.Bench.log c.recalc.new.bench))) c.self.view_is c.recalc.ensures.stops
 
 pub returns-clause-sound : goal.returns-clause-sound
-returns-clause-sound g c = subst (λ (on : Bool). IsSound (g.B.Bench.calc c.args.bench.now) (state_of c.self.inside.today c.self.inside.objects c.recalc.new.store.kept on)) (sym c.recalc.ensures.switch) c.recalc.ensures.stays.sound
+returns-clause-sound g c = c.recalc.ensures.stays.sound

@@ -4,6 +4,7 @@ use Rattle.desk_model.specs.State.{State}
 use Rattle.desk_model.specs.Sound.{IsSound, KeepsCurrent}
 use Rattle.desk_model.specs.Effect.{dropped}
 use Rattle.object_store.specs.Slots.{state_of}
+use Rattle.object_store.specs.Store.{registry_of}
 use Rattle.lazy_objects.proofs.Dropped.{drops, given_within}
 use Rattle.object_store.proofs.Joined.{joined_dropped}
 use Rattle.lazy_objects.proofs.desk.Desk.remove.Goals as goal
@@ -31,7 +32,7 @@ returns-clause-keeps c =
     let unused = subst (λ (t : State). least_user t.market c.args.object ≡ None) (sym c.self.view_is) c.requires.unused in
     let slots = c.remove.ensures in
     let d = drops c.self.inside.today c.self.inside.objects c.remove.new.self c.self.inside.store c.forget.new.self c.self.inside.scratch c.args.object c.self.invariant.0 c.requires.apart unused slots c.forget.ensures in
-    subst (λ (t : State). KeepsCurrent t (state_of c.self.inside.today c.remove.new.self c.forget.new.self.kept c.forget.new.self.deferring)) c.self.view_is d.keeps
+    subst (λ (t : State). KeepsCurrent t (state_of c.self.inside.today c.remove.new.self c.forget.new.self.kept (registry_of c.forget.new.self))) c.self.view_is d.keeps
 
 pub returns-clause-sound : goal.returns-clause-sound
 returns-clause-sound c calc sound =

@@ -7,18 +7,21 @@ use Rattle.desk_terms.specs.declared.kind.Wanted.TheVariants as wanted
 use Rattle.desk_terms.specs.Terms.{optional_reference}
 use Rattle.desk_model.specs.declared.kept.Kept.{Kept}
 use Rattle.desk_model.specs.declared.slot.Slot.{Slot}
-use Rattle.desk_model.specs.declared.slot.Slot.TheVariants.{Live}
+use Rattle.desk_model.specs.declared.slot.Slot.TheVariants.{Free, Live}
 use Rattle.desk_model.specs.Held.{changeable}
 use Rattle.desk_model.specs.Market.{kind_at, terms_at}
 use Rattle.desk_model.specs.State.{State}
-use Rattle.desk_model.specs.Links.{IsLinked, Serve}
+use Rattle.desk_model.specs.Links.{CanTell, Serve}
 use Rattle.desk_model.specs.Sound.{IsSound, KeepsCurrent}
 use Rattle.desk_model.specs.Effect.{engine_set}
-use Rattle.object_store.specs.Slots.{market_of, state_of, engine_in, AreUnwatched}
-use Rattle.object_store.specs.Shape.{IsJoined}
-use Rattle.object_store.proofs.Telling.{given_set, unwatched_set, kept_marks, no_marks}
-use Rattle.lazy_objects.proofs.Revised.{kind_within}
-use Rattle.lazy_objects.proofs.Repriced.{priced_there, engine_watched, engine_new, joined_repriced, engine_links, engine_left}
+use Rattle.object_store.specs.Slots.{market_of, state_of, engine_in}
+use Rattle.object_store.specs.Store.{registry_of}
+use Rattle.object_store.specs.Shape.{registrations_of, IsJoined}
+use Rattle.object_store.proofs.Telling.{given_set, kept_marks, no_marks}
+use Rattle.lazy_objects.proofs.Revised.{tells_then, kind_within}
+use Rattle.lazy_objects.proofs.Repriced.{moves_kept, priced_there, engine_watched, engine_new, joined_repriced, engine_links, engine_left}
+use Rattle.std.specs.Prelude.{slice_index_or}
+use Rattle.object_store.proofs.Joined.{terms_watch}
 use Rattle.lazy_objects.proofs.desk.Desk.set_engine.Goals as goal
 
 pub watch_instead-requires-clause-watched : goal.watch_instead-requires-clause-watched
@@ -50,15 +53,11 @@ tell_changed-requires-clause-joined c =
     (joined_repriced c.self.inside.today c.self.inside.objects c.args.instrument f.0 c.engine_of-held.result c.self.inside.store c.self.invariant.1 f.1 c.self.invariant.0.kinds c.self.invariant.0.whole.today c.args.engine c.watch_instead.new.store (kind_within c.self.inside.objects c.self.inside.today c.args.instrument kind.Flows instrument) c.in_ok-watch_instead.ensures.moves)
 
 pub tell_changed-requires-clause-sources : goal.tell_changed-requires-clause-sources
-tell_changed-requires-clause-sources c = kept_marks c.self.inside.store c.watch_instead.new.store (record { kept = c.in_ok-watch_instead.ensures.moves.kept; switch = c.in_ok-watch_instead.ensures.moves.switch })
-    (no_marks c.self.inside.today c.self.inside.objects c.self.inside.store c.self.invariant.0.sources)
-
-pub tell_changed-requires-clause-unwatched : goal.tell_changed-requires-clause-unwatched
-tell_changed-requires-clause-unwatched c =
+tell_changed-requires-clause-sources c =
     let instrument = subst (λ (t : State). kind_at t.market c.args.instrument ≡ Some kind.Flows) (sym c.self.view_is) c.requires.instrument in
     let f = priced_there (market_of c.self.inside.today c.self.inside.objects) c.args.instrument instrument c.engine_of-held.result c.engine_of-held.ensures in
-    let are = c.set_engine.ensures f.0 c.engine_of-held.result f.1 in
-    subst AreUnwatched (sym are) (unwatched_set c.self.inside.objects c.args.instrument (Flows f.0 c.args.engine) (kind_within c.self.inside.objects c.self.inside.today c.args.instrument kind.Flows instrument) c.self.invariant.0.unwatched)
+    kept_marks c.self.inside.store c.watch_instead.new.store (moves_kept c.self.inside.today c.self.inside.objects c.args.instrument f.0 c.engine_of-held.result c.self.inside.store c.self.invariant.1 f.1 c.self.invariant.0.kinds c.self.invariant.0.whole.today c.args.engine c.watch_instead.new.store c.in_ok-watch_instead.ensures.moves)
+    (no_marks c.self.inside.today c.self.inside.objects c.self.inside.store c.self.invariant.0.sources)
 
 pub tell_changed-requires-clause-within : goal.tell_changed-requires-clause-within
 tell_changed-requires-clause-within c =
@@ -77,14 +76,17 @@ tell_changed-requires-clause-kept c =
     ap (λ (k : List Kept). length k) c.in_ok-watch_instead.ensures.moves.kept ∙ c.self.invariant.0.whole.length
     ∙ sym (ap (λ (l : List Slot). length l) are ∙ length-set c.self.inside.objects c.args.instrument (Live (Flows f.0 c.args.engine)))
 
-pub tell_changed-requires-clause-linked : goal.tell_changed-requires-clause-linked
-tell_changed-requires-clause-linked c =
+pub tell_changed-requires-clause-told : goal.tell_changed-requires-clause-told
+tell_changed-requires-clause-told c =
     let instrument = subst (λ (t : State). kind_at t.market c.args.instrument ≡ Some kind.Flows) (sym c.self.view_is) c.requires.instrument in
     let serve = subst (λ (t : State). Serve t.market (optional_reference wanted.Engine c.args.engine)) (sym c.self.view_is) c.requires.engine in
     let f = priced_there (market_of c.self.inside.today c.self.inside.objects) c.args.instrument instrument c.engine_of-held.result c.engine_of-held.ensures in
     let are = c.set_engine.ensures f.0 c.engine_of-held.result f.1 in
-    subst (λ (l : List Slot). IsLinked (market_of c.self.inside.today l)) (sym are)
-    (engine_links c.self.inside.today c.self.inside.objects c.self.inside.store.kept c.self.inside.store.deferring c.self.inside.scratch c.self.invariant.0 c.args.instrument f.0 c.engine_of-held.result c.args.engine f.1 instrument serve)
+    subst (λ (l : List Slot). CanTell (market_of c.self.inside.today l) (registrations_of c.watch_instead.new.store.shape) c.watch_instead.new.store.noticed) (sym are)
+    (tells_then c.self.inside.today c.self.inside.objects c.args.instrument (Flows f.0 c.args.engine) (kind_within c.self.inside.objects c.self.inside.today c.args.instrument kind.Flows instrument)
+    (terms_watch (slice_index_or c.self.inside.objects c.args.instrument Free) (Flows f.0 c.engine_of-held.result) f.1) c.self.inside.store c.watch_instead.new.store c.self.invariant.0.whole
+    (moves_kept c.self.inside.today c.self.inside.objects c.args.instrument f.0 c.engine_of-held.result c.self.inside.store c.self.invariant.1 f.1 c.self.invariant.0.kinds c.self.invariant.0.whole.today c.args.engine c.watch_instead.new.store c.in_ok-watch_instead.ensures.moves).registry
+    (engine_links c.self.inside.today c.self.inside.objects c.self.inside.store.kept (registry_of c.self.inside.store) c.self.inside.scratch c.self.invariant.0 c.args.instrument f.0 c.engine_of-held.result c.args.engine f.1 instrument serve))
 
 pub invariant_of-self-2 : goal.invariant_of-self-2
 invariant_of-self-2 c =
@@ -117,7 +119,7 @@ returns-clause-keeps c =
     let d = engine_left c.self.inside.today c.self.inside.objects c.set_engine.new.self c.self.inside.store c.watch_instead.new.store c.tell_changed.new.store c.self.inside.scratch c.args.instrument f.0 c.engine_of-held.result c.args.engine
     c.self.invariant.0 c.self.invariant.1 f.1 instrument serve are c.in_ok-watch_instead.ensures.moves
     c.tell_changed.ensures.state c.tell_changed.ensures.shape in
-    subst (λ (t : State). KeepsCurrent t (state_of c.self.inside.today c.set_engine.new.self c.tell_changed.new.store.kept c.tell_changed.new.store.deferring)) c.self.view_is d.changed.keeps
+    subst (λ (t : State). KeepsCurrent t (state_of c.self.inside.today c.set_engine.new.self c.tell_changed.new.store.kept (registry_of c.tell_changed.new.store))) c.self.view_is d.changed.keeps
 
 pub returns-clause-sound : goal.returns-clause-sound
 returns-clause-sound c calc sound =

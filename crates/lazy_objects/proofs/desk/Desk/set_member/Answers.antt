@@ -17,11 +17,11 @@ use Rattle.desk_model.specs.Effect.{revised, member_set}
 use Rattle.object_store.specs.Slots.{market_of, state_of}
 use Rattle.object_store.specs.Shape.{Shape, IsJoined, observed_by}
 use Rattle.object_store.specs.Parts.{parts_in}
-use Rattle.object_store.specs.Store.{IsRewatched}
-use Rattle.object_store.proofs.Joined.{joined_composite, composite_watches, revised_market}
+use Rattle.object_store.specs.Store.{registry_of, IsRewatched}
+use Rattle.object_store.proofs.Joined.{joined_composite, composite_slot, composite_watches, revised_market}
 use Rattle.object_store.proofs.Telling.{kept_state, kept_marks, no_marks}
-use Rattle.lazy_objects.proofs.Revised.{kind_within}
-use Rattle.lazy_objects.proofs.Weighed.{MayWeigh, weight_as, member_links, member_changed}
+use Rattle.lazy_objects.proofs.Revised.{tells_then, kind_within}
+use Rattle.lazy_objects.proofs.Weighed.{MayWeigh, rewatched_kept, weight_as, member_links, member_changed}
 use Rattle.lazy_objects.proofs.desk.Desk.set_member.Goals as goal
 
 pub returns-then-has_weight-clause-set : goal.returns-then-has_weight-clause-set
@@ -31,16 +31,20 @@ returns-then-has_weight-clause-set c =
     let parts = c.parts_of-parts.ensures in
     let held = ap (λ (p : List Part). int_eq (weight_of p c.args.member) c.args.weight) (sym parts) ∙ ap (int_eq (weight_of c.parts_of-parts.result.now c.args.member)) (sym bits) ∙ sym c.has_weight.ensures ∙ c.if-has_weight.true in
     subst (λ (s : State). s ≡ member_set c.args.composite c.args.member c.args.weight s) c.self.view_is
-    (sym (weight_as (state_of c.self.inside.today c.self.inside.objects c.self.inside.store.kept c.self.inside.store.deferring) c.args.composite c.args.member c.args.weight is.0 true held))
+    (sym (weight_as (state_of c.self.inside.today c.self.inside.objects c.self.inside.store.kept (registry_of c.self.inside.store)) c.args.composite c.args.member c.args.weight is.0 true held))
 
-pub revise-requires-clause-linked : goal.revise-requires-clause-linked
-revise-requires-clause-linked c =
+pub revise-requires-clause-told : goal.revise-requires-clause-told
+revise-requires-clause-told c =
     let is = subst (λ (t : State). MayWeigh t.market c.args.composite c.args.member c.args.weight) (sym c.self.view_is) (c.requires.composite, c.requires.member, c.requires.open) in
     let bits = to_z-of_z w64 c.args.weight c.ranges.weight in
     let parts = c.parts_of-parts.ensures in
     let differs = ap (λ (p : List Part). int_eq (weight_of p c.args.member) c.args.weight) (sym parts) ∙ ap (int_eq (weight_of c.parts_of-parts.result.now c.args.member)) (sym bits) ∙ sym c.has_weight.ensures ∙ c.if-has_weight.false in
     let reweighed = c.in_ok-changed.ensures ∙ ap (with_member c.parts_of-parts.result.now c.args.member) bits ∙ ap (λ (p : List Part). with_member p c.args.member c.args.weight) parts in
-    (member_links c.self.inside.today c.self.inside.objects c.self.inside.store.kept c.self.inside.store.deferring c.self.inside.scratch c.self.invariant.0 c.args.composite c.args.member c.args.weight is differs c.in_ok-changed.changed reweighed)
+    tells_then c.self.inside.today c.self.inside.objects c.args.composite (terms_of.Composite c.in_ok-changed.changed) (kind_within c.self.inside.objects c.self.inside.today c.args.composite Composite is.0)
+    (composite_slot (slot_at (market_of c.self.inside.today c.self.inside.objects) c.args.composite) is.0).2 c.self.inside.store c.rewatch.new.store c.self.invariant.0.whole
+    (rewatched_kept c.self.inside.today c.self.inside.objects c.self.inside.store c.rewatch.new.store c.args.composite c.in_ok-changed.changed c.self.invariant.1 is.0
+    (subst (λ (p : List Part). IsRewatched c.args.composite p c.self.inside.store c.rewatch.new.store) (sym c.in_ok-changed.ensures) c.in_ok-rewatch.ensures.rewatched)).registry
+    (member_links c.self.inside.today c.self.inside.objects c.self.inside.store.kept (registry_of c.self.inside.store) c.self.inside.scratch c.self.invariant.0 c.args.composite c.args.member c.args.weight is differs c.in_ok-changed.changed reweighed)
 
 pub rewatch-requires-clause-watched : goal.rewatch-requires-clause-watched
 rewatch-requires-clause-watched c = λ x.
@@ -56,7 +60,10 @@ revise-requires-clause-joined c =
     (joined_composite c.self.inside.today c.self.inside.objects c.self.inside.store c.rewatch.new.store c.args.composite c.in_ok-changed.changed c.self.invariant.1 (kind_within c.self.inside.objects c.self.inside.today c.args.composite Composite is.0) is.0 rewatched)
 
 pub revise-requires-clause-sources : goal.revise-requires-clause-sources
-revise-requires-clause-sources c = kept_marks c.self.inside.store c.rewatch.new.store (record { kept = c.in_ok-rewatch.ensures.rewatched.kept; switch = c.in_ok-rewatch.ensures.rewatched.switch })
+revise-requires-clause-sources c =
+    let is = subst (λ (t : State). MayWeigh t.market c.args.composite c.args.member c.args.weight) (sym c.self.view_is) (c.requires.composite, c.requires.member, c.requires.open) in
+    kept_marks c.self.inside.store c.rewatch.new.store (rewatched_kept c.self.inside.today c.self.inside.objects c.self.inside.store c.rewatch.new.store c.args.composite c.in_ok-changed.changed c.self.invariant.1 is.0
+    (subst (λ (p : List Part). IsRewatched c.args.composite p c.self.inside.store c.rewatch.new.store) (sym c.in_ok-changed.ensures) c.in_ok-rewatch.ensures.rewatched))
     (no_marks c.self.inside.today c.self.inside.objects c.self.inside.store c.self.invariant.0.sources)
 
 pub invariant_of-self-2 : goal.invariant_of-self-2
@@ -67,10 +74,11 @@ invariant_of-self-2 c =
     let differs = ap (λ (p : List Part). int_eq (weight_of p c.args.member) c.args.weight) (sym parts) ∙ ap (int_eq (weight_of c.parts_of-parts.result.now c.args.member)) (sym bits) ∙ sym c.has_weight.ensures ∙ c.if-has_weight.false in
     let reweighed = c.in_ok-changed.ensures ∙ ap (with_member c.parts_of-parts.result.now c.args.member) bits ∙ ap (λ (p : List Part). with_member p c.args.member c.args.weight) parts in
     let e = c.revise.ensures.state
-    ∙ ap (revised c.args.composite (terms_of.Composite c.in_ok-changed.changed)) (kept_state c.self.inside.today c.self.inside.objects c.self.inside.store c.rewatch.new.store (record { kept = c.in_ok-rewatch.ensures.rewatched.kept; switch = c.in_ok-rewatch.ensures.rewatched.switch })) in
-    let d = member_changed c.self.inside.today c.self.inside.objects c.self.inside.store.kept c.self.inside.store.deferring c.self.inside.scratch c.self.invariant.0 c.args.composite c.args.member c.args.weight is differs c.in_ok-changed.changed reweighed
-    (state_of c.self.inside.today c.revise.new.objects c.revise.new.store.kept c.revise.new.store.deferring) e in
-    let market = ap (λ (t : State). t.market) e ∙ revised_market c.args.composite (terms_of.Composite c.in_ok-changed.changed) (state_of c.self.inside.today c.self.inside.objects c.self.inside.store.kept c.self.inside.store.deferring) in
+    ∙ ap (revised c.args.composite (terms_of.Composite c.in_ok-changed.changed)) (kept_state c.self.inside.today c.self.inside.objects c.self.inside.store c.rewatch.new.store (rewatched_kept c.self.inside.today c.self.inside.objects c.self.inside.store c.rewatch.new.store c.args.composite c.in_ok-changed.changed c.self.invariant.1 is.0
+    (subst (λ (p : List Part). IsRewatched c.args.composite p c.self.inside.store c.rewatch.new.store) (sym c.in_ok-changed.ensures) c.in_ok-rewatch.ensures.rewatched))) in
+    let d = member_changed c.self.inside.today c.self.inside.objects c.self.inside.store.kept (registry_of c.self.inside.store) c.self.inside.scratch c.self.invariant.0 c.args.composite c.args.member c.args.weight is differs c.in_ok-changed.changed reweighed
+    (state_of c.self.inside.today c.revise.new.objects c.revise.new.store.kept (registry_of c.revise.new.store)) e in
+    let market = ap (λ (t : State). t.market) e ∙ revised_market c.args.composite (terms_of.Composite c.in_ok-changed.changed) (state_of c.self.inside.today c.self.inside.objects c.self.inside.store.kept (registry_of c.self.inside.store)) in
     let rewatched = subst (λ (p : List Part). IsRewatched c.args.composite p c.self.inside.store c.rewatch.new.store) (sym c.in_ok-changed.ensures) c.in_ok-rewatch.ensures.rewatched in (
       d.stands,
       subst (λ (h : Shape). IsJoined (market_of c.self.inside.today c.revise.new.objects) h) (sym c.revise.ensures.shape)
@@ -86,9 +94,10 @@ returns-clause-set c =
     let differs = ap (λ (p : List Part). int_eq (weight_of p c.args.member) c.args.weight) (sym parts) ∙ ap (int_eq (weight_of c.parts_of-parts.result.now c.args.member)) (sym bits) ∙ sym c.has_weight.ensures ∙ c.if-has_weight.false in
     let reweighed = c.in_ok-changed.ensures ∙ ap (with_member c.parts_of-parts.result.now c.args.member) bits ∙ ap (λ (p : List Part). with_member p c.args.member c.args.weight) parts in
     let e = c.revise.ensures.state
-    ∙ ap (revised c.args.composite (terms_of.Composite c.in_ok-changed.changed)) (kept_state c.self.inside.today c.self.inside.objects c.self.inside.store c.rewatch.new.store (record { kept = c.in_ok-rewatch.ensures.rewatched.kept; switch = c.in_ok-rewatch.ensures.rewatched.switch })) in
-    let d = member_changed c.self.inside.today c.self.inside.objects c.self.inside.store.kept c.self.inside.store.deferring c.self.inside.scratch c.self.invariant.0 c.args.composite c.args.member c.args.weight is differs c.in_ok-changed.changed reweighed
-    (state_of c.self.inside.today c.revise.new.objects c.revise.new.store.kept c.revise.new.store.deferring) e in
+    ∙ ap (revised c.args.composite (terms_of.Composite c.in_ok-changed.changed)) (kept_state c.self.inside.today c.self.inside.objects c.self.inside.store c.rewatch.new.store (rewatched_kept c.self.inside.today c.self.inside.objects c.self.inside.store c.rewatch.new.store c.args.composite c.in_ok-changed.changed c.self.invariant.1 is.0
+    (subst (λ (p : List Part). IsRewatched c.args.composite p c.self.inside.store c.rewatch.new.store) (sym c.in_ok-changed.ensures) c.in_ok-rewatch.ensures.rewatched))) in
+    let d = member_changed c.self.inside.today c.self.inside.objects c.self.inside.store.kept (registry_of c.self.inside.store) c.self.inside.scratch c.self.invariant.0 c.args.composite c.args.member c.args.weight is differs c.in_ok-changed.changed reweighed
+    (state_of c.self.inside.today c.revise.new.objects c.revise.new.store.kept (registry_of c.revise.new.store)) e in
     d.state ∙ ap (member_set c.args.composite c.args.member c.args.weight) c.self.view_is
 
 pub returns-clause-keeps : goal.returns-clause-keeps
@@ -99,10 +108,11 @@ returns-clause-keeps c =
     let differs = ap (λ (p : List Part). int_eq (weight_of p c.args.member) c.args.weight) (sym parts) ∙ ap (int_eq (weight_of c.parts_of-parts.result.now c.args.member)) (sym bits) ∙ sym c.has_weight.ensures ∙ c.if-has_weight.false in
     let reweighed = c.in_ok-changed.ensures ∙ ap (with_member c.parts_of-parts.result.now c.args.member) bits ∙ ap (λ (p : List Part). with_member p c.args.member c.args.weight) parts in
     let e = c.revise.ensures.state
-    ∙ ap (revised c.args.composite (terms_of.Composite c.in_ok-changed.changed)) (kept_state c.self.inside.today c.self.inside.objects c.self.inside.store c.rewatch.new.store (record { kept = c.in_ok-rewatch.ensures.rewatched.kept; switch = c.in_ok-rewatch.ensures.rewatched.switch })) in
-    let d = member_changed c.self.inside.today c.self.inside.objects c.self.inside.store.kept c.self.inside.store.deferring c.self.inside.scratch c.self.invariant.0 c.args.composite c.args.member c.args.weight is differs c.in_ok-changed.changed reweighed
-    (state_of c.self.inside.today c.revise.new.objects c.revise.new.store.kept c.revise.new.store.deferring) e in
-    subst (λ (t : State). KeepsCurrent t (state_of c.self.inside.today c.revise.new.objects c.revise.new.store.kept c.revise.new.store.deferring)) c.self.view_is d.keeps
+    ∙ ap (revised c.args.composite (terms_of.Composite c.in_ok-changed.changed)) (kept_state c.self.inside.today c.self.inside.objects c.self.inside.store c.rewatch.new.store (rewatched_kept c.self.inside.today c.self.inside.objects c.self.inside.store c.rewatch.new.store c.args.composite c.in_ok-changed.changed c.self.invariant.1 is.0
+    (subst (λ (p : List Part). IsRewatched c.args.composite p c.self.inside.store c.rewatch.new.store) (sym c.in_ok-changed.ensures) c.in_ok-rewatch.ensures.rewatched))) in
+    let d = member_changed c.self.inside.today c.self.inside.objects c.self.inside.store.kept (registry_of c.self.inside.store) c.self.inside.scratch c.self.invariant.0 c.args.composite c.args.member c.args.weight is differs c.in_ok-changed.changed reweighed
+    (state_of c.self.inside.today c.revise.new.objects c.revise.new.store.kept (registry_of c.revise.new.store)) e in
+    subst (λ (t : State). KeepsCurrent t (state_of c.self.inside.today c.revise.new.objects c.revise.new.store.kept (registry_of c.revise.new.store))) c.self.view_is d.keeps
 
 pub returns-clause-sound : goal.returns-clause-sound
 returns-clause-sound c calc sound =
@@ -112,9 +122,10 @@ returns-clause-sound c calc sound =
     let differs = ap (λ (p : List Part). int_eq (weight_of p c.args.member) c.args.weight) (sym parts) ∙ ap (int_eq (weight_of c.parts_of-parts.result.now c.args.member)) (sym bits) ∙ sym c.has_weight.ensures ∙ c.if-has_weight.false in
     let reweighed = c.in_ok-changed.ensures ∙ ap (with_member c.parts_of-parts.result.now c.args.member) bits ∙ ap (λ (p : List Part). with_member p c.args.member c.args.weight) parts in
     let e = c.revise.ensures.state
-    ∙ ap (revised c.args.composite (terms_of.Composite c.in_ok-changed.changed)) (kept_state c.self.inside.today c.self.inside.objects c.self.inside.store c.rewatch.new.store (record { kept = c.in_ok-rewatch.ensures.rewatched.kept; switch = c.in_ok-rewatch.ensures.rewatched.switch })) in
-    let d = member_changed c.self.inside.today c.self.inside.objects c.self.inside.store.kept c.self.inside.store.deferring c.self.inside.scratch c.self.invariant.0 c.args.composite c.args.member c.args.weight is differs c.in_ok-changed.changed reweighed
-    (state_of c.self.inside.today c.revise.new.objects c.revise.new.store.kept c.revise.new.store.deferring) e in
+    ∙ ap (revised c.args.composite (terms_of.Composite c.in_ok-changed.changed)) (kept_state c.self.inside.today c.self.inside.objects c.self.inside.store c.rewatch.new.store (rewatched_kept c.self.inside.today c.self.inside.objects c.self.inside.store c.rewatch.new.store c.args.composite c.in_ok-changed.changed c.self.invariant.1 is.0
+    (subst (λ (p : List Part). IsRewatched c.args.composite p c.self.inside.store c.rewatch.new.store) (sym c.in_ok-changed.ensures) c.in_ok-rewatch.ensures.rewatched))) in
+    let d = member_changed c.self.inside.today c.self.inside.objects c.self.inside.store.kept (registry_of c.self.inside.store) c.self.inside.scratch c.self.invariant.0 c.args.composite c.args.member c.args.weight is differs c.in_ok-changed.changed reweighed
+    (state_of c.self.inside.today c.revise.new.objects c.revise.new.store.kept (registry_of c.revise.new.store)) e in
     d.sound calc (subst (IsSound calc) (sym c.self.view_is) sound)
 
 pub returns-in_err-changed-clause-ready : goal.returns-in_err-changed-clause-ready

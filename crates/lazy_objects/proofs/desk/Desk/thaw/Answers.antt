@@ -6,7 +6,7 @@ use Rattle.desk_model.specs.Sound.{IsSound, KeepsCurrent}
 use Rattle.desk_model.specs.Effect.{thawed}
 use Rattle.object_store.specs.Slots.{market_of, state_of}
 use Rattle.object_store.specs.Shape.{role_at}
-use Rattle.object_store.specs.Store.{StoreView}
+use Rattle.object_store.specs.Store.{registry_of, StoreView}
 use Rattle.object_store.proofs.Joined.{lazy_there}
 use Rattle.lazy_objects.proofs.Flagged.{thawed_left, idle_left}
 use Rattle.lazy_objects.proofs.desk.Desk.thaw.Goals as goal
@@ -41,7 +41,7 @@ returns-then-thaw-clause-keeps c =
     let lazy = subst (λ (t : State). is_lazy_at t.market c.args.object ≡ true) (sym c.self.view_is) c.requires.lazy in
     let d = thawed_left c.self.inside.today c.self.inside.objects c.self.inside.store c.changed.new.self c.self.inside.scratch c.self.invariant.0 c.self.invariant.1 c.args.object lazy c.thaw.new.self (sym c.thaw.ensures.answer ∙ c.if-thaw.true) (c.thaw.ensures.thawed c.if-thaw.true)
     (record { switch = c.changed.ensures.switch; held = c.changed.ensures.held; told = c.changed.ensures.told }) in
-    subst (λ (t : State). KeepsCurrent t (state_of c.self.inside.today c.self.inside.objects c.changed.new.self.kept c.changed.new.self.deferring)) c.self.view_is d.changed.keeps
+    subst (λ (t : State). KeepsCurrent t (state_of c.self.inside.today c.self.inside.objects c.changed.new.self.kept (registry_of c.changed.new.self))) c.self.view_is d.changed.keeps
 
 pub returns-then-thaw-clause-sound : goal.returns-then-thaw-clause-sound
 returns-then-thaw-clause-sound c calc sound =
@@ -66,7 +66,7 @@ pub returns-else-thaw-clause-keeps : goal.returns-else-thaw-clause-keeps
 returns-else-thaw-clause-keeps c =
     let lazy = subst (λ (t : State). is_lazy_at t.market c.args.object ≡ true) (sym c.self.view_is) c.requires.lazy in
     let d = idle_left c.self.inside.today c.self.inside.objects c.self.inside.store c.thaw.new.self c.self.inside.scratch c.self.invariant.0 c.self.invariant.1 c.args.object lazy (sym c.thaw.ensures.answer ∙ c.if-thaw.false) (c.thaw.ensures.same c.if-thaw.false) in
-    subst (λ (t : State). KeepsCurrent t (state_of c.self.inside.today c.self.inside.objects c.thaw.new.self.kept c.thaw.new.self.deferring)) c.self.view_is d.changed.keeps
+    subst (λ (t : State). KeepsCurrent t (state_of c.self.inside.today c.self.inside.objects c.thaw.new.self.kept (registry_of c.thaw.new.self))) c.self.view_is d.changed.keeps
 
 pub returns-else-thaw-clause-sound : goal.returns-else-thaw-clause-sound
 returns-else-thaw-clause-sound c calc sound =

@@ -10,4 +10,4 @@ returns-clause-joins c = rw (← c.self.view_is) (on_ok_weaker c.watch.result
     (λ (adds : AddsPair c.graph.result.now c.watch.new.self c.args.subject c.args.observer).
     let more = subst (λ (g : GraphView). AddsPair g c.watch.new.self c.args.subject c.args.observer) c.graph.ensures.value adds in
     let p = pairs_kept c.self.inside.deferral.graph c.watch.new.self c.self.inside.lasts.items more.nodes more.sources in
-    record { kept = p.0; switch = refl; roles = p.1; pairs = λ x o. more.pairs x o }) c.watch.ensures.ok)
+    record { kept = p.0; switch = refl; told = more.noticed; roles = p.1; pairs = λ x o. more.pairs x o }) c.watch.ensures.ok)

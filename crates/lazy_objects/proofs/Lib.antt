@@ -10,3 +10,4 @@ pub mod Reweighted
 pub mod Stored
 pub mod Watched
 pub mod Weighed
+pub mod Handed

@@ -1,5 +1,5 @@
 // The objects of a session. A clause sees the desk as its state.
-ghost use Rattle.std.specs.Prelude.{◌≡◌, ◌≢◌, ◌↔◌, ℕ, ℤ, Option, Err, ◌⊎◌, ◌<◌, ◌^◌, ◌==◌, ◌||◌, [], ◌∷◌, not, if◌then◌else◌, true, false, pos, Some, None, length, IsOk, IfOk, IfSome, IfNone, OnOk, OnErr};
+ghost use Rattle.std.specs.Prelude.{◌≡◌, ◌≢◌, ◌↔◌, ℕ, ℤ, Option, Err, ◌⊎◌, ◌<◌, ◌^◌, ◌==◌, ◌||◌, [], ◌∷◌, not, if◌then◌else◌, true, false, pos, Some, None, length, IsOk, IfOk, IfSome, IfNone, OnOk, OnErr, ◌≤◌};
 ghost use Rattle.std.specs.Option.{option_copied};
 ghost use Rattle.desk_terms.specs.Reading.{Calc, AreInRange};
 ghost use Rattle.desk_model.specs.Market.{kind_at, terms_at, slot_at, is_given, is_watcher, is_observable, least_user};
@@ -296,6 +296,30 @@ impl Desk {
         self.store.unwatch(object, watcher)
     }
 
+    /// Whether a watcher is registered with an object. It takes no memory, and costs what the watcher is registered with.
+    pub fn is_registered(&self, watcher: ObjId, object: ObjId) -> bool
+        requires watcher { is_watcher (slot_at self.now.market watcher) ≡ true }
+        requires subject { is_observable (slot_at self.now.market object) ≡ true }
+        ensures { result ≡ is_registered self.now watcher object }
+    {
+        self.store.has_pair(object, watcher)
+    }
+
+    /// Whether an object is a watcher that is registered with any object.
+    pub fn is_watching(&self, object: ObjId) -> bool
+        ensures { result ≡ is_watching self.now object }
+    {
+        let _ = &self.alloc;
+        self.is_watcher(object) && self.watching(object)
+    }
+
+    // Whether an object is a watcher.
+    fn is_watcher(&self, object: ObjId) -> bool
+        ensures { result ≡ is_watcher (slot_at self.now.market object) }
+    {
+        matches!(self.kind(object), Some(Kind::Watcher))
+    }
+
     /// Whether a watcher is registered with any object.
     pub fn watching(&self, watcher: ObjId) -> bool
         requires { is_watcher (slot_at self.now.market watcher) ≡ true }
@@ -311,6 +335,7 @@ impl Desk {
         ensures some { IfSome result (λ watcher. (self.old.noticed ≡ watcher ∷ self.new.noticed)
             × (self.new ≡ record self.old { noticed = self.new.noticed })) }
         ensures handed { IfSome result (λ watcher. self.new ≡ handed_out watcher self.old) }
+        ensures watcher { IfSome result (λ watcher. is_watcher (slot_at self.old.market watcher) ≡ true) }
         ensures keeps { KeepsCurrent self.old self.new }
         ensures sound { (calc : Calc) → IsSound calc self.old → IsSound calc self.new }
     {
@@ -476,6 +501,14 @@ impl Desk {
         ensures { result ≡ length self.now.market.objects }
     {
         self.objects.len()
+    }
+
+    /// The same, as a number of 32 bits.
+    pub fn numbers(&self) -> u32
+        ensures number { result ≡ length self.now.market.objects }
+        ensures limit { result ≤ 2 ^ 16 }
+    {
+        self.objects.len() as u32
     }
 
     /// What an object is; none where no live object has the number.

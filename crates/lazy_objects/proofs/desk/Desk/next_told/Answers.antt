@@ -1,4 +1,4 @@
-use Rattle.std.proofs.Common.{◌≡◌, [], ◌∷◌, sym, subst}
+use Rattle.std.proofs.Common.{◌≡◌, true, [], ◌∷◌, sym, subst}
 use Rattle.std.specs.Prelude.{IfSome, IfNone}
 use Rattle.desk_model.specs.State.{State}
 use Rattle.desk_model.specs.Sound.{IsSound, KeepsCurrent}
@@ -6,6 +6,8 @@ use Rattle.desk_model.specs.Effect.{handed_out}
 use Rattle.object_store.specs.Slots.{state_of}
 use Rattle.object_store.specs.Store.{registry_of}
 use Rattle.lazy_objects.proofs.Watched.{hands_left, hands_none, hands_some, hands_is}
+use Rattle.desk_model.specs.Market.{slot_at, is_watcher}
+use Rattle.lazy_objects.proofs.Handed.{told_is}
 use Rattle.lazy_objects.proofs.desk.Desk.next_told.Goals as goal
 
 pub invariant_of-self : goal.invariant_of-self
@@ -34,3 +36,8 @@ pub returns-clause-sound : goal.returns-clause-sound
 returns-clause-sound c calc sound =
     let d = hands_left c.self.inside.today c.self.inside.objects c.self.inside.store c.next_told.new.self c.self.inside.scratch c.self.invariant.0 c.self.invariant.1 c.next_told.result c.next_told.ensures.none c.next_told.ensures.some in
     d.sound calc (subst (IsSound calc) (sym c.self.view_is) sound)
+
+pub returns-clause-watcher : goal.returns-clause-watcher
+returns-clause-watcher c = subst (λ (s : State). IfSome c.next_told.result (λ w. is_watcher (slot_at s.market w) ≡ true)) c.self.view_is
+    (told_is _ (state_of c.self.inside.today c.self.inside.objects c.self.inside.store.kept (registry_of c.self.inside.store)) c.next_told.new.self.noticed c.next_told.result c.self.invariant.0.whole
+    (hands_some c.self.inside.today c.self.inside.objects c.self.inside.store c.next_told.new.self c.self.inside.scratch c.self.invariant.0 c.self.invariant.1 c.next_told.result c.next_told.ensures.some))

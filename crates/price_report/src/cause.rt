@@ -1,5 +1,5 @@
 // The text of a cause.
-ghost use Rattle.std.specs.Prelude.{◌≡◌, ◌++◌, OnOk, codes, decimal};
+ghost use Rattle.std.specs.Prelude.{◌≡◌, ◌++◌, OnOk, OnErr, codes, decimal};
 ghost use Rattle.day_number.specs.Day.{day_text};
 ghost use Rattle.price_report.specs.Line.{cause_detail, cause_text};
 
@@ -7,6 +7,23 @@ use crate::Namer;
 use day_number::{Day, print_day};
 use desk_terms::Cause;
 use std::alloc::{AllocError, Global};
+
+/// Appends a cause: its word, the name of its object, and the day or the number that it names. After want of memory `out`
+/// has its old bytes.
+pub fn cause_text(
+    alloc: Global,
+    cause: &Cause,
+    namer: &Namer<'_>,
+    out: &mut Vec<u8>,
+) -> Result<(), AllocError>
+    ensures ok { OnOk result (out.new.items
+        ≡ out.old.items ++ cause_text namer.now.names.now namer.now.of_object.now cause.now) }
+    ensures err { OnErr result (out.new.items ≡ out.old.items) }
+{
+    let mut text = Vec::new(alloc);
+    push_cause(alloc, cause, namer, &mut text)?;
+    out.extend_from_slice(text.as_slice())
+}
 
 // Appends a cause: its word, the name of its object, and the rest.
 pub(crate) fn push_cause(

@@ -1,7 +1,7 @@
 //! The lines of a transcript: what an ask shows, the discount factor of a curve at a day, which command is refused and
 //! why, and which watcher was stopped. Each line is built apart and appended whole, so that after want of memory the
 //! output is as it was.
-//! Offers `Namer`, `asked_line`, `df_line`, `refusal_line` and `over_line`.
+//! Offers `Namer`, `asked_line`, `df_line`, `refusal_line`, `over_line` and `cause_text`.
 #![tactic(auto)]
 
 mod asked;
@@ -14,6 +14,7 @@ mod over;
 mod refused;
 
 pub use asked::asked_line;
+pub use cause::cause_text;
 pub use df::df_line;
 pub use namer::Namer;
 pub use over::over_line;

@@ -1,19 +1,19 @@
 -- The pairs as lists of subjects, for callers.
 use Rattle.std.proofs.Common.{◌≡◌, inl, inr, ℕ, zero, suc, Bool, true, false, ◌⊎◌, List, [], ◌∷◌, ◌++◌, length, get_or, ◌<◌, ◌≤◌, arith, refl, sym, ap, ◌∙◌, subst, Option, Some, None, cond, eqb}
-use Rattle.std.specs.Prelude.{◌↔◌, IsSome, IfSome}
+use Rattle.std.specs.Prelude.{◌↔◌, IsSome, IfSome, IsTrue, is_some}
 use Rattle.std.proofs.lemmas.Bool.{eqb-true, eq-eqb, cases_eq}
 use Rattle.std.proofs.lemmas.List.{length-append, get_or_append_left, get_or_past}
 use Rattle.slab.specs.Slab.{Slab}
-use Rattle.walks.specs.Walk.{Among}
+use Rattle.walks.specs.Walk.{Among, IsOnce}
 use Rattle.edge_lists.specs.declared.edge.Edge.{Edge}
 use Rattle.edge_lists.specs.declared.edge.Side.TheVariants.{Subject, Observer}
 use Rattle.edge_lists.specs.Ends.{node_of, after_of, slot_at, heads_at}
 use Rattle.edge_lists.specs.declared.edge.Heads.{Heads}
 use Rattle.edge_lists.proofs.Linking.{live_within}
 use Rattle.edge_lists.specs.Stands.{Stands, IsEdge, IsPairIn}
-use Rattle.edge_lists.specs.Walks.{IsOnce, GoesOn, number_or, node_at, slots_from}
+use Rattle.edge_lists.specs.Walks.{GivesAll, GoesOn, number_or, node_at, slots_from}
 use Rattle.edge_lists.proofs.Stepping.{none_steps}
-use Rattle.edge_lists.proofs.Walking.{among_map}
+use Rattle.edge_lists.proofs.Walking.{among_map, pair_of}
 use Rattle.edge_lists.specs.EdgesView.{EdgesView, IsPair, IsWhole, IsThere, HasSubject, HasObserver, subjects_in, subjects_of, observers_from, subjects_from, below, subject_lists}
 
 from_list : (slots : List (Option Edge)) (x o : ℕ) → Among x (subjects_in slots o) → IsPairIn slots x o
@@ -207,3 +207,12 @@ subjects_none v x a = let p = (among_map (node_at Subject v.slots) (slots_from O
 pub edge_beneath : (v : EdgesView) (edge node x o : ℕ) → HasObserver v edge node → IsEdge v.slots edge x o
     → IsPair v x node
 edge_beneath v edge node x o has e = (edge, record { subject = e.subject; observer = has })
+
+-- a walk begins where a node observes something
+pub observes : (v : EdgesView) (o : ℕ) (found : Option ℕ) → GivesAll Observer v.slots o found
+    → IsTrue (is_some found) ↔ ((x : ℕ) × IsPair v x o)
+observes v o None gives = ((λ no. absurd (cc)), (λ p. absurd (subjects_none v p.0 ((gives.given p.0).1 p.1))))
+observes v o (Some k) gives = (
+  (λ yes. (node_at Subject v.slots k, pair_of Observer v.slots k o gives.of)),
+  (λ p. refl),
+)

@@ -1,8 +1,8 @@
 -- Steps from number to number that come to an end.
 use Rattle.std.proofs.Common.{◌≡◌, inl, inr, ℕ, zero, suc, ◌+◌, ◌<◌, List, [], ◌∷◌, length, refl, sym, ap, ◌∙◌, subst, arith, Option, Some, None}
-use Rattle.walks.specs.Walk.{Among}
-use Rattle.edge_lists.specs.Walks.{IsOnce, steps_by}
-use Rattle.edge_lists.proofs.Counting.{few_below}
+use Rattle.walks.specs.Walk.{Among, IsOnce}
+use Rattle.edge_lists.specs.Walks.{steps_by}
+use Rattle.walks.proofs.Counting.{few_below}
 
 -- the steps end within so many
 abbrev pub Ends : (ℕ → Option ℕ) → ℕ → Option ℕ → Type 0

@@ -1,7 +1,7 @@
 -- A walk along the list of a node gives each of its pairs once.
 use Rattle.std.proofs.Common.{◌≡◌, inl, inr, ℕ, zero, suc, ◌<◌, List, [], ◌∷◌, length, map, refl, sym, ap, ◌∙◌, subst, arith, Option, Some, None}
 use Rattle.std.specs.Prelude.{◌↔◌, IfSome}
-use Rattle.walks.specs.Walk.{Among}
+use Rattle.walks.specs.Walk.{Among, IsOnce}
 use Rattle.edge_lists.specs.declared.edge.Edge.{Edge}
 use Rattle.edge_lists.specs.declared.edge.Heads.{Heads}
 use Rattle.edge_lists.specs.declared.edge.Side.{Side}
@@ -9,7 +9,7 @@ use Rattle.edge_lists.specs.declared.edge.Side.TheVariants.{Subject, Observer}
 use Rattle.edge_lists.specs.Ends.{node_of, before_of, after_of, first_of, slot_at, heads_at, other_side}
 use Rattle.edge_lists.specs.Chains.{AreChained, chains_of}
 use Rattle.edge_lists.specs.Stands.{IsEdge}
-use Rattle.edge_lists.specs.Walks.{IsOnce, number_or, slots_from, node_at, IsPairOf, GivesAll, GoesOn, end_node}
+use Rattle.edge_lists.specs.Walks.{number_or, slots_from, node_at, IsPairOf, GivesAll, GoesOn, end_node}
 use Rattle.edge_lists.proofs.Chaining.{known}
 use Rattle.edge_lists.proofs.Stepping.{Ends, steps_first, steps_keep, steps_once, all_end, reached, none_steps}
 

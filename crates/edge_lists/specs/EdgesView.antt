@@ -1,11 +1,12 @@
 -- Pairs of live nodes as a caller sees them.
 use Rattle.std.specs.Prelude.{◌≡◌, ◌⊎◌, ◌↔◌, ◌+◌, ◌++◌, ◌≤◌, ℕ, zero, suc, Option, Some, None, IsSome, is_some, List, [], ◌∷◌, length, count_by, ◌==◌, if◌then◌else◌}
+use Rattle.walks.specs.Walk.{IsOnce}
 use Rattle.edge_lists.specs.declared.edge.Edge.{Edge}
 use Rattle.edge_lists.specs.declared.edge.Heads.{Heads}
 use Rattle.edge_lists.specs.declared.edge.Side.TheVariants.{Subject, Observer}
 use Rattle.edge_lists.specs.Ends.{node_of, slot_at, heads_at}
 use Rattle.edge_lists.specs.Stands.{IsPairIn}
-use Rattle.edge_lists.specs.Walks.{others_from, IsOnce}
+use Rattle.edge_lists.specs.Walks.{others_from}
 
 -- What each slot holds, which nodes live, and how many pairs more fit with no memory. A dropped node is None; its
 -- number is not given again. Which slot a pair has, and how the slots are linked, means nothing to a caller: clauses

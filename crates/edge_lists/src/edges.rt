@@ -180,9 +180,9 @@ impl Edges {
         }
     }
 
-    /// The first pair of which the node is the subject, if there is one.
+    /// The first pair of which the node is the subject, if there is one; a dropped node is in none.
     pub fn first_observer(&self, node: ObjId) -> Option<EdgeId>
-        requires { IsLive self.now node }
+        requires { node < length self.now.nodes }
         ensures { GivesAll Subject self.now.slots node result }
     {
         first_at(&self.nodes, Side::Subject, node)
@@ -196,9 +196,9 @@ impl Edges {
         self.slots[edge.key()].subject.after
     }
 
-    /// The first pair of which the node is the observer, if there is one.
+    /// The first pair of which the node is the observer, if there is one; a dropped node is in none.
     pub fn first_subject(&self, node: ObjId) -> Option<EdgeId>
-        requires { IsLive self.now node }
+        requires { node < length self.now.nodes }
         ensures { GivesAll Observer self.now.slots node result }
     {
         first_at(&self.nodes, Side::Observer, node)

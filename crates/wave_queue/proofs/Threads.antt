@@ -4,9 +4,9 @@ use Rattle.std.specs.Prelude.{◌↔◌, slice_set, IfSome, replicate}
 use Rattle.std.proofs.lemmas.Bool.{cases_eq, false≢true}
 use Rattle.std.proofs.lemmas.List.{get_or-set_same, get_or-set_other, length-set, length-append, length-replicate}
 use Rattle.std.proofs.Math.Seq.{take-append_seam}
-use Rattle.walks.specs.Walk.{Among}
-use Rattle.wave_queue.proofs.Counting.{few_below}
-use Rattle.wave_queue.specs.Thread.{IsOnce, is_marked, next_at, nodes_from, IsThread, IsLast, Stands, MarksThread, or_node, threaded, WaveView, open_count}
+use Rattle.walks.specs.Walk.{Among, IsOnce}
+use Rattle.walks.proofs.Counting.{few_below}
+use Rattle.wave_queue.specs.Thread.{is_marked, next_at, nodes_from, IsThread, IsLast, Stands, MarksThread, or_node, threaded, WaveView, open_count}
 
 -- a thread of few nodes is read whole
 pub thread_read : (nexts : List (Option ℕ)) (n : ℕ) (found : Option ℕ) (nodes : List ℕ) → IsThread nexts found nodes

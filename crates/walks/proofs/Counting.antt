@@ -1,8 +1,7 @@
 -- Numbers below a bound, each once, are no more than the bound.
 use Rattle.std.proofs.Common.{◌≡◌, ◌≢◌, ◌⊎◌, inl, inr, ℕ, zero, suc, ◌<◌, ◌≤◌, List, [], ◌∷◌, length, refl, sym, ap, ◌∙◌, subst, arith}
 use Rattle.std.proofs.lemmas.Bool.{cases_eq}
-use Rattle.walks.specs.Walk.{Among}
-use Rattle.edge_lists.specs.Walks.{IsOnce}
+use Rattle.walks.specs.Walk.{Among, IsOnce}
 
 pub is_among : (x : ℕ) (xs : List ℕ) → Among x xs ⊎ (Among x xs → ⊥)
 is_among x [] = inr (λ a. a)

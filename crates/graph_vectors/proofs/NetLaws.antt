@@ -11,8 +11,7 @@ use Rattle.observer_graph.specs.declared.node.Node.{Node}
 use Rattle.observer_graph.specs.GraphView.{GraphView, IsLive, IsLazy, IsPair, IsWhole, node_at, no_flags}
 use Rattle.observer_graph.specs.Notice.{Tells}
 use Rattle.observer_graph.specs.Change.{flagged, with_node, with_flags}
-use Rattle.observer_graph.proofs.Mirrors.{list_grown}
-use Rattle.observer_graph.proofs.Wholes.{live_within, some_unsettled, whole_flagged}
+use Rattle.observer_graph.proofs.Wholes.{list_grown, live_within, some_unsettled, whole_flagged}
 use Rattle.graph_vectors.specs.Nets.{AreLive, IsNet}
 
 grown_live : (nodes : List (Option Node)) (node : Node)

@@ -1,6 +1,6 @@
--- The least node of a list.
-use Rattle.std.proofs.Common.{◌≡◌, ◌⊎◌, inl, inr, ℕ, ◌+◌, ◌<◌, Bool, true, false, List, [], ◌∷◌, ◌++◌, length, take, refl, sym, ◌∙◌, ap, subst, arith, Option, Some, None}
-use Rattle.std.specs.Prelude.{slice_index_or, ltb, if◌then◌else◌}
+-- The least node of a list, or of a walk.
+use Rattle.std.proofs.Common.{◌≡◌, ◌⊎◌, inl, inr, ℕ, ◌+◌, ◌<◌, ◌≤◌, Bool, true, false, List, [], ◌∷◌, ◌++◌, length, take, refl, sym, ◌∙◌, ap, subst, arith, Option, Some, None}
+use Rattle.std.specs.Prelude.{IfSome, slice_index_or, ltb, if◌then◌else◌}
 use Rattle.std.proofs.lemmas.List.{take_more}
 use Rattle.std.proofs.lemmas.Bool.{ltb-true, ltb-false, false≢true}
 use Rattle.walks.specs.Walk.{Among}
@@ -59,3 +59,66 @@ module _ (P : ℕ → Type 0) (nodes : List ℕ) (at i : ℕ) (low : at < length
   least_past least off so_far = least_as (λ o. Among o (take at nodes) × P o) (λ o. Among o (take (at + 1) nodes) × P o) least
       (λ o p. (join o (inl p.0), p.1))
       (λ o q. elim (split o q.0) [ inl was ↦ (was, q.1) | inr same ↦ absurd (off (subst P same q.1)) ]) so_far
+
+-- whether a number is the least found or more
+abbrev pub IsAtLeast : Option ℕ → ℕ → Type 0
+IsAtLeast None o = ⊥
+IsAtLeast (Some x) o = x ≤ o
+
+-- the least of those of which P holds, but for those that are ahead
+pub record IsLeastYet (P : ℕ → Type 0) (ahead : List ℕ) (least : Option ℕ) : Type 0 where
+  pub found : IfSome least P
+  pub passed : (o : ℕ) → P o → Among o ahead ⊎ IsAtLeast least o
+
+module _ (P : ℕ → Type 0) where
+  -- none was passed
+  pub yet_first : (ahead : List ℕ) → ((o : ℕ) → P o → Among o ahead) → IsLeastYet P ahead None
+  yet_first ahead all = record { found = tt; passed = λ o p. inl (all o p) }
+
+  -- one was passed of which P holds
+  pub yet_more : (i : ℕ) (ahead rest : List ℕ) (least : Option ℕ) → ahead ≡ i ∷ rest → P i → IsLeastYet P ahead least
+      → IsLeastYet P rest (Some (lesser least i))
+  yet_more i ahead rest None step here yet = record {
+    found = here;
+    passed = λ o p. elim (yet.passed o p) [
+      | inl a ↦ elim (subst (Among o) step a) [ inl same ↦ inr (omega arith) | inr later ↦ inl later ]
+      | inr none ↦ absurd none
+    ];
+  }
+  yet_more i ahead rest (Some x) step here yet = by_less (ltb i x) refl
+    where
+      by_less : (b : Bool) → ltb i x ≡ b → IsLeastYet P rest (Some (if b then i else x))
+      by_less true less = let l = ltb-true i x less in record {
+        found = here;
+        passed = λ o p. elim (yet.passed o p) [
+          | inl a ↦ elim (subst (Among o) step a) [ inl same ↦ inr (omega arith) | inr later ↦ inl later ]
+          | inr more ↦ let m : x ≤ o = more in inr (omega arith)
+        ];
+      }
+      by_less false more = let l = ltb-false i x more in record {
+        found = yet.found;
+        passed = λ o p. elim (yet.passed o p) [
+          | inl a ↦ elim (subst (Among o) step a) [ inl same ↦ inr (omega arith) | inr later ↦ inl later ]
+          | inr more ↦ inr more
+        ];
+      }
+
+  -- one was passed of which P does not hold
+  pub yet_past : (i : ℕ) (ahead rest : List ℕ) (least : Option ℕ) → ahead ≡ i ∷ rest → (P i → ⊥)
+      → IsLeastYet P ahead least → IsLeastYet P rest least
+  yet_past i ahead rest least step off yet = record {
+    found = yet.found;
+    passed = λ o p. elim (yet.passed o p) [
+      | inl a ↦ elim (subst (Among o) step a) [ inl same ↦ absurd (off (subst P same p)) | inr later ↦ inl later ]
+      | inr more ↦ inr more
+    ];
+  }
+
+  -- none is ahead
+  pub yet_all : (ahead : List ℕ) (least : Option ℕ) → ((o : ℕ) → Among o ahead → ⊥) → IsLeastYet P ahead least
+      → IsLeast P least
+  yet_all ahead None none yet = λ o p. elim (yet.passed o p) [ inl a ↦ none o a | inr never ↦ never ]
+  yet_all ahead (Some x) none yet = (
+    yet.found,
+    λ o p. elim (yet.passed o p) [ inl a ↦ absurd (none o a) | inr more ↦ more ],
+  )

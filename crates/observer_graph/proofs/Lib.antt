@@ -7,11 +7,10 @@ pub mod Lateness
 pub mod Frozen
 pub mod Members
 pub mod Marks
-pub mod Edits
 pub mod Growth
 pub mod Least
 pub mod Linked
-pub mod Mirrors
 pub mod Waves
 pub mod Settling
+pub mod SubjectLists
 pub mod Wholes

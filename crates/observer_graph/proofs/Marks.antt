@@ -4,8 +4,8 @@ use Rattle.std.specs.Prelude.{◌↔◌, slice_index_or, slice_set, if◌then◌
 use Rattle.std.proofs.lemmas.Bool.{cases_eq, cases_lt, false≢true}
 use Rattle.std.proofs.lemmas.List.{get_or-set_same, get_or-set_other, length-set, length-append, get_or_past, drop_all}
 use Rattle.std.proofs.Math.Seq.{take-append_seam}
-use Rattle.walks.specs.Walk.{Among}
-use Rattle.observer_graph.specs.Lists.{IsOnce, IsSet, is_marked, open_count}
+use Rattle.walks.specs.Walk.{Among, IsOnce}
+use Rattle.observer_graph.specs.Lists.{IsSet, is_marked, open_count}
 use Rattle.observer_graph.proofs.Members.{among_last, once_last}
 
 -- what is marked is within

@@ -4,8 +4,7 @@ use Rattle.std.specs.Prelude.{◌↔◌, ◌==◌, remove, slice_index_or, posit
 use Rattle.std.specs.List.{position_or_len}
 use Rattle.std.proofs.lemmas.Bool.{cases_eq, eqb-true, eq-eqb, lt-ltb}
 use Rattle.std.proofs.lemmas.List.Quantifiers.{position-Some}
-use Rattle.walks.specs.Walk.{Among}
-use Rattle.observer_graph.specs.Lists.{IsOnce}
+use Rattle.walks.specs.Walk.{Among, IsOnce}
 
 pub among_left : (o : ℕ) (xs ys : List ℕ) → Among o xs → Among o (xs ++ ys)
 among_left o [] ys a = absurd a

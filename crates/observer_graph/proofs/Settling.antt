@@ -3,9 +3,8 @@ use Rattle.std.proofs.Common.{◌≡◌, ◌≢◌, ◌⊎◌, inl, inr, ℕ, ze
 use Rattle.std.specs.Prelude.{slice_index_or, slice_set}
 use Rattle.std.proofs.lemmas.Bool.{cases_eq}
 use Rattle.std.proofs.lemmas.List.{get_or-set_same, get_or-set_other, take_more, take_all}
-use Rattle.walks.specs.Walk.{Among}
+use Rattle.walks.specs.Walk.{Among, IsOnce}
 use Rattle.observer_graph.specs.declared.node.Node.{Node}
-use Rattle.observer_graph.specs.Lists.{IsOnce}
 use Rattle.observer_graph.specs.Notice.{unsettled}
 use Rattle.observer_graph.proofs.Members.{among_last, among_at}
 

@@ -33,14 +33,13 @@ first_none subjects sources items none o = (
     nothing [] x a = a
     nothing (y ∷ ys) x a = a
 
-pub first_more : (subjects : List (List ℕ)) (sources : List ℕ) (at i : ℕ) (wave wave2 : SetView) (observers : List ℕ)
-    → at < length sources → i ≡ slice_index_or sources at i
-    → ((o : ℕ) → Among o observers ↔ Among i (list_at subjects o)) → AreFirst subjects (take at sources) wave.items
-    → Extends wave wave2 (λ o. Among o observers) → AreFirst subjects (take (at + 1) sources) wave2.items
-first_more subjects sources at i wave wave2 observers low is seen so_far grown o = (
+pub first_more : (subjects : List (List ℕ)) (sources : List ℕ) (at i : ℕ) (wave wave2 : SetView)
+    → at < length sources → i ≡ slice_index_or sources at i → AreFirst subjects (take at sources) wave.items
+    → Extends wave wave2 (λ o. Among i (list_at subjects o)) → AreFirst subjects (take (at + 1) sources) wave2.items
+first_more subjects sources at i wave wave2 low is so_far grown o = (
   λ a. elim ((grown.items o).0 a) [
     | inl was ↦ let h = (so_far o).0 was in (h.0, join (inl h.1), h.2)
-    | inr new ↦ (i, join (inr refl), (seen o).0 new)
+    | inr new ↦ (i, join (inr refl), new)
   ],
   λ h. (grown.items o).1 (by_case h.0 (split h.1) h.2),
 )
@@ -55,9 +54,9 @@ first_more subjects sources at i wave wave2 observers low is seen so_far grown o
     split {x} a = (among_last x (take at sources) i).0 (subst (Among x) taken a)
 
     by_case : (x : ℕ) → Among x (take at sources) ⊎ (x ≡ i) → Among x (list_at subjects o) → Among o wave.items
-        ⊎ Among o observers
+        ⊎ Among i (list_at subjects o)
     by_case x (inl was) a = inl ((so_far o).1 (x, was, a))
-    by_case x (inr same) a = inr ((seen o).1 (subst (λ (z : ℕ). Among z (list_at subjects o)) same a))
+    by_case x (inr same) a = inr (subst (λ (z : ℕ). Among z (list_at subjects o)) same a)
 
 pub first_all : (subjects : List (List ℕ)) (marks : List Bool) (sources items : List ℕ) (at : ℕ) → length sources ≤ at
     → IsSet marks sources → AreFirst subjects (take at sources) items → (o : ℕ) → Among o items
@@ -88,14 +87,14 @@ module _ (subjects : List (List ℕ)) (from through : ℕ → Bool) where
       nothing (y ∷ ys) x a = a
 
   -- one is looked at, and its observers are told
-  pub spreads_on : (wave wave2 : SetView) (at i : ℕ) (observers : List ℕ) → at < length wave.items
+  pub spreads_on : (wave wave2 : SetView) (at i : ℕ) → at < length wave.items
       → i ≡ slice_index_or wave.items at i → Among i wave.items → through i ≡ true
-      → ((o : ℕ) → Among o observers ↔ Among i (list_at subjects o)) → Extends wave wave2 (λ o. Among o observers)
+      → Extends wave wave2 (λ o. Among i (list_at subjects o))
       → Spreads subjects from through wave.items at → Spreads subjects from through wave2.items (at + 1)
-  spreads_on wave wave2 at i observers low is here passes seen grown s = record {
+  spreads_on wave wave2 at i low is here passes grown s = record {
     sound = λ o a. elim ((grown.items o).0 a) [
       | inl was ↦ s.sound o was
-      | inr new ↦ beyond {x = i} ((seen o).0 new) passes (s.sound i here)
+      | inr new ↦ beyond {x = i} new passes (s.sound i here)
     ];
     start = λ o x a f. (grown.items o).1 (inl (s.start o x a f));
     closed = λ o x a looked p. (grown.items o).1 (by_case o x a (split x looked) p);
@@ -106,9 +105,9 @@ module _ (subjects : List (List ℕ)) (from through : ℕ → Bool) where
           (subst (Among x) (front_is wave.items wave2.items grown.end.0 at i low is grown.end.1) a)
 
       by_case : (o x : ℕ) → Among x (list_at subjects o) → Among x (take at wave.items) ⊎ (x ≡ i) → through x ≡ true
-          → Among o wave.items ⊎ Among o observers
+          → Among o wave.items ⊎ Among i (list_at subjects o)
       by_case o x a (inl was) p = inl (s.closed o x a was p)
-      by_case o x a (inr same) p = inr ((seen o).1 (subst (λ (z : ℕ). Among z (list_at subjects o)) same a))
+      by_case o x a (inr same) p = inr (subst (λ (z : ℕ). Among z (list_at subjects o)) same a)
 
   -- one is looked at that does not pass the notice on, or whose observers were told before
   pub spreads_past : (items : List ℕ) (at i : ℕ) → at < length items → i ≡ slice_index_or items at i

@@ -1,14 +1,14 @@
 -- A graph stays whole.
 use Rattle.std.proofs.Common.{◌≡◌, ◌≢◌, ◌⊎◌, inl, inr, ℕ, zero, suc, ◌<◌, ◌≤◌, ◌^◌, Bool, true, false, List, [], ◌∷◌, ◌++◌, length, refl, sym, ◌∙◌, ap, subst, arith, Option, Some, None, Ok, Err, Result}
-use Rattle.std.specs.Prelude.{◌↔◌, slice_index_or, slice_set, IsSome, OnOk, OnErr}
+use Rattle.std.specs.Prelude.{◌↔◌, slice_index_or, slice_set, IsSome, is_some, map, OnOk, OnErr}
 use Rattle.std.proofs.lemmas.Bool.{cases_eq, false≢true}
-use Rattle.std.proofs.lemmas.List.{get_or-set_same, get_or-set_other, length-set, length-append, get_or_append_left, get_or_default}
-use Rattle.walks.specs.Walk.{Among}
+use Rattle.std.proofs.lemmas.List.{get_or-set_same, get_or-set_other, length-set, length-append, length-map, map-append, map-set, get_or_append_left, get_or_default}
+use Rattle.walks.specs.Walk.{Among, IsOnce}
 use Rattle.observer_graph.specs.declared.node.Role.{Role}
 use Rattle.observer_graph.specs.declared.node.Role.TheVariants.{Source, Forwarder, Lazy, Watcher}
 use Rattle.observer_graph.specs.declared.node.Flags.{Flags}
 use Rattle.observer_graph.specs.declared.node.Node.{Node}
-use Rattle.observer_graph.specs.Lists.{AreOnce, is_marked, list_at, IsOnce, PairsView, SetView}
+use Rattle.observer_graph.specs.Lists.{AreOnce, IsLinked, is_marked, list_at, PairsView, SetView}
 use Rattle.observer_graph.specs.Stands.{Stands}
 use Rattle.observer_graph.specs.Walks.{IsWithin, graph_of}
 use Rattle.walks.specs.Walk.Below.{next, beyond}
@@ -17,7 +17,14 @@ use Rattle.observer_graph.specs.Notice.{IsTold, Settles, unsettled}
 use Rattle.observer_graph.specs.Change.{with_node, with_flags, with_source, flagged}
 use Rattle.observer_graph.proofs.Members.{among_or_not}
 use Rattle.observer_graph.proofs.Marks.{marked_front}
-use Rattle.observer_graph.proofs.Mirrors.{list_grown}
+use Rattle.observer_graph.proofs.SubjectLists.{marks_some, same_marks}
+
+-- no list of a new node
+pub list_grown : (lists : List (List ℕ)) (o : ℕ) → list_at (lists ++ [] ∷ []) o ≡ list_at lists o
+list_grown [] zero = refl
+list_grown [] (suc o) = refl
+list_grown (l ∷ lists) zero = refl
+list_grown (l ∷ lists) (suc o) = list_grown lists o
 
 -- what holds on both exits
 pub either : {T E : Type 0} {A B P : Type 0} (result : Result T E) → OnOk result A → OnErr result B → (A → P)
@@ -231,22 +238,52 @@ whole_told graph nodes2 sources2 w len long changes none = record {
       | inr is ↦ subst IsSome (sym is) alive
     ]
 
+-- the pairs have a list for each node
+pub linked_len : (nodes : List (Option Node)) (pairs : PairsView) → IsLinked pairs → pairs.live ≡ map is_some nodes
+    → length pairs.subjects ≡ length nodes
+linked_len nodes pairs linked live = sym linked.long ∙ ap length live ∙ length-map nodes is_some
+
+-- a live node is one of the pairs' live ones
+pub live_marked : (nodes : List (Option Node)) (pairs : PairsView) (sources wave : SetView) (o : ℕ)
+    → Stands nodes pairs sources wave → IsSome (slice_index_or nodes o None) → is_marked pairs.live o ≡ true
+live_marked nodes pairs sources wave o s live = ap (λ (m : List Bool). is_marked m o) s.live ∙ marks_some nodes o ∙ live
+
+-- a node that lives as before
+some_set : (nodes : List (Option Node)) (o : ℕ) (node : Option Node) → is_some node ≡ is_some (slice_index_or nodes o None)
+    → map is_some (slice_set nodes o node) ≡ map is_some nodes
+some_set [] zero node same = refl
+some_set [] (suc o) node same = refl
+some_set (n ∷ nodes) zero node same = ap (λ (b : Bool). b ∷ map is_some nodes) same
+some_set (n ∷ nodes) (suc o) node same = ap (λ (m : List Bool). is_some n ∷ m) (some_set nodes o node same)
+
+flagged_some : (flags : Flags) (node : Option Node) → is_some (flagged flags node) ≡ is_some node
+flagged_some flags None = refl
+flagged_some flags (Some node) = refl
+
+unsettled_some : (node : Option Node) → is_some (unsettled node) ≡ is_some node
+unsettled_some None = refl
+unsettled_some (Some node) = refl
+
 -- a graph with one node more stands
 pub stands_added : (nodes nodes2 : List (Option Node)) (pairs pairs2 : PairsView)
     (sources sources2 wave wave2 : SetView) (role : Role) (flags : Flags) → Stands nodes pairs sources wave
     → length nodes < 2 ^ 16 → flags ≡ no_flags
     → nodes2 ≡ nodes ++ Some (record { role = role; flags = flags }) ∷ []
-    → pairs2.subjects ≡ pairs.subjects ++ [] ∷ [] → sources2.marks ≡ sources.marks ++ false ∷ []
+    → pairs2 ≡ record { subjects = pairs.subjects ++ [] ∷ []; live = pairs.live ++ true ∷ [] }
+    → sources2.marks ≡ sources.marks ++ false ∷ []
     → wave2.marks ≡ wave.marks ++ false ∷ [] → wave2.items ≡ wave.items → Stands nodes2 pairs2 sources2 wave2
 stands_added nodes nodes2 pairs pairs2 sources sources2 wave wave2 role flags s low off nodes_are pairs_are
     sources_are marks_are items_are = record {
       whole = subst (λ (n : List (Option Node)). IsWhole (graph_of n pairs2.subjects sources2.marks))
           (sym (nodes_are ∙ ap (λ (f : Flags). nodes ++ Some (record { role = role; flags = f }) ∷ []) off))
-          (subst (λ (p : List (List ℕ)). IsWhole (graph_of (nodes ++ Some (record { role = role; flags = no_flags }) ∷ [])
-          p sources2.marks)) (sym pairs_are)
+          (subst (λ (p : PairsView). IsWhole (graph_of (nodes ++ Some (record { role = role; flags = no_flags }) ∷ [])
+          p.subjects sources2.marks)) (sym pairs_are)
           (subst (λ (m : List Bool). IsWhole (graph_of (nodes ++ Some (record { role = role; flags = no_flags }) ∷ [])
           (pairs.subjects ++ [] ∷ []) m)) (sym sources_are)
           (whole_added (graph_of nodes pairs.subjects sources.marks) role low s.whole)));
+      live = ap (λ (p : PairsView). p.live) pairs_are ∙ ap (λ (l : List Bool). l ++ true ∷ []) s.live
+          ∙ sym (map-append is_some nodes (Some (record { role = role; flags = flags }) ∷ []))
+          ∙ ap (map is_some) (sym nodes_are);
       room = let a = ap length marks_are ∙ length-append wave.marks (false ∷ []) in let b = ap length nodes_are
           ∙ length-append nodes (Some (record { role = role; flags = flags }) ∷ []) in let r = s.room in omega arith;
       empty = items_are ∙ s.empty;
@@ -258,11 +295,13 @@ off_flags flags off = λ i. record { current = off.0 i; frozen = off.1.0 i; forw
 
 -- a graph with other pairs of live nodes stands
 pub stands_pairs : (nodes : List (Option Node)) (pairs pairs2 : PairsView) (sources wave : SetView)
-    → Stands nodes pairs sources wave → length pairs2.subjects ≡ length pairs.subjects → AreOnce pairs2.subjects
+    → Stands nodes pairs sources wave → IsLinked pairs2 → pairs2.live ≡ pairs.live
     → ((x o : ℕ) → Among x (list_at pairs2.subjects o) → IsSome (slice_index_or nodes x None)
     × IsSome (slice_index_or nodes o None)) → Stands nodes pairs2 sources wave
-stands_pairs nodes pairs pairs2 sources wave s len once live = record {
-  whole = whole_pairs (graph_of nodes pairs.subjects sources.marks) pairs2.subjects s.whole len once live;
+stands_pairs nodes pairs pairs2 sources wave s linked same live = record {
+  whole = whole_pairs (graph_of nodes pairs.subjects sources.marks) pairs2.subjects s.whole
+      (linked_len nodes pairs2 linked (same ∙ s.live) ∙ sym s.whole.lists) linked.once live;
+  live = same ∙ s.live;
   room = s.room;
   empty = s.empty;
 }
@@ -283,22 +322,29 @@ pub stands_flagged : (nodes : List (Option Node)) (pairs : PairsView) (sources w
     → Stands (slice_set nodes o (flagged flags (slice_index_or nodes o None))) pairs sources wave
 stands_flagged nodes pairs sources wave o flags lazy s = record {
   whole = whole_flagged (graph_of nodes pairs.subjects sources.marks) o flags lazy s.whole;
+  live = s.live ∙ sym (some_set nodes o (flagged flags (slice_index_or nodes o None))
+      (flagged_some flags (slice_index_or nodes o None)));
   room = s.room ∙ sym (length-set nodes o (flagged flags (slice_index_or nodes o None)));
   empty = s.empty;
 }
 
 -- a graph without a node stands
 pub stands_removed : (nodes : List (Option Node)) (pairs pairs2 : PairsView) (sources sources2 wave : SetView) (o : ℕ)
-    → IsSome (slice_index_or nodes o None) → length pairs2.subjects ≡ length pairs.subjects → AreOnce pairs2.subjects
+    → IsSome (slice_index_or nodes o None) → IsLinked pairs2 → pairs2.live ≡ slice_set pairs.live o false
     → ((x p : ℕ) → Among x (list_at pairs2.subjects p) ↔ (Among x (list_at pairs.subjects p) × ((x ≡ o) ⊎ (p ≡ o)
     → ⊥))) → sources2.marks ≡ slice_set sources.marks o false → Stands nodes pairs sources wave
     → Stands (slice_set nodes o None) pairs2 sources2 wave
-stands_removed nodes pairs pairs2 sources sources2 wave o live len once left marks s = record {
-  whole = whole_removed (graph_of nodes pairs.subjects sources.marks) o pairs2.subjects sources2.marks live len once
+stands_removed nodes pairs pairs2 sources sources2 wave o live linked gone left marks s = record {
+  whole = whole_removed (graph_of nodes pairs.subjects sources.marks) o pairs2.subjects sources2.marks live
+      (linked_len (slice_set nodes o None) pairs2 linked live2 ∙ length-set nodes o None ∙ sym s.whole.lists) linked.once
       left marks s.whole;
+  live = live2;
   room = s.room ∙ sym (length-set nodes o None);
   empty = s.empty;
 }
+  where
+    live2 : pairs2.live ≡ map is_some (slice_set nodes o None)
+    live2 = gone ∙ ap (λ (l : List Bool). slice_set l o false) s.live ∙ sym (map-set is_some nodes o None)
 
 -- what a read of a live node gives
 pub node_read : (nodes : List (Option Node)) (place o : ℕ) (node : Option Node) → place ≡ o → o < length nodes
@@ -360,6 +406,12 @@ pub stands_told : (nodes nodes2 : List (Option Node)) (pairs : PairsView) (sourc
 stands_told nodes nodes2 pairs sources sources2 wave wave2 s t room empty = record {
   whole = whole_told (graph_of nodes pairs.subjects sources.marks) nodes2 sources2.marks s.whole t.len t.marks
       (λ o. elim (t.node o) [ inl h ↦ inl h.1 | inr h ↦ inr h.1 ]) t.sources;
+  live = s.live ∙ same_marks (map is_some nodes) (map is_some nodes2)
+      (length-map nodes is_some ∙ sym t.len ∙ sym (length-map nodes2 is_some))
+      (λ o. marks_some nodes o ∙ sym (elim (t.node o) [
+        | inl h ↦ ap is_some h.1 ∙ unsettled_some (slice_index_or nodes o None)
+        | inr h ↦ ap is_some h.1
+      ]) ∙ sym (marks_some nodes2 o));
   room = room ∙ s.room ∙ sym t.len;
   empty = empty;
 }
@@ -383,6 +435,7 @@ stands_stale nodes pairs sources wave o live s = record {
             (plain_unsettled (slice_index_or nodes o None) (s.whole.flags o)))
         | inr other ↦ subst IsPlain (sym (get_or-set_other nodes o p new None other)) (s.whole.flags p)
       ]);
+  live = s.live ∙ sym (some_set nodes o new (unsettled_some (slice_index_or nodes o None)));
   room = s.room ∙ sym (length-set nodes o new);
   empty = s.empty;
 }

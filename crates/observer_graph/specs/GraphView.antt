@@ -1,12 +1,12 @@
 -- The graph of observers as a caller sees it: live nodes with their roles and flags, pairs, marked sources, and the
 -- watchers that were told.
 use Rattle.std.specs.Prelude.{◌≡◌, ◌≤◌, ◌^◌, ℕ, Bool, true, false, List, [], length, Option, Some, None, IsSome, slice_index_or}
-use Rattle.walks.specs.Walk.{Among}
+use Rattle.walks.specs.Walk.{Among, IsOnce}
 use Rattle.observer_graph.specs.declared.node.Role.{Role}
 use Rattle.observer_graph.specs.declared.node.Role.TheVariants.{Source, Forwarder, Lazy, Watcher}
 use Rattle.observer_graph.specs.declared.node.Flags.{Flags}
 use Rattle.observer_graph.specs.declared.node.Node.{Node}
-use Rattle.observer_graph.specs.Lists.{IsOnce, is_marked, list_at}
+use Rattle.observer_graph.specs.Lists.{is_marked, list_at}
 
 -- A node's number is its place in each list. A removed node is None; its number is not given again. In which order a
 -- node's subjects stand means nothing: clauses say who is among them. `noticed` has the watchers that were told and

@@ -1,20 +1,10 @@
 -- Lists of nodes, by membership.
-use Rattle.std.specs.Prelude.{◌≡◌, ◌↔◌, ◌⊎◌, ◌+◌, ◌++◌, ℕ, Bool, true, false, if◌then◌else◌, List, [], ◌∷◌, length, slice_index_or, slice_set, map}
-use Rattle.std.proofs.Common.{Vec, Global}
-use Rattle.walks.specs.Walk.{Among}
-
--- each stands there once
-abbrev pub IsOnce : List ℕ → Type 0
-IsOnce [] = Unit {0}
-IsOnce (x ∷ xs) = (Among x xs → ⊥) × IsOnce xs
+use Rattle.std.specs.Prelude.{◌≡◌, ◌↔◌, ◌⊎◌, ◌+◌, ◌++◌, ℕ, Bool, true, false, if◌then◌else◌, List, [], ◌∷◌, length, slice_index_or}
+use Rattle.walks.specs.Walk.{Among, IsOnce}
 
 -- whether a node is marked
 abbrev pub is_marked : List Bool → ℕ → Bool
 is_marked marks o = slice_index_or marks o false
-
--- the lists that vectors hold
-abbrev pub lists_of : List (Vec ℕ Global) → List (List ℕ)
-lists_of vectors = map (λ vector. vector.items) vectors
 
 -- the list of a node
 abbrev pub list_at : List (List ℕ) → ℕ → List ℕ
@@ -23,10 +13,6 @@ list_at lists o = slice_index_or lists o []
 -- each list has each node once
 abbrev pub AreOnce : List (List ℕ) → Type 0
 AreOnce lists = (o : ℕ) → IsOnce (list_at lists o)
-
--- a node more at the end of one list
-abbrev pub with_last_at : List (List ℕ) → ℕ → ℕ → List (List ℕ)
-with_last_at lists o x = slice_set lists o (list_at lists o ++ x ∷ [])
 
 -- how many are not marked
 abbrev pub open_count : List Bool → ℕ
@@ -40,18 +26,16 @@ pub record SetView : Type 0 where
   pub items : List ℕ
   pub spare : ℕ
 
--- the subjects of each node, and for how many nodes more there is room
+-- the subjects of each node, and a mark for each node that lives
 pub record PairsView : Type 0 where
   pub subjects : List (List ℕ)
-  pub spare : ℕ
+  pub live : List Bool
 
--- x and o are a pair of the one list exactly where they are one of the other, each pair once
-pub record IsMirrored (subjects observers : List (List ℕ)) : Type 0 where
-  pub long : length observers ≡ length subjects
-  pub there : (x o : ℕ) → Among x (list_at subjects o) → Among o (list_at observers x)
-  pub back : (x o : ℕ) → Among o (list_at observers x) → Among x (list_at subjects o)
-  pub once : (o : ℕ) → IsOnce (list_at subjects o)
-  pub once_observers : (x : ℕ) → IsOnce (list_at observers x)
+-- pairs are of live nodes, each once, and there is a list for each number
+pub record IsLinked (v : PairsView) : Type 0 where
+  pub ends : (x o : ℕ) → Among x (list_at v.subjects o) → (is_marked v.live x ≡ true) × (is_marked v.live o ≡ true)
+  pub once : AreOnce v.subjects
+  pub long : length v.live ≡ length v.subjects
 
 -- the marked nodes are those of the list, each once, and what is not marked has room
 pub record IsSet (marks : List Bool) (items : List ℕ) : Type 0 where
@@ -70,8 +54,3 @@ pub record Extends (old new : SetView) (more : ℕ → Type 0) : Type 0 where
 -- the pairs of these lists are those of which P holds
 abbrev pub ArePairs : List (List ℕ) → (ℕ → ℕ → Type 0) → Type 0
 ArePairs lists P = (x o : ℕ) → Among x (list_at lists o) ↔ P x o
-
--- lists without a node in those of which P holds
-abbrev pub AreWithout : (ℕ → Type 0) → ℕ → List (List ℕ) → List (List ℕ) → Type 0
-AreWithout P node lists lists2 = (x o : ℕ) → Among x (list_at lists2 o)
-    ↔ (Among x (list_at lists o) × (P o × (x ≡ node) → ⊥))

@@ -1,14 +1,14 @@
 // What lies beneath a node and holds its notice back.
-ghost use Rattle.std.specs.Prelude.{◌≡◌, ◌↔◌, ◌<◌, ◌≤◌, ◌+◌, ◌^◌, ℕ, [], length, true, false, IsTrue, None, slice_index_or, if◌then◌else◌};
+ghost use Rattle.std.specs.Prelude.{◌≡◌, ◌↔◌, ◌<◌, ◌≤◌, ◌+◌, ◌^◌, ℕ, List, [], length, true, false, IsTrue, if◌then◌else◌};
 ghost use Rattle.walks.specs.Walk.{Among};
-ghost use Rattle.observer_graph.specs.Lists.{is_marked};
+ghost use Rattle.observer_graph.specs.Lists.{is_marked, Extends};
 ghost use Rattle.observer_graph.specs.Notice.{IsLeast};
 ghost use Rattle.observer_graph.specs.Late.{IsExposed, frozen_of, is_held_back};
-ghost use Rattle.observer_graph.specs.GraphView.{IsWatcher};
+ghost use Rattle.observer_graph.specs.GraphView.{edges_as};
 ghost use Rattle.observer_graph.specs.Walks.{IsWithin, edges_in, graph_of};
 
 use crate::lists::lesser;
-use crate::node::{Node, Role, is_watcher};
+use crate::node::{Node, Role};
 use crate::node_set::NodeSet;
 use crate::pairs::Pairs;
 use desk_names::ObjId;
@@ -29,49 +29,37 @@ pub fn go_down(pairs: &Pairs, nodes: &[Option<Node>], from: ObjId, wave: &mut No
     while at < wave.len() {
         let node = wave.get(at);
         if node == from || !is_frozen(&nodes[node.place()]) {
-            wave.insert_all(edges(pairs, nodes, node));
+            insert_edges(pairs, nodes, node, wave);
         }
         at += 1;
     }
 }
 
-/// The edges of a node: what it observes, unless it is a watcher.
-pub fn edges<'a>(pairs: &'a Pairs, nodes: &[Option<Node>], node: ObjId) -> &'a [ObjId]
+/// Puts the edges of a node last into a set, each that is not in it: what it observes, unless it is a watcher.
+pub fn insert_edges(pairs: &Pairs, nodes: &[Option<Node>], node: ObjId, set: &mut NodeSet)
     requires pairs { length pairs.now.subjects ≡ length nodes.now }
+    requires room { length set.old.marks ≡ length nodes.now }
     requires within { node < length nodes.now }
-    ensures { result.now ≡ edges_in nodes.now pairs.now.subjects node }
+    ensures { Extends set.old set.new (λ x. Among x (edges_in nodes.now pairs.now.subjects node)) }
 {
-    match &nodes[node.place()] {
-        None => &[],
+    if has_edges(&nodes[node.place()]) {
+        pairs.insert_subjects(node, set);
+    }
+}
+
+// Whether the pairs in which a node observes are edges.
+fn has_edges(node: &Option<Node>) -> bool
+    ensures { (subjects : List ℕ) → edges_as node.now subjects ≡ (if result then subjects else []) }
+{
+    match node {
+        None => false,
         Some(live) => match live.role {
-            Role::Source => pairs.subjects(node),
-            Role::Forwarder => pairs.subjects(node),
-            Role::Lazy => pairs.subjects(node),
-            Role::Watcher => &[],
+            Role::Source => true,
+            Role::Forwarder => true,
+            Role::Lazy => true,
+            Role::Watcher => false,
         },
     }
-}
-
-/// The least of these observers that is no watcher, if any is none.
-pub fn least_user(nodes: &[Option<Node>], observers: &[ObjId]) -> Option<ObjId>
-    requires { (o : ℕ) → Among o observers.now → o < length nodes.now }
-    ensures { IsLeast (λ o. Among o observers.now × (IsWatcher (slice_index_or nodes.now o None) → ⊥)) result }
-{
-    let mut least: Option<ObjId> = None;
-    for node in observers {
-        if !watches(nodes, *node) {
-            least = Some(lesser(least, *node));
-        }
-    }
-    least
-}
-
-// Whether a node is a watcher.
-fn watches(nodes: &[Option<Node>], node: ObjId) -> bool
-    requires { node < length nodes.now }
-    ensures { IsTrue result ↔ IsWatcher (slice_index_or nodes.now node None) }
-{
-    is_watcher(&nodes[node.place()])
 }
 
 /// Whether a node is frozen.

@@ -8,12 +8,11 @@ ghost use Rattle.observer_graph.specs.Late.{IsClear, IsLateOf};
 ghost use Rattle.observer_graph.specs.Noticed.{IsRising};
 ghost use Rattle.observer_graph.specs.Change.{AddsNode, AddsPair, TakesPair, TakesNode, flagged, with_node, with_flags, with_source, without_source};
 
-use crate::beneath::{are_free, go_down, is_frozen, least_marked, least_user, recounted};
-use crate::lists::is_among;
+use crate::beneath::{are_free, go_down, is_frozen, least_marked, recounted};
 use crate::node::{Flags, Node, Role};
 use crate::node_set::NodeSet;
 use crate::pairs::Pairs;
-use crate::rising::{first_out, has_any, reserve_for, take_out};
+use crate::rising::{first_out, reserve_for, take_out};
 use crate::walk::{is_beneath, notice_all, tell_all, unsettle, unsettle_one};
 use desk_names::ObjId;
 use std::alloc::{AllocError, Global};
@@ -77,16 +76,15 @@ impl Graph {
         ensures whole { IsWhole self.new }
     {
         self.nodes.reserve(1)?;
-        self.pairs.reserve()?;
         self.sources.reserve()?;
         self.wave.reserve()?;
         reserve_for(&mut self.noticed, self.nodes.len() + 1)?;
+        self.pairs.grow()?;
         let node = ObjId(self.nodes.len() as u32);
         self.nodes.push_reserved(Some(Node {
             role,
             flags: Flags::default(),
         }));
-        self.pairs.grow();
         self.sources.grow();
         self.wave.grow();
         Ok(node)
@@ -103,7 +101,6 @@ impl Graph {
         ensures whole { IsWhole self.new }
     {
         self.nodes.reserve(1)?;
-        self.pairs.reserve()?;
         self.sources.reserve()?;
         self.wave.reserve()?;
         reserve_for(&mut self.noticed, self.nodes.len() + 1)?;
@@ -188,7 +185,7 @@ impl Graph {
         requires observer { IsLive self.now observer }
         ensures { IsTrue result ↔ IsPair self.now subject observer }
     {
-        is_among(self.pairs.subjects(observer), subject)
+        self.pairs.has_pair(subject, observer)
     }
 
     /// Whether some pair has a node as its observer. Takes no memory.
@@ -196,7 +193,7 @@ impl Graph {
         requires { IsLive self.now node }
         ensures { IsTrue result ↔ ((x : ℕ) × IsPair self.now x node) }
     {
-        has_any(self.pairs.subjects(node))
+        self.pairs.has_subject(node)
     }
 
     /// The least observer of a node that is no watcher, if it has any. Takes time in proportion to its observers.
@@ -204,7 +201,7 @@ impl Graph {
         requires { IsLive self.now node }
         ensures { IsLeast (IsUser self.now node) result }
     {
-        least_user(&self.nodes, self.pairs.observers(node))
+        self.pairs.least_user(node, &self.nodes)
     }
 
     /// Whether a live node has this number.

@@ -1,232 +1,239 @@
-// The pairs of subjects and observers, kept at both ends.
-ghost use Rattle.std.specs.Prelude.{◌≡◌, ◌⊎◌, ◌↔◌, ◌+◌, ◌<◌, ◌++◌, ℕ, [], ◌∷◌, length, take, slice_set, IsTrue, OnOk, OnErr};
-ghost use Rattle.walks.specs.Walk.{Among};
-ghost use Rattle.observer_graph.specs.Lists.{list_at, lists_of, with_last_at, IsOnce, AreOnce, ArePairs, IsMirrored};
+// The pairs of subjects and observers, as lists of subjects by number.
+ghost use Rattle.std.specs.Prelude.{◌≡◌, ◌⊎◌, ◌↔◌, ◌<◌, ◌≤◌, ◌++◌, ℕ, [], ◌∷◌, true, false, length, slice_set, slice_index_or, IsTrue, None, OnOk, OnErr};
+ghost use Rattle.walks.specs.Walk.{Among, IsOnce};
+ghost use Rattle.edge_lists.specs.EdgesView.{IsLive, IsPair, SameNodes};
+ghost use Rattle.observer_graph.specs.GraphView.{IsWatcher};
+ghost use Rattle.observer_graph.specs.Lists.{IsLinked, list_at, is_marked, ArePairs, Extends};
+ghost use Rattle.observer_graph.specs.Notice.{IsLeast};
 
-use crate::lists::{empty_at, push_at, reserve_at, take_out_at, take_out_of_each};
+use crate::lists::lesser;
+use crate::node::{Node, is_watcher};
+use crate::node_set::NodeSet;
 use desk_names::ObjId;
+use edge_lists::Edges;
 use std::alloc::{AllocError, Global};
 use std::marker::Model;
 
-/// Pairs of a subject and one of its observers, each once. A clause sees the subjects of each node, and for how many
-/// nodes more there is room.
+/// Pairs of a subject and one of its observers, each once. A clause sees the subjects of each node, and which nodes live.
 #[derive(Drop)]
 pub struct Pairs {
-    subjects: Vec<Vec<ObjId>>,
-    observers: Vec<Vec<ObjId>>,
-    alloc: Global,
+    edges: Edges,
 }
 
 impl Model for Pairs {
-    ghost use Rattle.std.specs.Prelude.{◌-◌, length, min, vec_capacity};
-    ghost use Rattle.observer_graph.specs.Lists.{PairsView, IsMirrored, lists_of};
+    ghost use Rattle.std.specs.Prelude.{map, is_some};
+    ghost use Rattle.edge_lists.specs.EdgesView.{subject_lists};
+    ghost use Rattle.observer_graph.specs.Lists.{PairsView};
 
     ghost Value = { PairsView };
 
-    ghost view = { λ p. record {
-      subjects = lists_of p.subjects.items;
-      spare = min (vec_capacity p.subjects) (vec_capacity p.observers) - length p.subjects.items;
-    } };
-
-    ghost invariant = { λ p. IsMirrored (lists_of p.subjects.items) (lists_of p.observers.items) };
+    ghost view = { λ p. record { subjects = subject_lists p.edges; live = map is_some p.edges.nodes } };
 }
 
 impl Pairs {
-    /// No pairs, and room for no node. Later calls take memory from the allocator given here.
+    /// No nodes and no pairs.
     pub fn new(alloc: Global) -> Pairs
-        ensures { result.subjects ≡ [] }
+        ensures { result ≡ record { subjects = []; live = [] } }
     {
         Pairs {
-            subjects: Vec::new(alloc),
-            observers: Vec::new(alloc),
-            alloc,
+            edges: Edges::new(alloc),
         }
     }
 
-    /// Finds the room for one node more, where memory is not wanting.
-    pub fn reserve(&mut self) -> Result<(), AllocError>
-        ensures ok { OnOk result (0 < self.new.spare) }
-        ensures subjects { self.new.subjects ≡ self.old.subjects }
+    /// What holds of the pairs between two calls.
+    pub fn whole(&self)
+        ensures { IsLinked self.now }
     {
-        self.subjects.reserve(1)?;
-        self.observers.reserve(1)?;
-        Ok(())
+        self.edges.whole();
     }
 
-    /// One node more, which observes nothing.
-    pub fn grow(&mut self)
-        requires { 0 < self.old.spare }
-        ensures { self.new.subjects ≡ self.old.subjects ++ [] ∷ [] }
+    /// One node more, which observes nothing; after want of memory the pairs are as they were.
+    pub fn grow(&mut self) -> Result<(), AllocError>
+        requires { length self.old.subjects < 65536 }
+        ensures ok { OnOk result (self.new ≡ record {
+          subjects = self.old.subjects ++ [] ∷ [];
+          live = self.old.live ++ true ∷ [];
+        }) }
+        ensures err { OnErr result (self.new ≡ self.old) }
     {
-        self.subjects.push_reserved(Vec::new(self.alloc));
-        self.observers.push_reserved(Vec::new(self.alloc));
+        self.edges.whole();
+        self.edges.add_node()?;
+        Ok(())
     }
 
     /// One node more, numbered next, which observes these; after want of memory the pairs are as they were.
     pub fn grow_linked(&mut self, node: ObjId, named: &[ObjId]) -> Result<(), AllocError>
-        requires room { 0 < self.old.spare }
+        requires room { length self.old.subjects < 65536 }
         requires next { node ≡ length self.old.subjects }
-        requires within { (x : ℕ) → Among x named.now → x < length self.old.subjects }
+        requires live { (x : ℕ) → Among x named.now → is_marked self.old.live x ≡ true }
         requires once { IsOnce named.now }
-        ensures ok { OnOk result (self.new.subjects ≡ self.old.subjects ++ named.now ∷ []) }
-        ensures err { OnErr result (self.new.subjects ≡ self.old.subjects) }
+        requires few { length named.now ≤ 65536 }
+        ensures ok { OnOk result (ArePairs self.new.subjects
+            (λ x o. Among x (list_at self.old.subjects o) ⊎ (Among x named.now × (o ≡ node)))) }
+        ensures live { OnOk result (self.new.live ≡ self.old.live ++ true ∷ []) }
+        ensures linked { OnOk result (IsLinked self.new) }
+        ensures err { OnErr result (self.new ≡ self.old) }
     {
-        self.subjects.push_reserved(Vec::new(self.alloc));
-        self.observers.push_reserved(Vec::new(self.alloc));
-        match link_all(&mut self.subjects, &mut self.observers, node, named) {
-            Ok(()) => Ok(()),
-            Err(fault) => {
-                drop_last(&mut self.subjects, &mut self.observers, node);
-                Err(fault)
-            }
-        }
-    }
-
-    /// The subjects that a node observes.
-    pub fn subjects(&self, node: ObjId) -> &[ObjId]
-        requires { node < length self.now.subjects }
-        ensures { result.now ≡ list_at self.now.subjects node }
-    {
-        self.subjects[node.place()].as_slice()
-    }
-
-    /// The observers of a node.
-    pub fn observers(&self, node: ObjId) -> &[ObjId]
-        requires { node < length self.now.subjects }
-        ensures { (o : ℕ) → Among o result.now ↔ Among node (list_at self.now.subjects o) }
-    {
-        self.observers[node.place()].as_slice()
+        self.edges.whole();
+        self.edges.reserve_more(named.len())?;
+        self.edges.add_node()?;
+        link_all(&mut self.edges, node, named);
+        self.edges.whole();
+        Ok(())
     }
 
     /// The observer observes the subject too; after want of memory the pairs are as they were.
     pub fn link(&mut self, subject: ObjId, observer: ObjId) -> Result<(), AllocError>
-        requires subject { subject < length self.old.subjects }
-        requires observer { observer < length self.old.subjects }
+        requires subject { is_marked self.old.live subject ≡ true }
+        requires observer { is_marked self.old.live observer ≡ true }
         requires new { Among subject (list_at self.old.subjects observer) → ⊥ }
         ensures ok { OnOk result (ArePairs self.new.subjects
             (λ x o. Among x (list_at self.old.subjects o) ⊎ ((x ≡ subject) × (o ≡ observer)))) }
-        ensures len { length self.new.subjects ≡ length self.old.subjects }
-        ensures once { AreOnce self.new.subjects }
-        ensures err { OnErr result (self.new.subjects ≡ self.old.subjects) }
+        ensures live { self.new.live ≡ self.old.live }
+        ensures err { OnErr result (self.new ≡ self.old) }
+        ensures linked { IsLinked self.new }
     {
-        link_ends(&mut self.subjects, &mut self.observers, subject, observer)
+        self.edges.whole();
+        let linked = self.edges.link(subject, observer);
+        self.edges.whole();
+        linked
     }
 
     /// The observer does not observe the subject; whether it did.
     pub fn unlink(&mut self, subject: ObjId, observer: ObjId) -> bool
-        requires subject { subject < length self.old.subjects }
-        requires observer { observer < length self.old.subjects }
+        requires subject { is_marked self.old.live subject ≡ true }
+        requires observer { is_marked self.old.live observer ≡ true }
         ensures was { IsTrue result ↔ Among subject (list_at self.old.subjects observer) }
         ensures left { ArePairs self.new.subjects
             (λ x o. Among x (list_at self.old.subjects o) × ((x ≡ subject) × (o ≡ observer) → ⊥)) }
-        ensures len { length self.new.subjects ≡ length self.old.subjects }
-        ensures once { AreOnce self.new.subjects }
+        ensures live { self.new.live ≡ self.old.live }
+        ensures linked { IsLinked self.new }
     {
-        unlink_ends(&mut self.subjects, &mut self.observers, subject, observer)
+        self.edges.whole();
+        let was = self.edges.unlink(subject, observer);
+        self.edges.whole();
+        was
     }
 
-    /// The node observes nothing, and nothing observes it.
+    /// The node is gone: it observes nothing, and nothing observes it.
     pub fn cut(&mut self, node: ObjId)
-        requires { node < length self.old.subjects }
+        requires { is_marked self.old.live node ≡ true }
         ensures left { ArePairs self.new.subjects
             (λ x o. Among x (list_at self.old.subjects o) × ((x ≡ node) ⊎ (o ≡ node) → ⊥)) }
-        ensures len { length self.new.subjects ≡ length self.old.subjects }
-        ensures once { AreOnce self.new.subjects }
+        ensures live { self.new.live ≡ slice_set self.old.live node false }
+        ensures linked { IsLinked self.new }
     {
-        cut_ends(&mut self.subjects, &mut self.observers, self.alloc, node);
+        self.edges.whole();
+        self.edges.drop_node(node);
+        self.edges.whole();
+    }
+
+    /// Puts the observers of a node last into a set, each that is not in it. Takes time in proportion to their number.
+    pub fn insert_observers(&self, node: ObjId, set: &mut NodeSet)
+        requires node { node < length self.now.subjects }
+        requires room { length self.now.subjects ≡ length set.old.marks }
+        ensures { Extends set.old set.new (λ o. Among node (list_at self.now.subjects o)) }
+    {
+        self.edges.whole();
+        insert_observers_of(&self.edges, node, set);
+    }
+
+    /// Puts the subjects of a node last into a set, each that is not in it. Takes time in proportion to their number.
+    pub fn insert_subjects(&self, node: ObjId, set: &mut NodeSet)
+        requires node { node < length self.now.subjects }
+        requires room { length self.now.subjects ≡ length set.old.marks }
+        ensures { Extends set.old set.new (λ x. Among x (list_at self.now.subjects node)) }
+    {
+        self.edges.whole();
+        insert_subjects_of(&self.edges, node, set);
+    }
+
+    /// Whether a subject and an observer are a pair. Takes time in proportion to what the observer observes.
+    pub fn has_pair(&self, subject: ObjId, observer: ObjId) -> bool
+        requires { is_marked self.now.live observer ≡ true }
+        ensures { IsTrue result ↔ Among subject (list_at self.now.subjects observer) }
+    {
+        self.edges.whole();
+        self.edges.has_pair(subject, observer)
+    }
+
+    /// Whether a node observes anything.
+    pub fn has_subject(&self, node: ObjId) -> bool
+        requires { node < length self.now.subjects }
+        ensures { IsTrue result ↔ ((x : ℕ) × Among x (list_at self.now.subjects node)) }
+    {
+        self.edges.whole();
+        self.edges.first_subject(node).is_some()
+    }
+
+    /// The least observer of a node that is no watcher, if it has any. Takes time in proportion to its observers.
+    pub fn least_user(&self, node: ObjId, nodes: &[Option<Node>]) -> Option<ObjId>
+        requires node { node < length self.now.subjects }
+        requires nodes { length nodes.now ≡ length self.now.subjects }
+        ensures { IsLeast (λ o. Among node (list_at self.now.subjects o)
+            × (IsWatcher (slice_index_or nodes.now o None) → ⊥)) result }
+    {
+        self.edges.whole();
+        least_user_of(&self.edges, node, nodes)
     }
 }
 
-// A node that observes nothing observes these; after want of memory it observes some of them.
-fn link_all(
-    subjects: &mut [Vec<ObjId>],
-    observers: &mut [Vec<ObjId>],
-    node: ObjId,
-    named: &[ObjId],
-) -> Result<(), AllocError>
-    requires mirrored { IsMirrored (lists_of subjects.old) (lists_of observers.old) }
-    requires node { node < length subjects.old }
-    requires none { list_at (lists_of subjects.old) node ≡ [] }
-    requires within { (x : ℕ) → Among x named.now → x < length subjects.old }
+// Puts the observers of a node last into a set, each that is not in it.
+fn insert_observers_of(edges: &Edges, node: ObjId, set: &mut NodeSet)
+    requires node { node < length edges.now.nodes }
+    requires within { (o : ℕ) → IsPair edges.now node o → o < length set.old.marks }
+    ensures { Extends set.old set.new (λ o. IsPair edges.now node o) }
+{
+    let mut at = edges.first_observer(node);
+    while let Some(edge) = at {
+        set.insert(edges.ends(edge).1);
+        at = edges.next_observer(edge);
+    }
+}
+
+// Puts the subjects of a node last into a set, each that is not in it.
+fn insert_subjects_of(edges: &Edges, node: ObjId, set: &mut NodeSet)
+    requires node { node < length edges.now.nodes }
+    requires within { (o : ℕ) → IsPair edges.now o node → o < length set.old.marks }
+    ensures { Extends set.old set.new (λ o. IsPair edges.now o node) }
+{
+    let mut at = edges.first_subject(node);
+    while let Some(edge) = at {
+        set.insert(edges.ends(edge).0);
+        at = edges.next_subject(edge);
+    }
+}
+
+// The least observer of a node that is no watcher.
+fn least_user_of(edges: &Edges, node: ObjId, nodes: &[Option<Node>]) -> Option<ObjId>
+    requires node { node < length edges.now.nodes }
+    requires within { (o : ℕ) → IsPair edges.now node o → o < length nodes.now }
+    ensures { IsLeast (λ o. IsPair edges.now node o × (IsWatcher (slice_index_or nodes.now o None) → ⊥)) result }
+{
+    let mut least: Option<ObjId> = None;
+    let mut at = edges.first_observer(node);
+    while let Some(edge) = at {
+        let observer = edges.ends(edge).1;
+        if !is_watcher(&nodes[observer.place()]) {
+            least = Some(lesser(least, observer));
+        }
+        at = edges.next_observer(edge);
+    }
+    least
+}
+
+// A node in no pair observes these, by room that was found before.
+fn link_all(edges: &mut Edges, node: ObjId, named: &[ObjId])
+    requires live { IsLive edges.old node }
+    requires named { (x : ℕ) → Among x named.now → IsLive edges.old x }
+    requires none { (x : ℕ) → IsPair edges.old x node → ⊥ }
     requires once { IsOnce named.now }
-    ensures mirrored { IsMirrored (lists_of subjects.new) (lists_of observers.new) }
-    ensures ok { OnOk result (lists_of subjects.new ≡ slice_set (lists_of subjects.old) node named.now) }
-    ensures err { OnErr result ((count : ℕ) × (lists_of subjects.new ≡ slice_set (lists_of subjects.old) node (take count named.now))) }
+    requires room { length named.now ≤ edges.old.spare }
+    ensures pairs { (x o : ℕ) → IsPair edges.new x o
+        ↔ (IsPair edges.old x o ⊎ (Among x named.now × (o ≡ node))) }
+    ensures nodes { SameNodes edges.old edges.new }
 {
     for subject in named {
-        link_ends(subjects, observers, *subject, node)?;
+        edges.link_spare(*subject, node);
     }
-    Ok(())
-}
-
-// The last node goes, at both ends: nobody observes it.
-fn drop_last(subjects: &mut Vec<Vec<ObjId>>, observers: &mut Vec<Vec<ObjId>>, node: ObjId)
-    requires mirrored { IsMirrored (lists_of subjects.old.items) (lists_of observers.old.items) }
-    requires last { length subjects.old.items ≡ node + 1 }
-    requires unused { (o : ℕ) → Among node (list_at (lists_of subjects.old.items) o) → ⊥ }
-    ensures mirrored { IsMirrored (lists_of subjects.new.items) (lists_of observers.new.items) }
-    ensures front { lists_of subjects.new.items ≡ take node (lists_of subjects.old.items) }
-{
-    match subjects.pop() {
-        Some(its_subjects) => take_out_of_each(observers, &its_subjects, node),
-        None => unreachable!(),
-    }
-    observers.pop();
-}
-
-// A pair more, at both ends.
-fn link_ends(
-    subjects: &mut [Vec<ObjId>],
-    observers: &mut [Vec<ObjId>],
-    subject: ObjId,
-    observer: ObjId,
-) -> Result<(), AllocError>
-    requires mirrored { IsMirrored (lists_of subjects.old) (lists_of observers.old) }
-    requires subject { subject < length subjects.old }
-    requires observer { observer < length subjects.old }
-    requires new { Among subject (list_at (lists_of subjects.old) observer) → ⊥ }
-    ensures mirrored { IsMirrored (lists_of subjects.new) (lists_of observers.new) }
-    ensures ok { OnOk result (ArePairs (lists_of subjects.new)
-        (λ x o. Among x (list_at (lists_of subjects.old) o) ⊎ ((x ≡ subject) × (o ≡ observer)))) }
-    ensures last { OnOk result (lists_of subjects.new ≡ with_last_at (lists_of subjects.old) observer subject) }
-    ensures err { OnErr result (lists_of subjects.new ≡ lists_of subjects.old) }
-{
-    reserve_at(subjects, observer)?;
-    reserve_at(observers, subject)?;
-    push_at(subjects, observer, subject);
-    push_at(observers, subject, observer);
-    Ok(())
-}
-
-// A pair less, at both ends; whether it was there.
-fn unlink_ends(
-    subjects: &mut [Vec<ObjId>],
-    observers: &mut [Vec<ObjId>],
-    subject: ObjId,
-    observer: ObjId,
-) -> bool
-    requires mirrored { IsMirrored (lists_of subjects.old) (lists_of observers.old) }
-    requires subject { subject < length subjects.old }
-    requires observer { observer < length subjects.old }
-    ensures mirrored { IsMirrored (lists_of subjects.new) (lists_of observers.new) }
-    ensures was { IsTrue result ↔ Among subject (list_at (lists_of subjects.old) observer) }
-    ensures left { ArePairs (lists_of subjects.new)
-        (λ x o. Among x (list_at (lists_of subjects.old) o) × ((x ≡ subject) × (o ≡ observer) → ⊥)) }
-{
-    take_out_at(observers, subject, observer);
-    take_out_at(subjects, observer, subject)
-}
-
-// All pairs of a node go, at both ends.
-fn cut_ends(subjects: &mut [Vec<ObjId>], observers: &mut [Vec<ObjId>], alloc: Global, node: ObjId)
-    requires mirrored { IsMirrored (lists_of subjects.old) (lists_of observers.old) }
-    requires node { node < length subjects.old }
-    ensures mirrored { IsMirrored (lists_of subjects.new) (lists_of observers.new) }
-    ensures left { ArePairs (lists_of subjects.new)
-        (λ x o. Among x (list_at (lists_of subjects.old) o) × ((x ≡ node) ⊎ (o ≡ node) → ⊥)) }
-{
-    let its_subjects = empty_at(subjects, node, alloc);
-    take_out_of_each(observers, &its_subjects, node);
-    let its_observers = empty_at(observers, node, alloc);
-    take_out_of_each(subjects, &its_observers, node);
 }

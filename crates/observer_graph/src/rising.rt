@@ -1,6 +1,5 @@
 // Rising lists of nodes.
 ghost use Rattle.std.specs.Prelude.{◌≡◌, ◌↔◌, ◌<◌, ◌≤◌, ℕ, [], ◌∷◌, length, IsTrue, IfSome, IfNone, OnOk, vec_len, vec_capacity};
-ghost use Rattle.walks.specs.Walk.{Among};
 ghost use Rattle.observer_graph.specs.Noticed.{IsRising, IsPlace, with_number, without, is_at};
 
 use desk_names::ObjId;
@@ -82,11 +81,4 @@ pub fn first_out(nodes: &mut Vec<ObjId>) -> Option<ObjId>
         return None;
     }
     Some(nodes.remove(0))
-}
-
-/// Whether there is any node.
-pub fn has_any(nodes: &[ObjId]) -> bool
-    ensures { IsTrue result ↔ ((x : ℕ) × Among x nodes.now) }
-{
-    !nodes.is_empty()
 }

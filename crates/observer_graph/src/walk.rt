@@ -7,7 +7,7 @@ ghost use Rattle.observer_graph.specs.GraphView.{IsWatcher};
 ghost use Rattle.observer_graph.specs.Noticed.{AreNoticed};
 ghost use Rattle.observer_graph.specs.Walks.{IsFirst, IsWithin, Leads, edges_in, graph_of};
 
-use crate::beneath::edges;
+use crate::beneath::insert_edges;
 use crate::node::{Node, Role, is_watcher};
 use crate::node_set::NodeSet;
 use crate::pairs::Pairs;
@@ -40,7 +40,7 @@ fn tell_observers(pairs: &Pairs, sources: &NodeSet, wave: &mut NodeSet)
     ensures room { length wave.new.marks ≡ length wave.old.marks }
 {
     for at in 0..sources.len() {
-        wave.insert_all(pairs.observers(sources.get(at)));
+        pairs.insert_observers(sources.get(at), wave);
     }
 }
 
@@ -59,7 +59,7 @@ fn pass_on(pairs: &Pairs, nodes: &[Option<Node>], sources: &NodeSet, wave: &mut 
     while at < wave.len() {
         let told = wave.get(at);
         if passes(&nodes[told.place()]) && !sources.contains(told) {
-            wave.insert_all(pairs.observers(told));
+            pairs.insert_observers(told, wave);
         }
         at += 1;
     }
@@ -102,7 +102,7 @@ pub fn is_beneath(
     let mut at: usize = 0;
     while at < wave.len() {
         let node = wave.get(at);
-        wave.insert_all(edges(pairs, nodes, node));
+        insert_edges(pairs, nodes, node, wave);
         at += 1;
     }
     wave.contains(to)

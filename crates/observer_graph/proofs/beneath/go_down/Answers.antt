@@ -35,8 +35,8 @@ bounds-nodes-place c =
     let r = c.loop-at.invariant.room in let f = c.insert.ensures.extends.room in let w = c.requires.wave in
     let p = c.place.ensures in omega arith
 
-pub edges-requires-clause-within : goal.edges-requires-clause-within
-edges-requires-clause-within c =
+pub insert_edges-requires-clause-within : goal.insert_edges-requires-clause-within
+insert_edges-requires-clause-within c =
     let here = among_item c.loop-at.wave.items c.loop-at.at c.get-node.result
     (slice_get_within c.loop-at.wave.items c.loop-at.at c.get-node.result c.get-node.ensures)
     (sym (get_or_from_slice_get c.loop-at.wave.items c.loop-at.at c.get-node.result c.get-node.result c.get-node.ensures)) in
@@ -44,11 +44,8 @@ edges-requires-clause-within c =
     let r = c.loop-at.invariant.room in let f = c.insert.ensures.extends.room in let w = c.requires.wave in
     omega arith
 
-pub insert_all-requires : goal.insert_all-requires
-insert_all-requires c = λ o a. let b = (c.requires.within o c.get-node.result
-    (edge_pair (slice_index_or c.args.nodes.now c.get-node.result None) (list_at c.args.pairs.now.subjects c.get-node.result) o
-    (subst (Among o) c.edges.ensures a))).0 in
-    let r = c.loop-at.invariant.room in let f = c.insert.ensures.extends.room in let w = c.requires.wave in omega arith
+pub insert_edges-requires-clause-room : goal.insert_edges-requires-clause-room
+insert_edges-requires-clause-room c = c.loop-at.invariant.room ∙ c.insert.ensures.extends.room ∙ c.requires.wave
 
 pub loop-at-preserved : goal.loop-at-preserved
 loop-at-preserved c =
@@ -65,13 +62,11 @@ loop-at-preserved c =
                 ∙ ap not (sym v.is_frozen.ensures ∙ v.if-not-is_frozen.true))
           ] in
           record {
-            room = ap (λ (v : SetView). length v.marks) w.wave-is ∙ w.insert_all.ensures.room ∙ c.loop-at.invariant.room;
+            room = ap (λ (v : SetView). length v.marks) w.wave-is ∙ w.insert_edges.ensures.room ∙ c.loop-at.invariant.room;
             down = subst (λ (v : SetView). Sinks (edges_in c.args.nodes.now c.args.pairs.now.subjects) P c.args.from v.items (c.loop-at.at + 1))
                 (sym w.wave-is)
-                (sinks_on (edges_in c.args.nodes.now c.args.pairs.now.subjects) P c.args.from c.loop-at.wave w.insert_all.new.self c.loop-at.at
-                c.get-node.result low is here on
-                (subst (λ (l : List ℕ). Extends c.loop-at.wave w.insert_all.new.self (λ o. Among o l))
-                w.edges.ensures w.insert_all.ensures) c.loop-at.invariant.down);
+                (sinks_on (edges_in c.args.nodes.now c.args.pairs.now.subjects) P c.args.from c.loop-at.wave w.insert_edges.new.set c.loop-at.at
+                c.get-node.result low is here on w.insert_edges.ensures c.loop-at.invariant.down);
           }
       | else-eq+else-not-is_frozen w ↦
           let stops : GoesOn P c.args.from c.get-node.result → ⊥ = λ goes. elim goes [

@@ -1,8 +1,7 @@
 use Rattle.std.proofs.Common.{◌≡◌, ℕ, refl, sym, ap, subst, ◌∙◌, ◌<◌, length}
 use Rattle.std.specs.Prelude.{position, slice_index_or, ◌==◌}
 use Rattle.std.proofs.lemmas.List.Edits.{length-remove}
-use Rattle.walks.specs.Walk.{Among}
-use Rattle.observer_graph.specs.Lists.{IsOnce}
+use Rattle.walks.specs.Walk.{Among, IsOnce}
 use Rattle.observer_graph.proofs.Members.{none_found, found_place, among_at, taken_out, once_left}
 use Rattle.observer_graph.proofs.lists.take_out.Goals as goal
 

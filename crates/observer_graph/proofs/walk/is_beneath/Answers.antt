@@ -22,31 +22,27 @@ loop-at-init c = record {
   ));
 }
 
-pub edges-requires-clause-within : goal.edges-requires-clause-within
-edges-requires-clause-within c =
+pub insert_edges-requires-clause-within : goal.insert_edges-requires-clause-within
+insert_edges-requires-clause-within c =
     let here = among_item c.loop-at.wave.items c.loop-at.at c.get-node.result
     (slice_get_within c.loop-at.wave.items c.loop-at.at c.get-node.result c.get-node.ensures)
     (sym (get_or_from_slice_get c.loop-at.wave.items c.loop-at.at c.get-node.result c.get-node.result c.get-node.ensures)) in
     let low = marked_within c.loop-at.wave.marks c.get-node.result (c.len.ensures.set.marked c.get-node.result here) in
     let r = c.loop-at.invariant.room in let f = c.insert.ensures.extends.room in let w = c.requires.wave in omega arith
 
-pub insert_all-requires : goal.insert_all-requires
-insert_all-requires c = λ o a. let b = (c.requires.within o c.get-node.result
-    (edge_pair (slice_index_or c.args.nodes.now c.get-node.result None) (list_at c.args.pairs.now.subjects c.get-node.result) o
-    (subst (Among o) c.edges.ensures a))).0 in
-    let r = c.loop-at.invariant.room in let f = c.insert.ensures.extends.room in let w = c.requires.wave in omega arith
+pub insert_edges-requires-clause-room : goal.insert_edges-requires-clause-room
+insert_edges-requires-clause-room c = c.loop-at.invariant.room ∙ c.insert.ensures.extends.room ∙ c.requires.wave
 
 pub loop-at-preserved : goal.loop-at-preserved
 loop-at-preserved c =
     let low = slice_get_within c.loop-at.wave.items c.loop-at.at c.get-node.result c.get-node.ensures in
     let is = sym (get_or_from_slice_get c.loop-at.wave.items c.loop-at.at c.get-node.result c.get-node.result c.get-node.ensures) in
     record {
-      room = c.insert_all.ensures.room ∙ c.loop-at.invariant.room;
+      room = c.insert_edges.ensures.room ∙ c.loop-at.invariant.room;
       down = descends_on (edges_in c.args.nodes.now c.args.pairs.now.subjects) c.args.from c.loop-at.wave
-          c.insert_all.new.self c.loop-at.at c.get-node.result low is
+          c.insert_edges.new.set c.loop-at.at c.get-node.result low is
           (among_item c.loop-at.wave.items c.loop-at.at c.get-node.result low is)
-          (subst (λ (l : List ℕ). Extends c.loop-at.wave c.insert_all.new.self (λ o. Among o l))
-          c.edges.ensures c.insert_all.ensures) c.loop-at.invariant.down;
+          c.insert_edges.ensures c.loop-at.invariant.down;
     }
 
 pub contains-requires : goal.contains-requires

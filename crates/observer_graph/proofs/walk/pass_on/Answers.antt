@@ -28,9 +28,18 @@ bounds-nodes-place c =
     in
     let r = c.loop-at.invariant.room in let w = c.requires.wave in let p = c.place.ensures in omega arith
 
-pub insert_all-requires : goal.insert_all-requires
-insert_all-requires c = λ o a. let w = (c.requires.within c.get-told.result o ((c.observers.ensures o).0 a)).1 in let
-    r = c.loop-at.invariant.room in let n = c.requires.wave in omega arith
+pub insert_observers-requires-clause-node : goal.insert_observers-requires-clause-node
+insert_observers-requires-clause-node c =
+    let here = among_item c.loop-at.wave.items c.loop-at.at c.get-told.result
+    (slice_get_within c.loop-at.wave.items c.loop-at.at c.get-told.result c.get-told.ensures)
+    (sym (get_or_from_slice_get c.loop-at.wave.items c.loop-at.at c.get-told.result c.get-told.result
+    c.get-told.ensures)) in
+    let low = marked_within c.loop-at.wave.marks c.get-told.result (c.len.ensures.set.marked c.get-told.result here)
+    in
+    let r = c.loop-at.invariant.room in let w = c.requires.wave in let p = c.requires.pairs in omega arith
+
+pub insert_observers-requires-clause-room : goal.insert_observers-requires-clause-room
+insert_observers-requires-clause-room c = c.requires.pairs ∙ sym (c.loop-at.invariant.room ∙ c.requires.wave)
 
 pub loop-at-preserved : goal.loop-at-preserved
 loop-at-preserved c =
@@ -47,12 +56,12 @@ loop-at-preserved c =
     told c.loop-at.invariant.spread in
     elim c.if-passes.branch [
       | then-passes+then-not-contains w ↦ record {
-        room = ap (λ (v : SetView). length v.marks) w.wave-is ∙ w.insert_all.ensures.room ∙ c.loop-at.invariant.room;
+        room = ap (λ (v : SetView). length v.marks) w.wave-is ∙ w.insert_observers.ensures.room ∙ c.loop-at.invariant.room;
         spread = subst (λ (v : SetView). Spreads c.args.pairs.now.subjects from P v.items (c.loop-at.at + 1))
             (sym w.wave-is)
-            (spreads_on c.args.pairs.now.subjects from P c.loop-at.wave w.insert_all.new.self c.loop-at.at
-            c.get-told.result w.observers.result.now low is here (passes ∙ w.if-passes.true)
-            w.observers.ensures w.insert_all.ensures c.loop-at.invariant.spread);
+            (spreads_on c.args.pairs.now.subjects from P c.loop-at.wave w.insert_observers.new.set c.loop-at.at
+            c.get-told.result low is here (passes ∙ w.if-passes.true)
+            w.insert_observers.ensures c.loop-at.invariant.spread);
       }
       | else-passes w ↦ record {
         room = ap (λ (v : SetView). length v.marks) w.wave-is ∙ c.loop-at.invariant.room;

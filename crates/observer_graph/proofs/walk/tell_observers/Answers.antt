@@ -5,8 +5,8 @@ use Rattle.observer_graph.proofs.Marks.{marked_within}
 use Rattle.observer_graph.proofs.Waves.{first_more, first_all}
 use Rattle.observer_graph.proofs.walk.tell_observers.Goals as goal
 
-pub observers-requires : goal.observers-requires
-observers-requires c =
+pub insert_observers-requires-clause-node : goal.insert_observers-requires-clause-node
+insert_observers-requires-clause-node c =
     let here = among_item c.args.sources.now.items c.loop-at.at c.get.result
     (slice_get_within c.args.sources.now.items c.loop-at.at c.get.result c.get.ensures)
     (sym (get_or_from_slice_get c.args.sources.now.items c.loop-at.at c.get.result c.get.result c.get.ensures)) in
@@ -14,18 +14,17 @@ observers-requires c =
     in
     let s = c.requires.sources in let p = c.requires.pairs in omega arith
 
-pub insert_all-requires : goal.insert_all-requires
-insert_all-requires c = λ o a. let w = (c.requires.within c.get.result o ((c.observers.ensures o).0 a)).1 in let r =
-    c.loop-at.invariant.room in omega arith
+pub insert_observers-requires-clause-room : goal.insert_observers-requires-clause-room
+insert_observers-requires-clause-room c = c.requires.pairs ∙ sym c.loop-at.invariant.room
 
 pub loop-at-preserved : goal.loop-at-preserved
 loop-at-preserved c = record {
-  room = c.insert_all.ensures.room ∙ c.loop-at.invariant.room;
+  room = c.insert_observers.ensures.room ∙ c.loop-at.invariant.room;
   first = first_more c.args.pairs.now.subjects c.args.sources.now.items c.loop-at.at c.get.result c.loop-at.wave
-      c.insert_all.new.self c.observers.result.now
+      c.insert_observers.new.set
       (slice_get_within c.args.sources.now.items c.loop-at.at c.get.result c.get.ensures)
       (sym (get_or_from_slice_get c.args.sources.now.items c.loop-at.at c.get.result c.get.result c.get.ensures))
-      c.observers.ensures c.loop-at.invariant.first c.insert_all.ensures;
+      c.loop-at.invariant.first c.insert_observers.ensures;
 }
 
 pub returns-clause-first : goal.returns-clause-first

@@ -18,10 +18,10 @@ invariant_of-self-2 c = (
       (off_flags c.default.result c.default.ensures)
       (c.push_reserved.ensures.items ∙ ap (λ (l : List (Option Node)). l ++ Some
       (record { role = c.args.role; flags = c.default.result }) ∷ []) c.in_ok-reserve.ensures.items)
-      (c.grow.ensures ∙ ap (λ (l : List (List ℕ)). l ++ [] ∷ []) c.in_ok-reserve-2.ensures.subjects)
-      (c.grow-2.ensures.marks ∙ ap (λ (l : List Bool). l ++ false ∷ []) c.in_ok-reserve-3.ensures.marks)
-      (c.grow-3.ensures.marks ∙ ap (λ (l : List Bool). l ++ false ∷ []) c.in_ok-reserve-4.ensures.marks)
-      (c.grow-3.ensures.items ∙ c.in_ok-reserve-4.ensures.items),
+      c.in_ok-grow.ensures.ok
+      (c.grow-2.ensures.marks ∙ ap (λ (l : List Bool). l ++ false ∷ []) c.in_ok-reserve-2.ensures.marks)
+      (c.grow-3.ensures.marks ∙ ap (λ (l : List Bool). l ++ false ∷ []) c.in_ok-reserve-3.ensures.marks)
+      (c.grow-3.ensures.items ∙ c.in_ok-reserve-3.ensures.items),
   c.self.invariant.1 ∙ sym (ap frozen_count (c.push_reserved.ensures.items ∙ ap (λ (l : List (Option Node)). l ++ Some
       (record { role = c.args.role; flags = c.default.result }) ∷ []) c.in_ok-reserve.ensures.items)
       ∙ count_last c.self.inside.nodes.items (Some (record { role = c.args.role; flags = c.default.result })) c.default.ensures.1.0),
@@ -34,3 +34,7 @@ invariant_of-self-2 c = (
 
 pub returns-clause-whole : goal.returns-clause-whole
 returns-clause-whole c = (invariant_of-self-2 c).0.whole
+
+pub grow-requires : goal.grow-requires
+grow-requires c = let l = c.self.invariant.0.whole.lists in
+    let r = subst (λ (v : GraphView). length v.nodes < 2 ^ 16) (sym c.self.view_is) c.requires in omega arith

@@ -3,7 +3,7 @@ use Rattle.observer_graph.specs.Noticed.{AreNoticed, without}
 use Rattle.observer_graph.proofs.Numbers.{noticed_set, noticed_without, room_set}
 use Rattle.std.proofs.Common.{◌∙◌, ap, refl, sym, subst, arith}
 use Rattle.observer_graph.specs.GraphView.{GraphView, IsLive}
-use Rattle.observer_graph.proofs.Wholes.{live_within, stands_removed}
+use Rattle.observer_graph.proofs.Wholes.{live_marked, live_within, stands_removed}
 use Rattle.observer_graph.proofs.Frozen.{count_most, count_removed, count_some, frozen_read, one_if}
 use Rattle.observer_graph.proofs.graph.Graph.remove.Goals as goal
 
@@ -29,7 +29,7 @@ invariant_of-self c =
     rw c.place-2.ensures (
       stands_removed c.self.inside.nodes.items c.self.inside.pairs c.cut.new.self
           c.self.inside.sources c.remove.new.self c.self.inside.wave c.args.node live
-          c.cut.ensures.len c.cut.ensures.once c.cut.ensures.left c.remove.ensures c.self.invariant.0,
+          c.cut.ensures.linked c.cut.ensures.live c.cut.ensures.left c.remove.ensures c.self.invariant.0,
       count_removed c.self.inside.nodes.items c.args.node c.recounted-self-inside.result low
           (let e = c.recounted-self-inside.ensures in let f = c.self.invariant.1 in omega arith),
       subst (λ (l : List ℕ). AreNoticed l (length (slice_set c.self.inside.nodes.items c.args.node None))) (sym c.take_out.ensures.items)
@@ -42,3 +42,8 @@ invariant_of-self c =
 pub returns : goal.returns
 returns c = rw (← c.self.view_is, c.place-2.ensures)
     (record { nodes = refl; sources = c.remove.ensures; noticed = c.take_out.ensures.items; pairs = c.cut.ensures.left })
+
+pub cut-requires : goal.cut-requires
+cut-requires c = live_marked c.self.inside.nodes.items c.self.inside.pairs c.self.inside.sources
+    c.self.inside.wave c.args.node c.self.invariant.0
+    (subst (λ (v : GraphView). IsLive v c.args.node) (sym c.self.view_is) c.requires)

@@ -1,54 +1,66 @@
-use Rattle.std.proofs.Common.{◌≡◌, ◌<◌, ◌++◌, ◌∙◌, ℕ, List, [], ◌∷◌, length, take, sym, ap, subst, arith}
-use Rattle.std.proofs.lemmas.List.{length-map, length-append, with_items_is}
+use Rattle.std.proofs.Common.{◌≡◌, ◌⊎◌, inl, inr, ◌<◌, ◌+◌, ◌++◌, ◌∙◌, ap, sym, subst, arith, ℕ, Bool, List, [], ◌∷◌, length, map, true, Some}
+use Rattle.std.specs.Prelude.{is_some, IsSome, ◌↔◌}
 use Rattle.walks.specs.Walk.{Among}
-use Rattle.observer_graph.specs.Lists.{PairsView, lists_of, list_at}
-use Rattle.observer_graph.proofs.Edits.{values_grown}
-use Rattle.observer_graph.proofs.Mirrors.{mirrored_grown}
-use Rattle.observer_graph.proofs.Linked.{last_set, front_of, unobserved, taken_among}
+use Rattle.edge_lists.specs.EdgesView.{EdgesView, IsPair, IsLive, IsWhole, subjects_of, subject_lists, with_node, no_heads}
+use Rattle.edge_lists.proofs.Listing.{length_below}
+use Rattle.edge_lists.proofs.Linking.{live_within}
+use Rattle.observer_graph.specs.Lists.{is_marked, PairsView}
+use Rattle.observer_graph.proofs.SubjectLists.{linked_whole, listed_by, same_live, marks_some, marks_last, last_some, front_some}
 use Rattle.observer_graph.proofs.pairs.Pairs.grow_linked.Goals as goal
-use Rattle.observer_graph.proofs.pairs.Pairs.grow_linked.Goals.{After-deref_mut-2}
 
-grown : (c : After-deref_mut-2) → lists_of c.deref_mut.result.now ≡ lists_of c.self.inside.subjects.items ++ [] ∷ []
-grown c = ap lists_of c.deref_mut.ensures.value ∙ values_grown (λ list. list.items) c.self.inside.subjects.items c.push_reserved.new.self.items c.new.result c.push_reserved.ensures.items c.new.ensures.items
+pub add_node-requires : goal.add_node-requires
+add_node-requires c =
+    let r = subst (λ (v : PairsView). length v.subjects < 65536) (sym c.self.view_is) c.requires.room in
+    let l = length_below (subjects_of c.self.inside.edges) (length c.self.inside.edges.nodes) in
+    let n = ap (λ (v : EdgesView). length v.nodes) c.in_ok-reserve_more.ensures.ok in omega arith
 
-grown2 : (c : After-deref_mut-2) → lists_of c.deref_mut-2.result.now ≡ lists_of c.self.inside.observers.items ++ [] ∷ []
-grown2 c = ap lists_of c.deref_mut-2.ensures.value ∙ values_grown (λ list. list.items) c.self.inside.observers.items c.push_reserved-2.new.self.items c.new-2.result c.push_reserved-2.ensures.items c.new-2.ensures.items
+pub link_all-requires-clause-live : goal.link_all-requires-clause-live
+link_all-requires-clause-live c =
+    let same : c.add_node.new.self ≡ with_node (record c.self.inside.edges { spare = c.self.inside.edges.spare + length c.args.named.now }) =
+    c.in_ok-add_node.ensures.ok ∙ ap with_node c.in_ok-reserve_more.ensures.ok in
+    let next : c.args.node ≡ length c.self.inside.edges.nodes =
+    c.requires.next ∙ ap (λ (v : PairsView). length v.subjects) (sym c.self.view_is)
+    ∙ length_below (subjects_of c.self.inside.edges) (length c.self.inside.edges.nodes) in
+    subst (λ (v : EdgesView). IsLive v c.args.node) (sym same)
+    (subst (λ (n : ℕ). IsLive (with_node c.self.inside.edges) n) (sym next) (last_some c.self.inside.edges.nodes no_heads))
 
-pub link_all-requires-clause-mirrored : goal.link_all-requires-clause-mirrored
-link_all-requires-clause-mirrored c = rw (grown c, grown2 c) (mirrored_grown _ _ c.self.invariant)
+pub link_all-requires-clause-named : goal.link_all-requires-clause-named
+link_all-requires-clause-named c =
+    let same : c.add_node.new.self ≡ with_node (record c.self.inside.edges { spare = c.self.inside.edges.spare + length c.args.named.now }) =
+    c.in_ok-add_node.ensures.ok ∙ ap with_node c.in_ok-reserve_more.ensures.ok in
+    subst (λ (v : EdgesView). (x : ℕ) → Among x c.args.named.now → IsLive v x) (sym same)
+    (λ x a. front_some c.self.inside.edges.nodes (Some no_heads) x (sym (marks_some c.self.inside.edges.nodes x)
+    ∙ ap (λ (v : PairsView). is_marked v.live x) c.self.view_is ∙ c.requires.live x a))
 
-pub link_all-requires-clause-within : goal.link_all-requires-clause-within
-link_all-requires-clause-within c = λ x a. let w = subst (λ (v : PairsView). x < length v.subjects) (sym c.self.view_is) (c.requires.within x a) in
-    let k = length-map c.self.inside.subjects.items (λ vector. vector.items) in
-    let g = ap length (grown c) in let h = length-map c.deref_mut.result.now (λ vector. vector.items) in let m = length-append (lists_of c.self.inside.subjects.items) ([] ∷ []) in omega arith
+pub link_all-requires-clause-none : goal.link_all-requires-clause-none
+link_all-requires-clause-none c =
+    let same : c.add_node.new.self ≡ with_node (record c.self.inside.edges { spare = c.self.inside.edges.spare + length c.args.named.now }) =
+    c.in_ok-add_node.ensures.ok ∙ ap with_node c.in_ok-reserve_more.ensures.ok in
+    let next : c.args.node ≡ length c.self.inside.edges.nodes =
+    c.requires.next ∙ ap (λ (v : PairsView). length v.subjects) (sym c.self.view_is)
+    ∙ length_below (subjects_of c.self.inside.edges) (length c.self.inside.edges.nodes) in
+    subst (λ (v : EdgesView). (x : ℕ) → IsPair v x c.args.node → ⊥) (sym same)
+    (λ x p.
+    let low = live_within c.self.inside.edges.nodes c.args.node (c.whole.ensures.ends x c.args.node p).1 in
+    absurd (omega arith))
 
-pub drop_last-requires-clause-unused : goal.drop_last-requires-clause-unused
-drop_last-requires-clause-unused c =
-    let s = lists_of c.self.inside.subjects.items in
-    let next : c.args.node ≡ length s = c.requires.next ∙ sym (ap (λ (v : PairsView). length v.subjects) c.self.view_is) in
-    let more = ap lists_of c.deref_mut.ensures.value ∙ values_grown (λ list. list.items) c.self.inside.subjects.items c.push_reserved.new.self.items c.new.result c.push_reserved.ensures.items c.new.ensures.items in
-    let back = ap lists_of (with_items_is c.push_reserved.new.self c.link_all.new.subjects (c.link_all.auto.subjects ∙ c.deref_mut.ensures.len)) in
-    let named = take c.in-Err.ensures.err.0 c.args.named.now in
-    let all = last_set s (lists_of c.deref_mut.result.now) (lists_of c.link_all.new.subjects) c.args.node [] named next more c.in-Err.ensures.err.1 in
-    subst (λ (l : List (List ℕ)). (o : ℕ) → Among c.args.node (list_at l o) → ⊥) (sym (back ∙ all))
-    (unobserved s (lists_of c.self.inside.observers.items) named c.args.node c.self.invariant next
-    (λ x a. subst (λ (v : PairsView). x < length v.subjects) (sym c.self.view_is) (c.requires.within x (taken_among c.args.named.now c.in-Err.ensures.err.0 x a))))
+pub returns-clause-ok : goal.returns-clause-ok
+returns-clause-ok c =
+    let same : c.add_node.new.self ≡ with_node (record c.self.inside.edges { spare = c.self.inside.edges.spare + length c.args.named.now }) =
+    c.in_ok-add_node.ensures.ok ∙ ap with_node c.in_ok-reserve_more.ensures.ok in
+    rw (← c.self.view_is)
+    (listed_by c.self.inside.edges c.link_all.new.edges
+    (λ P x o. P x o ⊎ (Among x c.args.named.now × (o ≡ c.args.node))) c.whole.ensures c.whole-2.ensures
+    (λ P R f x o q. elim q [ inl p ↦ inl (f x o p) | inr e ↦ inr e ])
+    (subst (λ (v : EdgesView). (x o : ℕ) → IsPair c.link_all.new.edges x o ↔ (IsPair v x o ⊎ (Among x c.args.named.now × (o ≡ c.args.node)))) same
+    c.link_all.ensures.pairs))
 
-pub returns-in-Ok-clause-ok : goal.returns-in-Ok-clause-ok
-returns-in-Ok-clause-ok c =
-    let s = lists_of c.self.inside.subjects.items in
-    let next : c.args.node ≡ length s = c.requires.next ∙ sym (ap (λ (v : PairsView). length v.subjects) c.self.view_is) in
-    let more = ap lists_of c.deref_mut.ensures.value ∙ values_grown (λ list. list.items) c.self.inside.subjects.items c.push_reserved.new.self.items c.new.result c.push_reserved.ensures.items c.new.ensures.items in
-    let back = ap lists_of (with_items_is c.push_reserved.new.self c.link_all.new.subjects (c.link_all.auto.subjects ∙ c.deref_mut.ensures.len)) in
-    back ∙ last_set s (lists_of c.deref_mut.result.now) (lists_of c.link_all.new.subjects) c.args.node [] c.args.named.now next more c.in-Ok.ensures.ok
-    ∙ ap (λ (v : PairsView). v.subjects ++ c.args.named.now ∷ []) c.self.view_is
+pub returns-clause-live : goal.returns-clause-live
+returns-clause-live c =
+    let same : c.add_node.new.self ≡ with_node (record c.self.inside.edges { spare = c.self.inside.edges.spare + length c.args.named.now }) =
+    c.in_ok-add_node.ensures.ok ∙ ap with_node c.in_ok-reserve_more.ensures.ok in
+    rw (← c.self.view_is) (same_live c.add_node.new.self c.link_all.new.edges c.link_all.ensures.nodes
+    ∙ ap (λ (v : EdgesView). map is_some v.nodes) same ∙ marks_last c.self.inside.edges.nodes no_heads)
 
-pub returns-in-Err-clause-err : goal.returns-in-Err-clause-err
-returns-in-Err-clause-err c =
-    let s = lists_of c.self.inside.subjects.items in
-    let next : c.args.node ≡ length s = c.requires.next ∙ sym (ap (λ (v : PairsView). length v.subjects) c.self.view_is) in
-    let more = ap lists_of c.deref_mut.ensures.value ∙ values_grown (λ list. list.items) c.self.inside.subjects.items c.push_reserved.new.self.items c.new.result c.push_reserved.ensures.items c.new.ensures.items in
-    let back = ap lists_of (with_items_is c.push_reserved.new.self c.link_all.new.subjects (c.link_all.auto.subjects ∙ c.deref_mut.ensures.len)) in
-    let named = take c.in-Err.ensures.err.0 c.args.named.now in
-    let all = last_set s (lists_of c.deref_mut.result.now) (lists_of c.link_all.new.subjects) c.args.node [] named next more c.in-Err.ensures.err.1 in
-    c.drop_last.ensures.front ∙ sym (front_of s _ c.args.node named (back ∙ all) (sym next)) ∙ ap (λ (v : PairsView). v.subjects) c.self.view_is
+pub returns-clause-linked : goal.returns-clause-linked
+returns-clause-linked c = linked_whole c.link_all.new.edges c.whole-2.ensures

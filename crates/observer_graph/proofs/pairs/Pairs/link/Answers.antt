@@ -1,18 +1,32 @@
-use Rattle.std.proofs.Common.{◌∙◌}
-use Rattle.std.specs.Prelude.{vec_len}
-use Rattle.observer_graph.proofs.Marks.{whole_back}
+use Rattle.std.proofs.Common.{◌≡◌, ◌⊎◌, inl, inr, ◌∙◌, ap, sym, subst, arith, ℕ, Bool, List, [], ◌∷◌, length, map, true}
+use Rattle.std.specs.Prelude.{is_some, OnOk, OnErr}
+use Rattle.std.proofs.lemmas.Result.{on_ok_weaker, on_err_weaker}
+use Rattle.walks.specs.Walk.{Among}
+use Rattle.edge_lists.specs.EdgesView.{EdgesView, IsPair, IsWhole, AddsPair, subject_lists}
+use Rattle.edge_lists.proofs.Listing.{length_below, subject_list}
+use Rattle.edge_lists.proofs.Linking.{live_within}
+use Rattle.observer_graph.specs.Lists.{list_at, is_marked, ArePairs, PairsView}
+use Rattle.observer_graph.proofs.Wholes.{either}
+use Rattle.observer_graph.proofs.SubjectLists.{among_listed, linked_whole, listed_by, same_live, cut_live, marks_some, marks_last, with_node_lists}
 use Rattle.observer_graph.proofs.pairs.Pairs.link.Goals as goal
 
-pub returns-clause-ok : goal.returns-clause-ok
-returns-clause-ok c = rw (
-  whole_back (vec_len c.self.inside.subjects)
-      c.link_ends.new.subjects c.self.inside.subjects.items (c.link_ends.auto.subjects ∙ c.deref_mut.ensures.len),
-  ←
-      c.self.view_is,
-  ← c.deref_mut.ensures.value,
-) c.link_ends.ensures.ok
+pub link-linked-requires-clause-new : goal.link-linked-requires-clause-new
+link-linked-requires-clause-new c = λ p. c.requires.new
+    (subst (λ (v : PairsView). Among c.args.subject (list_at v.subjects c.args.observer)) c.self.view_is
+    ((among_listed c.self.inside.edges c.whole.ensures c.args.subject c.args.observer).1 p))
 
-pub returns-clause-once : goal.returns-clause-once
-returns-clause-once c = rw (whole_back (vec_len c.self.inside.subjects)
-    c.link_ends.new.subjects c.self.inside.subjects.items (c.link_ends.auto.subjects ∙ c.deref_mut.ensures.len))
-    c.link_ends.ensures.mirrored.once
+pub returns-clause-ok : goal.returns-clause-ok
+returns-clause-ok c = rw (← c.self.view_is) (on_ok_weaker c.link-linked.result
+    (λ (adds : AddsPair c.self.inside.edges c.link-linked.new.self c.args.subject c.args.observer).
+    listed_by c.self.inside.edges c.link-linked.new.self
+    (λ P x o. P x o ⊎ ((x ≡ c.args.subject) × (o ≡ c.args.observer))) c.whole.ensures c.whole-2.ensures
+    (λ P R f x o q. elim q [ inl p ↦ inl (f x o p) | inr e ↦ inr e ]) adds.pairs)
+    c.link-linked.ensures.ok)
+
+pub returns-clause-live : goal.returns-clause-live
+returns-clause-live c = rw (← c.self.view_is) (either c.link-linked.result c.link-linked.ensures.ok c.link-linked.ensures.err
+    (λ adds. same_live c.self.inside.edges c.link-linked.new.self adds.nodes)
+    (λ same. ap (λ (v : EdgesView). map is_some v.nodes) same))
+
+pub returns-clause-linked : goal.returns-clause-linked
+returns-clause-linked c = linked_whole c.link-linked.new.self c.whole-2.ensures

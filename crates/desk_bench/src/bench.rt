@@ -6,7 +6,6 @@ ghost use Rattle.desk_terms.specs.Reading.{reading_of, IsWellFormed};
 use crate::pricing::price_of;
 use desk_names::ObjId;
 use desk_terms::{Bench, BenchFault, Job, Value};
-use item_lists::Items;
 use std::alloc::{AllocError, Global};
 
 /// Prices by the rules of this project, and counts its calls.
@@ -57,9 +56,10 @@ pub struct LogEntry {
 }
 
 /// The calls of a bench, in order.
-pub type LogList = Items<LogEntry>;
+pub type LogList = Vec<LogEntry>;
 
-/// Prices as `DeskBench` does, and keeps a log of its calls.
+/// Prices as `DeskBench` does, and keeps a log of its calls. Where the log has room for a call, this takes no more memory
+/// than its price.
 #[derive(Drop)]
 pub struct ListBench {
     calls: u64,
@@ -67,15 +67,27 @@ pub struct ListBench {
 }
 
 impl ListBench {
+    ghost use Rattle.std.specs.Prelude.{IfOk, vec_capacity};
+
     /// A bench that was never called. Its log grows in this memory.
     pub fn new(alloc: Global) -> ListBench
         ensures calls { result.calls ≡ 0 }
-        ensures log { result.log ≡ [] }
+        ensures log { result.log.items ≡ [] }
     {
         ListBench {
             calls: 0,
             log: LogList::new(alloc),
         }
+    }
+
+    /// A bench that was never called, whose log has room for so many calls.
+    pub fn with_room(alloc: Global, calls: usize) -> Result<ListBench, AllocError>
+        ensures calls { IfOk result (λ bench. bench.calls ≡ 0) }
+        ensures log { IfOk result (λ bench. bench.log.items ≡ []) }
+        ensures room { IfOk result (λ bench. vec_capacity bench.log ≡ calls) }
+    {
+        let log = LogList::with_capacity(alloc, calls)?;
+        Ok(ListBench { calls: 0, log })
     }
 
     /// The calls so far. A call for which memory ran out is not among them.
@@ -87,8 +99,9 @@ impl ListBench {
 }
 
 impl Bench for ListBench {
-    ghost use Rattle.std.specs.Prelude.{Some};
-    ghost use Rattle.desk_bench.specs.Pricing.{desk_calc};
+    ghost use Rattle.std.specs.Prelude.{Some, ◌<◌, ◌≤◌, vec_len, vec_capacity};
+    ghost use Rattle.desk_terms.specs.Bench.{entries_of, logged};
+    ghost use Rattle.desk_bench.specs.Pricing.{desk_calc, MayWant, WantsOnly};
     ghost use Rattle.desk_bench.specs.Log.{pairs_of};
     ghost use Rattle.desk_bench.specs.Fits.{desk_fits};
 
@@ -96,11 +109,20 @@ impl Bench for ListBench {
 
     ghost count = { λ bench. bench.calls };
 
-    ghost log = { λ bench. Some (pairs_of bench.log) };
+    ghost log = { λ bench. Some (pairs_of bench.log.items) };
 
     ghost fits = { λ _ reading formed. desk_fits reading formed };
 
-    fn price(&mut self, alloc: Global, job: &Job<'_>) -> Result<Value, BenchFault> {
+    // The trait's clauses for this bench, and where it may want memory: where the log has no room, and where its price does.
+    fn price(&mut self, alloc: Global, job: &Job<'_>) -> Result<Value, BenchFault>
+        requires { IsWellFormed (reading_of job.now) }
+        ensures answer { Answers (desk_calc (reading_of job.now)) result }
+        ensures count { self.new.calls ≡ counted self.old.calls 1 }
+        ensures log { Some (pairs_of self.new.log.items) ≡ logged (Some (pairs_of self.old.log.items)) (entries_of job.now.object result) }
+        ensures memory { vec_len self.old.log < vec_capacity self.old.log
+            → WantsOnly (MayWant job.now.object job.now.terms.now job.now.inputs.now) result }
+        ensures room { vec_capacity self.old.log ≤ vec_capacity self.new.log }
+    {
         self.calls = next_count(self.calls);
         match price_of(alloc, job) {
             Ok(value) => {

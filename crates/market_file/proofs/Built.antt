@@ -40,7 +40,7 @@ use Rattle.market_file.specs.Fault.{at_entry as at_number, in_section}
 use Rattle.market_file.specs.Document.{document_of}
 use Rattle.market_file.specs.Top.{top_of}
 use Rattle.market_file.specs.Market.{tables_at, sized, table_sized, quotes_onto, objects_onto, fixings_onto, objects_of, board_of}
-use Rattle.market_file.specs.Standing.{AreServed, IsNext, AreInOrder, IsReady}
+use Rattle.market_file.specs.Standing.{AreServed, AreLimited, IsNext, AreInOrder, IsReady}
 use Rattle.market_file.proofs.Given.{Given, bound, past, holds, at_given}
 use Rattle.market_file.proofs.Served.{IsEntry, new_name_free, entry_in_fits}
 
@@ -95,13 +95,27 @@ first_kept : (names more : List (List ℕ)) (name : List ℕ) → slice_get name
 first_kept [] more name is = absurd (cc)
 first_kept (n ∷ names) more name is = is
 
+-- what is within the limits of a market is in range
+limited_ranged : (t : Terms) → AreLimited t → AreInRange t
+limited_ranged (terms.Quote value) h = tt
+limited_ranged (terms.Derived minus first second) h = tt
+limited_ranged (terms.Handle kind target) h = tt
+limited_ranged (terms.Curve curve) h = h
+limited_ranged (terms.Implied curve reference) h = tt
+limited_ranged (terms.Index index fixings) h = h
+limited_ranged (terms.Engine curve) h = tt
+limited_ranged (terms.Stock quote) h = tt
+limited_ranged (terms.Composite parts) h = tt
+limited_ranged (terms.Flows flows engine) h = h
+
 added_built : (b : Earlier) (name : List ℕ) (t : Terms) → IsBuilt b → IsEntry b (name, t) → Given IsBuilt (added b name t)
 added_built b name t built entry = by_test (nat_le 4096 (length b.kinds)) refl
   where
     next : HasFlowsInRange t → IsNext (Today ∷ kinds_of b.made) (place_of b.names name, t)
     next flows = record {
       number = new_place b.names name entry.0 ∙ built.names ∙ ap length built.kinds;
-      ranged = entry.1.0 flows;
+      ranged = limited_ranged t (entry.1.0 flows);
+      limited = entry.1.0 flows;
       inputs = subst (λ (ks : List Kind). AreServed ks (inputs_of t)) built.kinds entry.1.1;
     }
 
@@ -142,6 +156,7 @@ pub record IsAsBefore (old new : ℕ × Terms) : Type 0 where
   pub kind : kind_of new.1 ≡ kind_of old.1
   pub inputs : inputs_of new.1 ≡ inputs_of old.1
   pub ranged : AreInRange old.1 → AreInRange new.1
+  pub limited : AreLimited old.1 → AreLimited new.1
   pub flows : HasFlows new → HasFlows old
 
 kinds_kept : (made : List (ℕ × Terms)) (at : ℕ) (old new : ℕ × Terms) → slice_get made at ≡ Some old → IsAsBefore old new → kinds_of (slice_set made at new) ≡ kinds_of made
@@ -153,6 +168,7 @@ next_kept : (kinds : List Kind) (old new : ℕ × Terms) → IsAsBefore old new 
 next_kept kinds old new same next = record {
   number = same.number ∙ next.number;
   ranged = same.ranged next.ranged;
+  limited = same.limited next.limited;
   inputs = subst (λ (rs : List Reference). AreServed kinds rs) (sym same.inputs) next.inputs;
 }
 
@@ -192,7 +208,7 @@ HasSame old new = (n : ℕ) → IsAsBefore (n, old) (n, new)
 fixed_same : (t : Terms) (day rate : ℤ) → Given (HasSame t) (fixing.fixed t day rate)
 fixed_same (terms.Index index fixings) day rate =
     past (HasSame (terms.Index index fixings)) (fixing.stored fixings day rate (fixing_on fixings day)) (λ more. Ok (terms.Index index more))
-    (λ more n. record { number = refl; kind = refl; inputs = refl; ranged = λ h. h; flows = λ h. h })
+    (λ more n. record { number = refl; kind = refl; inputs = refl; ranged = λ h. h; limited = λ h. h; flows = λ h. h })
 fixed_same (terms.Quote value) day rate = tt
 fixed_same (terms.Derived minus first second) day rate = tt
 fixed_same (terms.Handle target_kind target) day rate = tt
@@ -308,3 +324,12 @@ pub ranged : (kinds : List Kind) (made : List (ℕ × Terms)) → AreInOrder kin
 ranged kinds [] order = All-nil AreRanged
 ranged kinds (e ∷ made) order =
     All-cons AreRanged e made order.0.ranged (ranged (kinds ++ kind_of e.1 ∷ []) made order.1)
+
+abbrev AreAllLimited : ℕ × Terms → Type 0
+AreAllLimited entry = AreLimited entry.1
+
+-- and within the limits of a market
+pub limited : (kinds : List Kind) (made : List (ℕ × Terms)) → AreInOrder kinds made → All AreAllLimited made
+limited kinds [] order = All-nil AreAllLimited
+limited kinds (e ∷ made) order =
+    All-cons AreAllLimited e made order.0.limited (limited (kinds ++ kind_of e.1 ∷ []) made order.1)

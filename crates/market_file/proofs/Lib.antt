@@ -1,4 +1,6 @@
 mod Given
 mod Fields
+mod Composed
 mod Served
 pub mod Built
+mod KeyRows

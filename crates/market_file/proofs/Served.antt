@@ -24,7 +24,6 @@ use Rattle.desk_terms.specs.declared.terms.Part.{Part}
 use Rattle.desk_terms.specs.declared.terms.Terms.{Terms}
 use Rattle.desk_terms.specs.declared.terms.Terms.TheVariants as terms
 use Rattle.desk_terms.specs.Kind.{serves}
-use Rattle.desk_terms.specs.Reading.{AreInRange}
 use Rattle.desk_terms.specs.Terms.{inputs_of, part_references, helper_references}
 use Rattle.flow_terms.specs.declared.flows.FlowTerm.{FlowTerm}
 use Rattle.flow_terms.specs.declared.limits.TheConstants.{MOST_FLOWS}
@@ -66,7 +65,8 @@ use Rattle.market_instruments.specs.Forwards.{settlement_of, forward_of}
 use Rattle.market_objects.specs.Board.{HasFlowsInRange}
 use Rattle.market_objects.specs.Making.{derived_of, target_wanted, linked, handle_of, curve_of, implied_of, index_of, engine_of, stock_of, composite_of, or_no_parts, parts_of, terms_of, entry_made}
 use Rattle.market_objects.specs.Reader.{entry_in}
-use Rattle.market_file.specs.Standing.{is_served, AreServed}
+use Rattle.market_file.specs.Standing.{is_served, AreServed, AreLimited}
+use Rattle.market_file.proofs.Composed.{are_within}
 use Rattle.market_file.proofs.Given.{Given, bound, always, past, from_sorted, to_sorted}
 use Rattle.market_file.proofs.Fields.{IfThere, must_so, name_so, object_so, named_so, count_so, tenor_so, parts_so, helpers_so}
 
@@ -372,11 +372,11 @@ place_fits e place.Position d = plain_fits e place.Position d
 
 -- ---- terms
 
--- the terms are in range if their flows are
+-- the terms are within their limits if their flows are
 abbrev pub IsRanged : Terms → Type 0
-IsRanged t = HasFlowsInRange t → AreInRange t
+IsRanged t = HasFlowsInRange t → AreLimited t
 
--- the terms are in range if their flows are, and the inputs are of their kinds
+-- the terms are within their limits if their flows are, and the inputs are of their kinds
 abbrev pub MayBeMade : Earlier → Terms → Type 0
 MayBeMade e t = IsRanged t × AreServed e.kinds (inputs_of t)
 
@@ -431,15 +431,15 @@ module _ (e : Earlier) (fs : List (Option Field)) where
   stock_fits h = bound (IsServed e QuoteInput) (MayBeMade e) (must (object_in (field_in fs 1))) _ (there e QuoteInput (field_in fs 1) h) (λ q hq. ((λ _. tt), (hq, tt)))
 
   composite_fits : (parts : List Part) → ArePartsServed e parts → Given (MayBeMade e) (composite_of parts)
-  composite_fits parts h = by_test (nat_lt 4095 (length parts))
+  composite_fits parts h = by_test (nat_lt 4095 (length parts)) refl
     where
-      by_fault : (found : Option LimitFault) → Given (MayBeMade e) (limited (unless found parts))
-      by_fault None = ((λ _. tt), h)
-      by_fault (Some f) = tt
+      by_fault : length parts ≤ 4095 → (found : Option LimitFault) → first_fault [] parts ≡ found → Given (MayBeMade e) (limited (unless found parts))
+      by_fault few None is = ((λ _. record { few = few; within = are_within parts is }), h)
+      by_fault few (Some f) is = tt
 
-      by_test : (b : Bool) → Given (MayBeMade e) (if b then Err fault.Parts else limited (composite_or_fault parts))
-      by_test true = tt
-      by_test false = by_fault (first_fault [] parts)
+      by_test : (b : Bool) → nat_lt 4095 (length parts) ≡ b → Given (MayBeMade e) (if b then Err fault.Parts else limited (composite_or_fault parts))
+      by_test true is = tt
+      by_test false is = by_fault (grind (arith, nat_tests)) (first_fault [] parts) refl
 
   or_no_parts_fits : (parts : Option (List Part)) → IfThere (ArePartsServed e) parts → Given (MayBeMade e) (or_no_parts parts)
   or_no_parts_fits None h = composite_fits [] tt

@@ -9,7 +9,7 @@ ghost use Rattle.market_file.specs.Document.{document_of};
 ghost use Rattle.market_file.specs.Top.{top_of};
 ghost use Rattle.market_file.specs.Market.{items_of, tables_at, sized, table_sized, quotes_onto, objects_onto, fixings_onto, objects_of, board_of, read_market};
 ghost use Rattle.desk_terms.specs.Reading.{AreInRange};
-ghost use Rattle.market_file.specs.Standing.{IsReady};
+ghost use Rattle.market_file.specs.Standing.{IsReady, AreLimited};
 ghost use Rattle.market_file.specs.declared.fault.Section.TheVariants as section;
 ghost use Rattle.market_objects.specs.Board.{started};
 
@@ -197,8 +197,8 @@ fn board_of(
 
 /// The market of a text and of the tables that it names, or its first fault; a table that it does not name is not read.
 /// `names` becomes the names of the market's objects, `today` first, and stays as it was where the market is refused;
-/// the names of calendars are not among them. The terms of curves, indexes and instruments are within their limits, and
-/// each object rests on objects before it that are of the kinds that it wants.
+/// the names of calendars are not among them. The terms of curves, indexes and instruments and the parts of composites are
+/// within their limits, and each object rests on objects before it that are of the kinds that it wants.
 pub fn read_market(
     alloc: Global,
     text: &[u8],
@@ -210,6 +210,7 @@ pub fn read_market(
         result (read_market text.now quotes.now fixings.now) }
     ensures ready { IfOk result (λ market. IsReady names.new market.made.items) }
     ensures ranged { IfOk result (λ market. All (λ entry. AreInRange entry.1) market.made.items) }
+    ensures limited { IfOk result (λ market. All (λ entry. AreLimited entry.1) market.made.items) }
     ensures err { OnErr result (names.new ≡ names.old) }
 {
     let (today, board) = board_of(alloc, text, quotes, fixings)?;

@@ -2,7 +2,7 @@ use Rattle.std.proofs.Common.{List, ℕ, sym, subst}
 use Rattle.desk_terms.specs.declared.terms.Terms.{Terms}
 use Rattle.market_objects.specs.Board.{HaveFlowsInRange}
 use Rattle.market_file.specs.Standing.{IsReady}
-use Rattle.market_file.proofs.Built.{ready, ranged}
+use Rattle.market_file.proofs.Built.{ready, ranged, limited}
 use Rattle.market_file.proofs.read.read_market.Goals as goal
 
 pub returns-clause-ready : goal.returns-clause-ready
@@ -15,3 +15,6 @@ returns-clause-ready c =
 
 pub returns-clause-ranged : goal.returns-clause-ranged
 returns-clause-ranged c = ranged _ _ (returns-clause-ready c).order
+
+pub returns-clause-limited : goal.returns-clause-limited
+returns-clause-limited c = limited _ _ (returns-clause-ready c).order

@@ -2,9 +2,9 @@
 use Rattle.desk_model.specs.State.{State}
 use Rattle.desk_model.specs.Effect as effect
 use Rattle.session_model.specs.declared.act.Change.{Change}
-use Rattle.session_model.specs.declared.act.Change.TheVariants.{Set, Link, Engine, Today, Freeze, Thaw, Forward, Defer, Resume, Drop}
+use Rattle.session_model.specs.declared.act.Change.TheVariants.{Set, Link, Engine, Today, Freeze, Thaw, Forward, Defer, Resume, Unregister, Drop}
 use Rattle.session_model.specs.declared.act.Growth.{Growth}
-use Rattle.session_model.specs.declared.act.Growth.TheVariants.{Member, Fixing}
+use Rattle.session_model.specs.declared.act.Growth.TheVariants.{Member, Fixing, Register}
 
 -- THE ONE TABLE OF CHANGES: the state of the objects after a change and its notice
 unfoldable pub changed : Change → State → State
@@ -17,9 +17,11 @@ changed (Thaw object) s = effect.thawed object s
 changed (Forward object is_on) s = effect.forward_set object is_on s
 changed Defer s = effect.deferred s
 changed Resume s = effect.resumed s
+changed (Unregister watcher object) s = effect.unregistered watcher object s
 changed (Drop object) s = effect.dropped object s
 
 -- and after one that is stored beside what is there
 unfoldable pub grown : Growth → State → State
 grown (Member composite member weight) s = effect.member_set composite member weight s
 grown (Fixing index day rate) s = effect.fixing_added index day rate s
+grown (Register watcher object) s = effect.registered_with watcher object s

@@ -5,6 +5,9 @@ pub mod Change
 pub mod Pricing
 pub mod Resolve
 pub mod Turn
+pub mod Course
+pub mod Ends
 pub mod RoomRows
 pub mod Rounds
 pub mod Rows
+pub mod WatchRows

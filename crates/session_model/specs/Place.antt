@@ -5,7 +5,7 @@ use Rattle.desk_terms.specs.declared.kind.Kind.TheVariants as kind
 use Rattle.desk_terms.specs.Kind.{serves, role}
 use Rattle.desk_model.specs.Market.{is_lazy}
 use Rattle.session_model.specs.declared.place.Place.{Place}
-use Rattle.session_model.specs.declared.place.Place.TheVariants.{Input, Quote, Composite, Handle, Flows, Priced, Droppable}
+use Rattle.session_model.specs.declared.place.Place.TheVariants.{Input, Quote, Composite, Handle, Flows, Priced, Droppable, Watcher, Observable}
 
 -- a number of its own for each kind
 abbrev pub kind_number : Kind → ℕ
@@ -34,6 +34,8 @@ takes Handle k = is_kind kind.QuoteHandle k || is_kind kind.CurveHandle k
 takes Flows k = is_kind kind.Flows k
 takes Priced k = is_lazy (role k)
 takes Droppable k = not (is_kind kind.Today k)
+takes Watcher k = is_kind kind.Watcher k
+takes Observable k = not (is_kind kind.Watcher k)
 
 -- nothing is taken where no live object is
 abbrev pub takes_found : Place → Option Kind → Bool

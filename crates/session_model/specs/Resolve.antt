@@ -13,10 +13,11 @@ use Rattle.desk_model.specs.Market.{Market, kind_at, least_user}
 use Rattle.desk_model.specs.Uses.{index_at, fixings_in}
 use Rattle.desk_model.specs.Links.{reaches}
 use Rattle.desk_model.specs.State.{least_source}
+use Rattle.desk_model.specs.Told.{is_registered}
 use Rattle.session_commands.specs.declared.command.Command.{Command}
 use Rattle.session_commands.specs.declared.command.Command.TheVariants as command
 use Rattle.session_commands.specs.declared.refusal.Refusal.{Refusal}
-use Rattle.session_commands.specs.declared.refusal.Refusal.TheVariants.{Unknown, Taken, Kind, Cycle, InUse, FixingExists, TooMany, Deferred, Unbuilt}
+use Rattle.session_commands.specs.declared.refusal.Refusal.TheVariants.{Unknown, Taken, Kind, Cycle, InUse, FixingExists, TooMany, AlreadyRegistered, NotRegistered, Deferred, Unbuilt}
 use Rattle.session_model.specs.declared.act.Act.{Act}
 use Rattle.session_model.specs.declared.act.Act.TheVariants as act
 use Rattle.session_model.specs.declared.act.Change.TheVariants as change
@@ -149,3 +150,20 @@ resolve p (command.Drop o) =
     with_found (find place.Droppable p o) (λ x. unless_used (least_user p.state.market x) (act.Quiet (change.Drop x)))
 resolve p (command.Ask o) = with_found (find place.Priced p o) (λ x. Ok (act.Price o x how.Ask))
 resolve p (command.Df c day) = with_found (find curve p c) (λ x. Ok (act.Price c x (how.Df day)))
+
+-- a new watcher needs room
+abbrev pub watching : Standing → ℕ → ℕ → Result Act Refusal
+watching p name action = unless (is_full p.state.market) TooMany (act.Watch name action)
+
+-- a watcher and an object that it may watch
+abbrev pub pairing : Standing → ℕ → ℕ → (ℕ → ℕ → Result Act Refusal) → Result Act Refusal
+pairing p w o rest = with_found (find place.Watcher p w) (λ x. with_found (find place.Observable p o) (λ y. rest x y))
+
+-- the same with the commands of watchers
+unfoldable pub resolve_all : Standing → Command → Result Act Refusal
+resolve_all p (command.Watch w action) = unless_taken p w (watching p w action)
+resolve_all p (command.Register w o) =
+    pairing p w o (λ x y. unless (is_registered p.state x y) AlreadyRegistered (act.Grow (growth.Register x y)))
+resolve_all p (command.Unregister w o) =
+    pairing p w o (λ x y. unless (not (is_registered p.state x y)) NotRegistered (act.Quiet (change.Unregister x y)))
+resolve_all p c = resolve p c

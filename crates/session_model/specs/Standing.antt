@@ -1,5 +1,5 @@
 -- A session with its names.
-use Rattle.std.specs.Prelude.{ℕ, ◌+◌, Bool, false, ◌&&◌, ◌||◌, ◌==◌, nat_le, if◌then◌else◌, ℤ, List, [], ◌∷◌, ◌++◌, codes, length, Option, Some, None}
+use Rattle.std.specs.Prelude.{ℕ, ◌+◌, Bool, false, ◌&&◌, ◌||◌, ◌==◌, nat_le, if◌then◌else◌, ℤ, List, [], ◌∷◌, ◌++◌, codes, length, replicate, slice_index_or, Option, Some, None}
 use Rattle.desk_names.specs.Names.{place_of}
 use Rattle.desk_terms.specs.declared.terms.Terms.{Terms}
 use Rattle.session_commands.specs.declared.command.Command.{Command}
@@ -10,12 +10,14 @@ use Rattle.desk_model.specs.Effect as effect
 use Rattle.session_model.specs.declared.limits.TheConstants.{MOST_LIVE, MOST_NUMBERS}
 
 -- a session: the state of its objects, the texts of its names by number, the name of each object by the object's
--- number, the actions of its script, and whether it is stopped, because memory ran out in a command
+-- number, the actions of its script, by the number of each name the action of its watcher, and whether it is stopped,
+-- because memory ran out in a command
 pub record Standing : Type 0 where
   pub state : State
   pub names : List (List ℕ)
   pub of_object : List ℕ
   pub actions : List (List Command)
+  pub watching : List (Option ℕ)
   pub stopped : Bool
 
 -- a session that has this day, these names and actions, and no object but `today`
@@ -25,8 +27,8 @@ start_of today names actions =
       state = effect.start today;
       names = names;
       of_object = place_of names (codes "today") ∷ [];
-      actions =
-          actions;
+      actions = actions;
+      watching = replicate (length names) None;
       stopped = false;
     }
 
@@ -40,6 +42,10 @@ with_objects (entry ∷ made) p =
 -- a new session over a market: this day, these names and actions, and the market's objects; no value is current
 abbrev pub start_with : ℤ → List (List ℕ) → List (ℕ × Terms) → List (List Command) → Standing
 start_with today names made actions = with_objects made (start_of today names actions)
+
+-- the name of an object
+abbrev pub name_of : Standing → ℕ → ℕ
+name_of p o = slice_index_or p.of_object o 0
 
 -- the first live object with a name, where the objects from number o on have these names
 unfoldable pub named_from : Market → ℕ → ℕ → List ℕ → Option ℕ

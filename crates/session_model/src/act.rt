@@ -3,12 +3,15 @@ use day_number::Day;
 use desk_names::{NameId, ObjId};
 use desk_terms::Terms;
 use fixed_amount::Rate;
+use session_commands::ActionId;
 
 /// A command that is not refused, its objects found.
 #[derive(Drop)]
 pub enum Act {
     /// Makes an object that has this name and these terms.
     Make(NameId, Terms),
+    /// Makes a watcher that has this name and this action, and is registered with nothing.
+    Watch(NameId, ActionId),
     /// Changes what is there.
     Quiet(Change),
     /// Puts something more beside what is there.
@@ -38,6 +41,8 @@ pub enum Change {
     Defer,
     /// Gives all notices that are held back, and holds none back from then on.
     Resume,
+    /// Registers a watcher with an object no more: the watcher, the object.
+    Unregister(ObjId, ObjId),
     /// Takes an object out.
     Drop(ObjId),
 }
@@ -51,6 +56,8 @@ pub enum Growth {
     Member(ObjId, ObjId, i64),
     /// Stores a rate of an index, in units of 10^-9, for a day that has none.
     Fixing(ObjId, Day, Rate),
+    /// Registers a watcher with an object: the watcher, the object.
+    Register(ObjId, ObjId),
 }
 
 /// How a lazy object is priced.

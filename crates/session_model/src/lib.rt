@@ -2,7 +2,8 @@
 //! lines and the computations that it gives, and the transcript of all its commands.
 //!
 //! `Act` with `Change`, `Growth` and `How`, `Place`, `MOST_LIVE`, `MOST_NUMBERS`. Words of `specs/`: `Standing`,
-//! `resolve`, `changed`, `pricing_of`, `step`, `Turn`, `turn`, `rounds`, `transcript`, `calls_of`.
+//! `resolve`, `changed`, `pricing_of`, `step`, `Turn`, `turn`, `rounds`, `transcript`, `calls_of`; of watchers, for whom the
+//! program does not run yet, `acted`, `Running`, `done`, `run`, `round_of`.
 //! Its functions without a body are laws: their contracts are what is proved.
 #![tactic(auto)]
 
@@ -12,9 +13,10 @@ mod limits;
 mod place;
 mod room_rows;
 mod rows;
+mod watch_rows;
 
 pub use act::{Act, Change, Growth, How};
-pub use laws::without_freezing_and_deferral_all_is_fresh;
+pub use laws::{every_round_ends, without_freezing_and_deferral_all_is_fresh};
 pub use limits::{MOST_LIVE, MOST_NUMBERS};
 pub use place::Place;
 pub use room_rows::{
@@ -26,4 +28,8 @@ pub use rows::{
     frozen_objects_are_worked_through, handles_are_worked_through, members_are_worked_through,
     objects_of_a_market_are_worked_through, recalculation_is_worked_through,
     refusals_are_worked_through, unset_quotes_are_worked_through,
+};
+pub use watch_rows::{
+    eight_runs_are_worked_through, notices_are_worked_through, picks_are_worked_through,
+    watchers_are_refused_in_order,
 };

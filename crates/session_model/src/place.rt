@@ -21,6 +21,10 @@ pub enum Place {
     Priced,
     /// Any object but `today`.
     Droppable,
+    /// A watcher.
+    Watcher,
+    /// What a watcher may be registered with: any object but a watcher.
+    Observable,
 }
 
 impl Place {
@@ -39,6 +43,8 @@ impl Place {
                 Kind::Curve | Kind::Implied | Kind::Stock | Kind::Composite | Kind::Flows
             ),
             Place::Droppable => !matches!(kind, Kind::Today),
+            Place::Watcher => matches!(kind, Kind::Watcher),
+            Place::Observable => !matches!(kind, Kind::Watcher),
         }
     }
 }

@@ -1,0 +1,22 @@
+// The definitions of rounds checked against sessions with watchers that were worked through by hand.
+ghost use Rattle.session_model.specs.WatchRows.{AreWatchersRefused, AreTold, AreRunEightTimes, ArePicked};
+
+/// Each refusal of a command of watchers comes in its order.
+pub fn watchers_are_refused_in_order()
+    ensures { AreWatchersRefused }
+{}
+
+/// Who is told by a change, and by a resume.
+pub fn notices_are_worked_through()
+    ensures { AreTold }
+{}
+
+/// Eight runs of a name in a round, and what is written then.
+pub fn eight_runs_are_worked_through()
+    ensures { AreRunEightTimes }
+{}
+
+/// The order of the due watchers, and watchers that are gone before they run.
+pub fn picks_are_worked_through()
+    ensures { ArePicked }
+{}

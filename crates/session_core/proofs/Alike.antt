@@ -1,6 +1,6 @@
 -- Which changes leave every object's life, and so its name, as it was.
-use Rattle.std.proofs.Common.{◌≡◌, ◌≢◌, inl, inr, ℕ, ◌<◌, ◌≤◌, ◌+◌, ◌-◌, Bool, true, false, ◌||◌, length, List, Option, Some, None, ℤ, if◌then◌else◌, refl, sym, ◌∙◌, ap, subst, arith}
-use Rattle.std.specs.Prelude.{slice_index_or, slice_set, nat_le, Result, Ok, Err, OnOk, OnErr}
+use Rattle.std.proofs.Common.{◌≡◌, ◌≢◌, inl, inr, ℕ, ◌<◌, ◌≤◌, ◌+◌, ◌-◌, Bool, true, false, ◌||◌, length, List, [], ◌∷◌, Option, Some, None, ℤ, if◌then◌else◌, refl, sym, ◌∙◌, ap, subst, arith}
+use Rattle.std.specs.Prelude.{slice_index_or, slice_set, nat_le, Result, Ok, Err, IfOk, IfSome, IfNone, OnOk, OnErr}
 use Rattle.std.specs.Ordering.{int_eq}
 use Rattle.std.proofs.lemmas.List.{get_or-set_same, get_or-set_other, length-set}
 use Rattle.std.proofs.lemmas.Option.{get_or_from_slice_get, slice_get_read}
@@ -20,7 +20,7 @@ use Rattle.desk_model.specs.Recalc.{inputs_walk, recalced_bare, recalced}
 use Rattle.desk_model.proofs.Stores.{told_market}
 use Rattle.desk_model.specs.Held.{Changeable, changeable}
 use Rattle.desk_model.specs.Held.Changeable.{HasValue, HasTarget, HasFixings, HasParts, HasEngine, HasNone}
-use Rattle.desk_model.specs.Effect.{notified_as, notified, with_terms, revised, revised_unless, value_set, quote_set, target_set, relinked, priced_by_engine, engine_set, weight_set, member_set, fixing_stored, fixing_added, with_today, today_set, dropped, frozen_set, unfrozen, thawed, forward_set, deferred, resumed}
+use Rattle.desk_model.specs.Effect.{notified_as, notified, with_terms, revised, revised_unless, value_set, quote_set, target_set, relinked, priced_by_engine, engine_set, weight_set, member_set, fixing_stored, fixing_added, with_today, today_set, dropped, frozen_set, unfrozen, thawed, forward_set, deferred, resumed, registered_with, unregistered}
 use Rattle.session_model.specs.declared.place.Place.TheVariants.{Droppable}
 use Rattle.session_model.specs.Place.{takes_found}
 use Rattle.session_model.specs.Standing.{Standing, is_full}
@@ -230,6 +230,22 @@ deferred_alike s t is = to s t (deferred s) is (alike_same s.market s.market ref
 pub resumed_alike : (s t : State) → t ≡ resumed s → AreAlike s.market t.market
 unfolding resumed
 resumed_alike s t is = to s t (resumed s) is (alike_either s _ s.deferring (told_market (is_source s) s))
+
+pub unregistered_alike : (s t : State) (w o : ℕ) → t ≡ unregistered w o s → AreAlike s.market t.market
+unfolding unregistered
+unregistered_alike s t w o is = to s t (unregistered w o s) is (alike_same s.market s.market refl)
+
+pub registered_alike : {E : Type 0} (s t : State) (w o : ℕ) (result : Result Bool E)
+    → IfOk result (λ is_new. t ≡ (if is_new then registered_with w o s else s)) → OnErr result (t ≡ s) → AreAlike s.market t.market
+unfolding registered_with
+registered_alike s t w o (Ok true) is same = to s t (registered_with w o s) is (alike_same s.market s.market refl)
+registered_alike s t w o (Ok false) is same = to s t s is (alike_same s.market s.market refl)
+registered_alike s t w o (Err e) is same = to s t s same (alike_same s.market s.market refl)
+
+pub told_alike : (s t : State) (result : Option ℕ) → IfNone result ((s.noticed ≡ []) × (t ≡ s))
+    → IfSome result (λ w. (s.noticed ≡ w ∷ t.noticed) × (t ≡ record s { noticed = t.noticed })) → AreAlike s.market t.market
+told_alike s t None none some = to s t s none.1 (alike_same s.market s.market refl)
+told_alike s t (Some w) none some = to s t (record s { noticed = t.noticed }) some.1 (alike_same s.market s.market refl)
 
 pub stored_alike : (s t : State) (calls : List (ℕ × Outcome)) → t ≡ stored s calls → AreAlike s.market t.market
 unfolding stored

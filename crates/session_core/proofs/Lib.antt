@@ -5,3 +5,4 @@ pub mod Naming
 pub mod Priced
 pub mod Resolved
 pub mod Turns
+pub mod Watching

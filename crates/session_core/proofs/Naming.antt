@@ -5,10 +5,10 @@ use Rattle.std.proofs.lemmas.List.{get_or-set_same, get_or-set_other, get_or_app
 use Rattle.std.proofs.lemmas.Bool.{cases_eq, cases_lt, eq-eqb, eqb-true, false≢true}
 use Rattle.desk_terms.specs.declared.terms.Terms.{Terms}
 use Rattle.desk_model.specs.declared.slot.Slot.{Slot}
-use Rattle.desk_model.specs.declared.slot.Slot.TheVariants.{Free, Today, Live}
+use Rattle.desk_model.specs.declared.slot.Slot.TheVariants.{Free, Today, Watcher, Live}
 use Rattle.desk_model.specs.Market.{Market, slot_at, is_given, count_live, live_count}
 use Rattle.desk_model.specs.State.{State}
-use Rattle.desk_model.specs.Effect.{start, made, dropped}
+use Rattle.desk_model.specs.Effect.{start, added, made, watching, dropped}
 use Rattle.session_model.specs.Standing.{Standing, named_from, object_named}
 use Rattle.session_core.specs.HasNames.{IsNamed, HasNames}
 
@@ -133,6 +133,7 @@ pub names_alike : (p : Standing) (of_name : List (Option ℕ)) (live : ℕ) (sta
     → AreAlike p.state.market state.market → HasNames p of_name live
     → HasNames (record p { state = state; stopped = stopped }) of_name live
 names_alike p of_name live state stopped alike h = record {
+  watching = h.watching;
   table = h.table;
   objects = h.objects ∙ sym alike.length;
   today = alike.today h.today;
@@ -145,10 +146,10 @@ one_more : (b : Bool) (n k : ℕ) → n ≡ k + 1 → (if b then suc n else n) �
 one_more true n k e = omega (arith, e)
 one_more false n k e = e
 
-count_more : (xs : List Slot) (terms : Terms) → count_live (xs ++ Live terms ∷ []) ≡ count_live xs + 1
-count_more [] terms = refl
-count_more (x ∷ xs) terms =
-    one_more (is_given x) (count_live (xs ++ Live terms ∷ [])) (count_live xs) (count_more xs terms)
+count_more : (xs : List Slot) (slot : Slot) → is_given slot ≡ true → count_live (xs ++ slot ∷ []) ≡ count_live xs + 1
+count_more [] slot given = ap (λ (b : Bool). if b then 1 else 0) given
+count_more (x ∷ xs) slot given =
+    one_more (is_given x) (count_live (xs ++ slot ∷ [])) (count_live xs) (count_more xs slot given)
 
 count_less : (xs : List Slot) (o : ℕ) → is_given (slice_index_or xs o Free) ≡ true
     → count_live xs ≡ count_live (slice_set xs o Free) + 1
@@ -161,32 +162,33 @@ pub none_some : {A : Type 0} {a : A} → None ≡ Some a → ⊥
 none_some e = cc
 
 -- an object is made under a name that no live object has
-pub names_made : (p : Standing) (of_name : List (Option ℕ)) (live name number : ℕ) (terms : Terms) (state : State)
-    (of_object : List ℕ)
-    → HasNames p of_name live → object_named p name ≡ None → name < length p.names → state ≡ made terms p.state
-    → of_object ≡ p.of_object ++ name ∷ [] → number ≡ length p.state.market.objects
-    → HasNames (record p { state = state; of_object = of_object }) (slice_set of_name name (Some number)) (live + 1)
-unfolding made
-names_made p of_name live name number terms state of_object h free within is more given = rw (is, more) (record {
+pub names_added : (p : Standing) (of_name : List (Option ℕ)) (live name number : ℕ) (slot : Slot) (state : State)
+    (of_object : List ℕ) (watching : List (Option ℕ)) → is_given slot ≡ true
+    → HasNames p of_name live → object_named p name ≡ None → name < length p.names → state ≡ added slot p.state
+    → of_object ≡ p.of_object ++ name ∷ [] → number ≡ length p.state.market.objects → length watching ≡ length p.watching
+    → HasNames (record p { state = state; of_object = of_object; watching = watching }) (slice_set of_name name (Some number))
+    (live + 1)
+names_added p of_name live name number slot state of_object watching taken h free within is more given long = rw (is, more) (record {
+  watching = long ∙ h.watching;
   table = length-set of_name name (Some number) ∙ h.table;
   objects = omega (
     arith,
     length-append p.of_object (name ∷ []),
     length-append p.state.market.objects
-        (Live terms ∷ []),
+        (slot ∷ []),
     h.objects,
   );
   today = old_slot 0 (given_within p.state.market 0 (ap is_given h.today)) ∙ h.today;
-  living = ap (λ (n : ℕ). n + 1) h.living ∙ sym (count_more p.state.market.objects terms);
+  living = ap (λ (n : ℕ). n + 1) h.living ∙ sym (count_more p.state.market.objects slot taken);
   there = there;
   all = all;
 })
   where
     objects : List Slot
-    objects = p.state.market.objects ++ Live terms ∷ []
+    objects = p.state.market.objects ++ slot ∷ []
 
     market : Market
-    market = record p.state.market { objects = p.state.market.objects ++ Live terms ∷ [] }
+    market = record p.state.market { objects = p.state.market.objects ++ slot ∷ [] }
 
     names : List ℕ
     names = p.of_object ++ name ∷ []
@@ -195,16 +197,16 @@ names_made p of_name live name number terms state of_object h free within is mor
     unnamed = found_is p of_name live h name ∙ free
 
     old_slot : (o : ℕ) → o < length p.state.market.objects
-        → slice_index_or (p.state.market.objects ++ Live terms ∷ []) o Free ≡ slice_index_or p.state.market.objects o
+        → slice_index_or (p.state.market.objects ++ slot ∷ []) o Free ≡ slice_index_or p.state.market.objects o
         Free
-    old_slot o below = get_or_append_left p.state.market.objects (Live terms ∷ []) Free o below
+    old_slot o below = get_or_append_left p.state.market.objects (slot ∷ []) Free o below
 
     old_name : (o : ℕ) → o < length p.state.market.objects
         → slice_index_or (p.of_object ++ name ∷ []) o 0 ≡ slice_index_or p.of_object o 0
     old_name o below = get_or_append_left p.of_object (name ∷ []) 0 o (omega (arith, below, h.objects))
 
-    new_slot : slice_index_or (p.state.market.objects ++ Live terms ∷ []) number Free ≡ Live terms
-    new_slot = get_or_push p.state.market.objects (Live terms) Free number (sym given)
+    new_slot : slice_index_or (p.state.market.objects ++ slot ∷ []) number Free ≡ slot
+    new_slot = get_or_push p.state.market.objects (slot) Free number (sym given)
 
     new_name : slice_index_or (p.of_object ++ name ∷ []) number 0 ≡ name
     new_name = get_or_push p.of_object name 0 number (omega (arith, given, h.objects))
@@ -221,7 +223,7 @@ names_made p of_name live name number terms state of_object h free within is mor
           let here2 : Some number ≡ Some o = sym here ∙ e2 in
           let is : number ≡ o = cc in
           subst (λ (x : ℕ). IsNamed market (p.of_object ++ name ∷ []) n x) is
-          (ap is_given new_slot, new_name ∙ sym same)
+          (ap is_given new_slot ∙ taken, new_name ∙ sym same)
       | inr other ↦
           let old = h.there n o (sym (get_or-set_other of_name name n (Some number) None other) ∙ e) in
           let below = given_within p.state.market o old.0 in
@@ -237,14 +239,34 @@ names_made p of_name live name number terms state of_object h free within is mor
           λ e. none_some (sym unnamed ∙ subst (λ (x : ℕ). slice_index_or of_name x None ≡ Some o) e old) in
           get_or-set_other of_name name n (Some number) None other ∙ old
       | inr past ↦
-          let last : o < length (p.state.market.objects ++ Live terms ∷ []) = given_within market o named.0 in
+          let last : o < length (p.state.market.objects ++ slot ∷ []) = given_within market o named.0 in
           let is : number ≡ o =
-          omega (arith, last, past, given, length-append p.state.market.objects (Live terms ∷ [])) in
+          omega (arith, last, past, given, length-append p.state.market.objects (slot ∷ [])) in
           let same : name ≡ n = sym new_name ∙ ap (λ (x : ℕ). slice_index_or (p.of_object ++ name ∷ []) x 0) is
           ∙ named.1 in
           subst (λ (x : ℕ). slice_index_or (slice_set of_name name (Some number)) x None ≡ Some o) same
           (here ∙ ap Some is)
     ]
+
+pub names_made : (p : Standing) (of_name : List (Option ℕ)) (live name number : ℕ) (terms : Terms) (state : State)
+    (of_object : List ℕ)
+    → HasNames p of_name live → object_named p name ≡ None → name < length p.names → state ≡ made terms p.state
+    → of_object ≡ p.of_object ++ name ∷ [] → number ≡ length p.state.market.objects
+    → HasNames (record p { state = state; of_object = of_object }) (slice_set of_name name (Some number)) (live + 1)
+unfolding made
+names_made p of_name live name number terms state of_object h free within is more given =
+    names_added p of_name live name number (Live terms) state of_object p.watching refl h free within is more given refl
+
+-- a watcher is made
+pub names_watched : (p : Standing) (of_name : List (Option ℕ)) (live name number : ℕ) (state : State)
+    (of_object : List ℕ) (actions : List (Option ℕ))
+    → HasNames p of_name live → object_named p name ≡ None → name < length p.names → state ≡ watching p.state
+    → of_object ≡ p.of_object ++ name ∷ [] → number ≡ length p.state.market.objects → length actions ≡ length p.watching
+    → HasNames (record p { state = state; of_object = of_object; watching = actions }) (slice_set of_name name (Some number))
+    (live + 1)
+unfolding watching
+names_watched p of_name live name number state of_object actions h free within is more given long =
+    names_added p of_name live name number Watcher state of_object actions refl h free within is more given long
 
 -- a live object is dropped
 pub names_dropped : (p : Standing) (of_name : List (Option ℕ)) (live name o : ℕ) (state : State)
@@ -252,6 +274,7 @@ pub names_dropped : (p : Standing) (of_name : List (Option ℕ)) (live name o : 
     → HasNames (record p { state = state }) (slice_set of_name name None) live
 unfolding dropped
 names_dropped p of_name live name o state h named apart is = rw is (record {
+  watching = h.watching;
   table = length-set of_name name None ∙ h.table;
   objects = h.objects ∙ sym (length-set p.state.market.objects o Free);
   today = get_or-set_other p.state.market.objects o 0 Free Free apart ∙ h.today;
@@ -309,8 +332,10 @@ names_dropped p of_name live name o state h named apart is = rw is (record {
 -- `today` alone has a name
 pub names_start : (p : Standing) (table : List (Option ℕ)) (today count : ℕ) (day : ℤ) → p.state ≡ start day
     → p.of_object ≡ today ∷ [] → table ≡ replicate count None → today < count → count ≡ length p.names
+    → length p.watching ≡ length p.names
     → HasNames p (slice_set table today (Some 0)) 1
-names_start p table today count day begins named empty within is = record {
+names_start p table today count day begins named empty within is long = record {
+  watching = long;
   table = length-set table today (Some 0) ∙ length_is ∙ is;
   objects = ap (λ (names : List ℕ). length names) named
       ∙ sym (ap (λ (state : State). length state.market.objects) begins);

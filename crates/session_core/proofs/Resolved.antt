@@ -1,18 +1,20 @@
 -- What a command that is not refused found.
-use Rattle.std.proofs.Common.{◌≡◌, ℕ, ◌<◌, ◌≤◌, ◌≤ℤ◌, pos, negsuc, neg_ℤ, arith, Bool, true, false, if◌then◌else◌, length, [], Option, Some, None, Result, Ok, Err, ℤ, refl, sym, subst}
-use Rattle.std.specs.Prelude.{IfOk, is_some, unsigned_abs}
+use Rattle.std.proofs.Common.{◌≡◌, ◌∙◌, ℕ, ◌<◌, ◌≤◌, ◌≤ℤ◌, pos, negsuc, neg_ℤ, arith, Bool, true, false, if◌then◌else◌, length, [], Option, Some, None, Result, Ok, Err, ℤ, refl, sym, subst}
+use Rattle.std.specs.Prelude.{IfOk, is_some, not, unsigned_abs}
 use Rattle.std.proofs.lemmas.Bool.{false≢true}
 use Rattle.std.proofs.lemmas.Int.{ints}
 use Rattle.desk_terms.specs.declared.terms.Terms.{Terms}
 use Rattle.desk_terms.specs.declared.terms.Terms.TheVariants as terms
+use Rattle.desk_terms.specs.declared.terms.HandleKind.TheVariants as handle
 use Rattle.desk_terms.specs.declared.kind.Kind.{Kind}
 use Rattle.desk_terms.specs.declared.kind.Kind.TheVariants as kind
 use Rattle.desk_terms.specs.declared.kind.Wanted.{Wanted}
 use Rattle.desk_terms.specs.declared.kind.Wanted.TheVariants as wanted
 use Rattle.desk_model.specs.declared.slot.Slot.{Slot}
 use Rattle.desk_model.specs.declared.slot.Slot.TheVariants.{Free, Today, Watcher, Live}
-use Rattle.desk_model.specs.Market.{slot_at, kind_in, kind_at, terms_in, role_of, is_lazy, least_user}
+use Rattle.desk_model.specs.Market.{slot_at, is_watcher, is_observable, kind_in, kind_at, terms_in, role_of, is_lazy, least_user}
 use Rattle.desk_model.specs.State.{least_source}
+use Rattle.desk_model.specs.Told.{is_registered}
 use Rattle.desk_terms.specs.Kind.{role}
 use Rattle.desk_terms.specs.Terms.{kind_of}
 use Rattle.flow_terms.specs.Fixings.{IsRate}
@@ -34,8 +36,8 @@ use Rattle.session_model.specs.declared.place.Place.{Place}
 use Rattle.session_model.specs.declared.place.Place.TheVariants as place
 use Rattle.session_model.specs.Place.{takes_found}
 use Rattle.session_model.specs.Standing.{Standing, object_named, is_full, IsKnown}
-use Rattle.session_model.specs.Resolve.{object_or_refusal, find, with_found, unless, unless_used, unless_kept, unless_late, unless_taken, closes, joins, rate_at, target_of, handle_kind, engaging, making, quote_input, member, curve, index, engine, resolve}
-use Rattle.session_core.specs.Allowed.{IsAllowed}
+use Rattle.session_model.specs.Resolve.{object_or_refusal, find, with_found, unless, unless_used, unless_kept, unless_late, unless_taken, closes, joins, rate_at, target_of, handle_kind, engaging, making, quote_input, member, curve, index, engine, pairing, resolve, resolve_all}
+use Rattle.session_core.specs.Allowed.{IsAllowed, MayPair}
 
 -- what is found is of a kind that the place takes
 pub find_taken : (w : Place) (p : Standing) (name o : ℕ) → find w p name ≡ Ok o
@@ -166,6 +168,39 @@ taken_lazy (Live terms) e = e
 pub found_lazy : (p : Standing) (name o : ℕ) → find place.Priced p name ≡ Ok o → is_lazy_at p.state.market o ≡ true
 found_lazy p name o e = taken_lazy (slot_at p.state.market o) (find_taken place.Priced p name o e)
 
+-- nothing that terms are is a watcher
+live_watcher : (t : Terms) → takes_found place.Watcher (Some (kind_of t)) ≡ false
+live_watcher (terms.Quote value) = refl
+live_watcher (terms.Derived minus first second) = refl
+live_watcher (terms.Handle handle.Quote target) = refl
+live_watcher (terms.Handle handle.Curve target) = refl
+live_watcher (terms.Curve t) = refl
+live_watcher (terms.Implied c reference) = refl
+live_watcher (terms.Index t fixings) = refl
+live_watcher (terms.Engine c) = refl
+live_watcher (terms.Stock quote) = refl
+live_watcher (terms.Composite parts) = refl
+live_watcher (terms.Flows flows e) = refl
+
+taken_watcher : (slot : Slot) → takes_found place.Watcher (kind_in slot) ≡ true → is_watcher slot ≡ true
+taken_watcher Free e = absurd (false≢true e)
+taken_watcher Today e = absurd (false≢true e)
+taken_watcher Watcher e = refl
+taken_watcher (Live terms) e = absurd (false≢true (sym (live_watcher terms) ∙ e))
+
+taken_observable : (slot : Slot) → takes_found place.Observable (kind_in slot) ≡ true → is_observable slot ≡ true
+taken_observable Free e = absurd (false≢true e)
+taken_observable Today e = refl
+taken_observable Watcher e = absurd (false≢true e)
+taken_observable (Live terms) e = refl
+
+-- what is found for a registration is a watcher, and what it may watch
+pub found_pair : (p : Standing) (w o x y : ℕ) → find place.Watcher p w ≡ Ok x → find place.Observable p o ≡ Ok y → MayPair p x y
+found_pair p w o x y watcher subject = record {
+  watcher = taken_watcher (slot_at p.state.market x) (find_taken place.Watcher p w x watcher);
+  subject = taken_observable (slot_at p.state.market y) (find_taken place.Observable p o y subject);
+}
+
 -- every act that these lead to is allowed
 module _ (p : Standing) where
   empty_inputs : (is_curve : Bool) → AreOfKind p.state.market (Some (terms.Handle (handle_kind is_curve) None))
@@ -289,5 +324,23 @@ module _ (p : Standing) where
   allowed (command.Ask o) known = finds place.Priced o _ (λ x is. taken_lazy (slot_at p.state.market x) is)
   allowed (command.Df c day) known = finds curve c _ (λ x is. taken_curve (slot_at p.state.market x) is)
 
-pub allowed_act : (p : Standing) (c : Command) (a : Act) → IsKnown p c → Ok a ≡ resolve p c → IsAllowed p a
-allowed_act p c a known is = subst (λ (r : Result Act Refusal). IfOk r (IsAllowed p)) (sym is) (allowed p c known)
+  pairs : (w o : ℕ) (rest : ℕ → ℕ → Result Act Refusal)
+      → ((x y : ℕ) → MayPair p x y → AllAllowed (rest x y)) → AllAllowed (pairing p w o rest)
+  pairs w o rest all = finds place.Watcher w _ (λ x watcher. finds place.Observable o _ (λ y subject. all x y (record {
+    watcher = taken_watcher (slot_at p.state.market x) watcher;
+    subject = taken_observable (slot_at p.state.market y) subject;
+  })))
+
+  -- and so it is of the commands of watchers
+  pub all_allowed : (c : Command) → IsKnown p c → AllAllowed (resolve_all p c)
+  unfolding resolve_all IsCommand parts_of row_of
+  all_allowed (command.Watch w action) known =
+      untaken w _ (λ free. unless_allowed (is_full p.state.market) refusal.TooMany (act.Watch w action)
+      (λ room. record { named = known.first; free = free; room = room }))
+  all_allowed (command.Register w o) known =
+      pairs w o _ (λ x y pair. unless_allowed (is_registered p.state x y) refusal.AlreadyRegistered (act.Grow (growth.Register x y))
+      (λ free. record { pair = pair; free = free }))
+  all_allowed (command.Unregister w o) known =
+      pairs w o _ (λ x y pair. unless_allowed (not (is_registered p.state x y)) refusal.NotRegistered
+      (act.Quiet (change.Unregister x y)) (λ found. pair))
+  all_allowed c known = allowed c known

@@ -26,10 +26,9 @@ use Rattle.session_model.specs.declared.act.How.TheVariants as how
 use Rattle.session_model.specs.Change.{changed, grown}
 use Rattle.session_model.specs.Pricing.{Pricing, discount_in, priced_line}
 use Rattle.session_model.specs.Standing.{Standing}
-use Rattle.session_model.specs.Resolve.{resolve}
-use Rattle.session_model.specs.Turn.{Turn, step, effect_of, done_as, turn}
+use Rattle.session_model.specs.Turn.{Turn, step, effect_of, done_as}
 use Rattle.session_core.specs.Pricing.{Prices, StopsShort}
-use Rattle.session_core.specs.Steps.{with_object, with_state, Does, Ends, Carries, BreaksOff, Steps, Stops, survivors_of, takes_no_memory}
+use Rattle.session_core.specs.Steps.{with_object, with_watcher, with_state, Does, Ends, Carries, survivors_of, takes_no_memory}
 
 abbrev Log : Type 0
 Log = Option (List (ℕ × Bool))
@@ -198,6 +197,12 @@ quiet_carries calc a old new lines count log silent idle next =
     does_idle lines lines count log (effect_of calc old a) new idle next
     (sym (append-nil lines) ∙ ap (λ (more : List ℕ). lines ++ more) (sym silent))
 
+pub watch_carries : (calc : Calc) (name action : ℕ) (old new : Standing) (lines : List ℕ) (count : ℕ) (log : Log)
+    → new ≡ with_watcher name action old → Carries calc (act.Watch name action) old new lines lines count count log log
+unfolding effect_of step
+watch_carries calc name action old new lines count log is =
+    quiet_carries calc (act.Watch name action) old new lines count log refl refl is
+
 pub make_carries : (calc : Calc) (name : ℕ) (t : Terms) (old new : Standing) (lines : List ℕ) (count : ℕ) (log : Log)
     → new ≡ with_object name t old → Carries calc (act.Make name t) old new lines lines count count log log
 unfolding effect_of step
@@ -235,58 +240,43 @@ on_err_of (Err e) f p = f p
 pub loud : {P : Type 0} (a b : Act) → a ≡ b → takes_no_memory b ≡ false → takes_no_memory a ≡ true → P
 loud a b same may never = absurd (false≢true (sym may ∙ ap takes_no_memory (sym same) ∙ never))
 
--- A command does what it resolves to: the turn is the effect of the act.
-pub steps_of : {E : Type 0} (calc : Calc) (c : Command) (a : Act) (p q new : Standing) (lines_old lines_new : List ℕ)
-    (count_old count_new : ℕ) (log_old log_new : Log) (r : Result (Unit {0}) E) → p ≡ q → Ok a ≡ resolve q c
-    → OnOk r (Carries calc a p new lines_old lines_new count_old count_new log_old log_new)
-    → OnOk r (Steps calc c q new lines_old lines_new count_old count_new log_old log_new)
-unfolding turn
-steps_of calc c a p q new lines_old lines_new count_old count_new log_old log_new r same is carries =
+-- A command does what it is found to be, over the session that the search has left as it was.
+pub does_of : {E : Type 0} (calc : Calc) (c : Command) (found is : Result Act Refusal) (p q new : Standing)
+    (lines_old lines_new : List ℕ) (count_old count_new : ℕ) (log_old log_new : Log) (r : Result (Unit {0}) E) → p ≡ q → found ≡ is
+    → OnOk r (Does (done_as calc p c found) new lines_old lines_new count_old count_new log_old log_new)
+    → OnOk r (Does (done_as calc q c is) new lines_old lines_new count_old count_new log_old log_new)
+does_of calc c found is p q new lines_old lines_new count_old count_new log_old log_new r same e does =
     subst (λ (x : Result Act Refusal). OnOk r
-    (Does (done_as calc q c x) new lines_old lines_new count_old count_new log_old log_new)) is
-    (subst (λ (s : Standing). OnOk r (Carries calc a s new lines_old lines_new count_old count_new log_old log_new))
-    same carries)
+    (Does (done_as calc q c x) new lines_old lines_new count_old count_new log_old log_new)) e
+    (subst (λ (s : Standing). OnOk r
+    (Does (done_as calc s c found) new lines_old lines_new count_old count_new log_old log_new)) same does)
 
-pub stops_of : {E : Type 0} (calc : Calc) (c : Command) (a : Act) (p q new : Standing) (lines_old lines_new : List ℕ)
-    (count_old count_new : ℕ) (log_old log_new : Log) (r : Result (Unit {0}) E) → p ≡ q → Ok a ≡ resolve q c
-    → OnErr r (BreaksOff calc a p new lines_old lines_new count_old count_new log_old log_new)
-    → OnErr r (Stops calc c q new lines_old lines_new count_old count_new log_old log_new)
-unfolding turn
-stops_of calc c a p q new lines_old lines_new count_old count_new log_old log_new r same is breaks =
+pub breaks_of : {E : Type 0} (calc : Calc) (c : Command) (found is : Result Act Refusal) (p q new : Standing)
+    (lines_old lines_new : List ℕ) (count_old count_new : ℕ) (log_old log_new : Log) (r : Result (Unit {0}) E) → p ≡ q → found ≡ is
+    → OnErr r (Ends (done_as calc p c found) (survivors_of calc p.state found) p new lines_old lines_new count_old count_new
+    log_old log_new)
+    → OnErr r (Ends (done_as calc q c is) (survivors_of calc q.state is) q new lines_old lines_new count_old count_new log_old
+    log_new)
+breaks_of calc c found is p q new lines_old lines_new count_old count_new log_old log_new r same e breaks =
     subst (λ (x : Result Act Refusal). OnErr r
     (Ends (done_as calc q c x) (survivors_of calc q.state x) q new lines_old lines_new count_old count_new log_old
-    log_new)) is
+    log_new)) e
     (subst (λ (s : Standing). OnErr r
-    (BreaksOff calc a s new lines_old lines_new count_old count_new log_old log_new)) same breaks)
+    (Ends (done_as calc s c found) (survivors_of calc s.state found) s new lines_old lines_new count_old count_new log_old
+    log_new)) same breaks)
 
 -- a refused command writes its line
-refused_turn : (calc : Calc) (c : Command) (refusal : Refusal) (old new : Standing) (lines_old lines_new : List ℕ)
-    (count : ℕ) (log : Log) → Err refusal ≡ resolve old c → new ≡ old
-    → lines_new ≡ lines_old ++ refusal_line old.names old.of_object (command_word c) refusal
-    → Steps calc c old new lines_old lines_new count count log log
-unfolding turn
-refused_turn calc c refusal old new lines_old lines_new count log is same written =
-    subst (λ (r : Result Act Refusal). Does (done_as calc old c r) new lines_old lines_new count count log log) is
-    (does_idle lines_old lines_new count log (done_as calc old c (Err refusal)) new refl same written)
-
-pub refused_steps : {E : Type 0} (calc : Calc) (c : Command) (refusal : Refusal) (p q : Standing)
-    (lines_old lines_new : List ℕ) (count : ℕ) (log : Log) (r : Result (Unit {0}) E) → p ≡ q → Err refusal ≡ resolve q c
+pub refused_does : {E : Type 0} (calc : Calc) (c : Command) (refusal : Refusal) (p : Standing) (lines_old lines_new : List ℕ)
+    (count : ℕ) (log : Log) (r : Result (Unit {0}) E)
     → OnOk r (lines_new ≡ lines_old ++ refusal_line p.names p.of_object (command_word c) refusal)
-    → OnOk r (Steps calc c q p lines_old lines_new count count log log)
-refused_steps calc c refusal p q lines_old lines_new count log r same is written =
-    on_ok r (λ line. refused_turn calc c refusal q p lines_old lines_new count log is same
-    (line ∙ ap (λ (s : Standing). lines_old ++ refusal_line s.names s.of_object (command_word c) refusal) same))
-    written
+    → OnOk r (Does (done_as calc p c (Err refusal)) p lines_old lines_new count count log log)
+refused_does calc c refusal p lines_old lines_new count log r written =
+    on_ok r (λ line. does_idle lines_old lines_new count log (done_as calc p c (Err refusal)) p refl refl line) written
 
 -- no command stops a session, nor changes its names and actions
-pub turn_kept : (calc : Calc) (p : Standing) (c : Command)
-    → ((turn calc p c).next.stopped ≡ p.stopped) × ((turn calc p c).next.names ≡ p.names)
-    × ((turn calc p c).next.actions ≡ p.actions)
-unfolding turn effect_of
-turn_kept calc p c = by (resolve p c)
-  where
-    by : (r : Result Act Refusal)
-        → ((done_as calc p c r).next.stopped ≡ p.stopped) × ((done_as calc p c r).next.names ≡ p.names)
-        × ((done_as calc p c r).next.actions ≡ p.actions)
-    by (Ok a) = (refl, refl, refl)
-    by (Err refusal) = (refl, refl, refl)
+pub found_kept : (calc : Calc) (p : Standing) (c : Command) (found : Result Act Refusal)
+    → ((done_as calc p c found).next.stopped ≡ p.stopped) × ((done_as calc p c found).next.names ≡ p.names)
+    × ((done_as calc p c found).next.actions ≡ p.actions)
+unfolding effect_of
+found_kept calc p c (Ok a) = (refl, refl, refl)
+found_kept calc p c (Err refusal) = (refl, refl, refl)

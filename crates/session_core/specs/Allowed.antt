@@ -6,9 +6,10 @@ use Rattle.desk_terms.specs.declared.kind.Kind.TheVariants as kind
 use Rattle.desk_terms.specs.declared.kind.Wanted.TheVariants as wanted
 use Rattle.desk_terms.specs.Terms.{optional_reference}
 use Rattle.flow_terms.specs.Fixings.{IsRate}
-use Rattle.desk_model.specs.Market.{Market, kind_at, least_user}
+use Rattle.desk_model.specs.Market.{Market, slot_at, kind_at, is_watcher, is_observable, least_user}
 use Rattle.desk_model.specs.Links.{AreOfKind, Serve, serves_as, is_lazy_at}
 use Rattle.desk_model.specs.State.{least_source}
+use Rattle.desk_model.specs.Told.{is_registered}
 use Rattle.session_model.specs.declared.act.Act.{Act}
 use Rattle.session_model.specs.declared.act.Act.TheVariants as act
 use Rattle.session_model.specs.declared.act.Change.{Change}
@@ -29,6 +30,22 @@ pub record MayMake (p : Standing) (name : ℕ) (terms : Terms) : Type 0 where
   pub room : is_full p.state.market ≡ false
   pub ranged : AreInRange terms
   pub inputs : AreOfKind p.state.market (Some terms)
+
+-- its name is one of the session's and free, and there is room
+pub record MayWatch (p : Standing) (name : ℕ) : Type 0 where
+  pub named : name < length p.names
+  pub free : object_named p name ≡ None
+  pub room : is_full p.state.market ≡ false
+
+-- a watcher, and an object that it may watch
+pub record MayPair (p : Standing) (w o : ℕ) : Type 0 where
+  pub watcher : is_watcher (slot_at p.state.market w) ≡ true
+  pub subject : is_observable (slot_at p.state.market o) ≡ true
+
+-- with which it is not registered
+pub record MayRegister (p : Standing) (watcher object : ℕ) : Type 0 where
+  pub pair : MayPair p watcher object
+  pub free : is_registered p.state watcher object ≡ false
 
 -- an instrument and a composite that it does not reach, unless the weight is 0; the weight is within its limit
 pub record MayWeigh (p : Standing) (k x : ℕ) (weight : ℤ) : Type 0 where
@@ -79,11 +96,13 @@ MayChange p (change.Thaw object) = is_lazy_at p.state.market object ≡ true
 MayChange p (change.Forward object is_on) = is_lazy_at p.state.market object ≡ true
 MayChange p change.Defer = Unit {0}
 MayChange p change.Resume = Unit {0}
+MayChange p (change.Unregister watcher object) = MayPair p watcher object
 MayChange p (change.Drop object) = MayDrop p object
 
 abbrev pub MayGrow : Standing → Growth → Type 0
 MayGrow p (growth.Member composite member weight) = MayWeigh p composite member weight
 MayGrow p (growth.Fixing index day rate) = MayFix p index day rate
+MayGrow p (growth.Register watcher object) = MayRegister p watcher object
 
 abbrev pub MayPrice : Standing → ℕ → How → Type 0
 MayPrice p object how.Ask = is_lazy_at p.state.market object ≡ true
@@ -92,6 +111,7 @@ MayPrice p object how.Recalc = MayRecalc p object
 
 abbrev pub IsAllowed : Standing → Act → Type 0
 IsAllowed p (act.Make name terms) = MayMake p name terms
+IsAllowed p (act.Watch name action) = MayWatch p name
 IsAllowed p (act.Quiet change) = MayChange p change
 IsAllowed p (act.Grow growth) = MayGrow p growth
 IsAllowed p (act.Price name object how) = MayPrice p object how

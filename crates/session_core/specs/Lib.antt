@@ -3,3 +3,4 @@ pub mod HasNames
 pub mod Laws
 pub mod Pricing
 pub mod Steps
+pub mod Watchers

@@ -1,5 +1,5 @@
 -- What one command does, whether it ends or memory runs out in it.
-use Rattle.std.specs.Prelude.{◌≡◌, ◌≢◌, ◌⊎◌, ◌++◌, ◌+◌, ◌≤◌, ℕ, Bool, true, false, List, [], ◌∷◌, length, take, Option, is_none, Result, Ok, Err, IsOk}
+use Rattle.std.specs.Prelude.{◌≡◌, ◌≢◌, ◌⊎◌, ◌++◌, ◌+◌, ◌≤◌, ℕ, Bool, true, false, List, [], ◌∷◌, length, take, slice_set, Option, Some, is_none, Result, Ok, Err, IsOk}
 use Rattle.desk_terms.specs.declared.terms.Terms.{Terms}
 use Rattle.desk_terms.specs.Reading.{Outcome, Calc}
 use Rattle.desk_terms.specs.Bench.{counted, logged}
@@ -16,8 +16,8 @@ use Rattle.session_model.specs.declared.act.Change.{Change}
 use Rattle.session_model.specs.declared.act.Change.TheVariants as change
 use Rattle.session_model.specs.Pricing.{pricing_of}
 use Rattle.session_model.specs.Standing.{Standing}
-use Rattle.session_model.specs.Resolve.{resolve}
-use Rattle.session_model.specs.Turn.{Turn, turn, effect_of}
+use Rattle.session_model.specs.Resolve.{resolve, resolve_all}
+use Rattle.session_model.specs.Turn.{Turn, turn, acted, effect_of}
 
 -- another state of the objects
 abbrev pub with_state : State → Standing → Standing
@@ -26,6 +26,14 @@ with_state state p = record p { state = state }
 -- one object more, which has this name and these terms
 abbrev pub with_object : ℕ → Terms → Standing → Standing
 with_object name terms p = record p { state = effect.made terms p.state; of_object = p.of_object ++ name ∷ [] }
+
+-- one watcher more, which has this name and this action
+abbrev pub with_watcher : ℕ → ℕ → Standing → Standing
+with_watcher name action p = record p {
+  state = effect.watching p.state;
+  of_object = p.of_object ++ name ∷ [];
+  watching = slice_set p.watching name (Some action);
+}
 
 abbrev Log : Type 0
 Log = Option (List (ℕ × Bool))
@@ -63,6 +71,7 @@ pub record Ends (t : Turn) (survivors : List (ℕ × Outcome)) (old new : Standi
 -- the computations of an act, each with its outcome, of which the values stay where memory runs out in it
 abbrev pub act_survivors : Calc → State → Act → List (ℕ × Outcome)
 act_survivors calc s (act.Make name terms) = []
+act_survivors calc s (act.Watch name action) = []
 act_survivors calc s (act.Quiet change) = []
 act_survivors calc s (act.Grow growth) = []
 act_survivors calc s (act.Price name object how) = (pricing_of calc object s how).survivors
@@ -78,11 +87,13 @@ takes_none (change.Thaw object) = true
 takes_none (change.Forward object is_on) = true
 takes_none change.Defer = true
 takes_none change.Resume = true
+takes_none (change.Unregister watcher object) = true
 takes_none (change.Drop object) = true
 
 -- acts that take no memory and write no line: memory never runs out in them
 abbrev pub takes_no_memory : Act → Bool
 takes_no_memory (act.Make name terms) = false
+takes_no_memory (act.Watch name action) = false
 takes_no_memory (act.Quiet change) = takes_none change
 takes_no_memory (act.Grow growth) = false
 takes_no_memory (act.Price name object how) = false
@@ -119,6 +130,19 @@ abbrev pub Stops : Calc → Command → Standing → Standing → List ℕ → L
     → Option (List (ℕ × Bool)) → Type 0
 Stops calc c old new lines_old lines_new count_old count_new log_old log_new =
     Ends (turn calc old c) (survivors_of calc old.state (resolve old c)) old new lines_old lines_new count_old
+    count_new log_old log_new
+
+-- A COMMAND, ALSO ONE OF WATCHERS, DOES ITS TURN
+abbrev pub Acts : Calc → Command → Standing → Standing → List ℕ → List ℕ → ℕ → ℕ → Option (List (ℕ × Bool))
+    → Option (List (ℕ × Bool)) → Type 0
+Acts calc c old new lines_old lines_new count_old count_new log_old log_new =
+    Does (acted calc old c) new lines_old lines_new count_old count_new log_old log_new
+
+-- memory runs out in it
+abbrev pub Halts : Calc → Command → Standing → Standing → List ℕ → List ℕ → ℕ → ℕ → Option (List (ℕ × Bool))
+    → Option (List (ℕ × Bool)) → Type 0
+Halts calc c old new lines_old lines_new count_old count_new log_old log_new =
+    Ends (acted calc old c) (survivors_of calc old.state (resolve_all old c)) old new lines_old lines_new count_old
     count_new log_old log_new
 
 -- An object is made where the definition makes it, and refused where it refuses; memory is wanted only where it is not

@@ -4,14 +4,15 @@ ghost use Rattle.desk_terms.specs.Reading.{Calc, AreInRange};
 ghost use Rattle.desk_model.specs.Links.{AreOfKind};
 ghost use Rattle.desk_model.specs.Sound.{IsSound, KeepsCurrent};
 ghost use Rattle.session_model.specs.Standing.{IsKnown};
-ghost use Rattle.session_model.specs.Resolve.{making, unless_taken, resolve};
+ghost use Rattle.session_model.specs.Resolve.{making, unless_taken, resolve, resolve_all};
+ghost use Rattle.session_model.specs.Turn.{done_as};
 ghost use Rattle.session_core.specs.Allowed.{IsAllowed};
-ghost use Rattle.session_core.specs.Steps.{with_object, AnswersMake, Carries, BreaksOff, Steps, Stops, takes_no_memory, is_without_memory};
+ghost use Rattle.session_core.specs.Steps.{with_object, AnswersMake, Does, Ends, Carries, BreaksOff, Steps, Stops, Acts, Halts, survivors_of, takes_no_memory, is_without_memory};
 
 use crate::{MakeFault, Session};
 use desk_names::{NameId, ObjId};
 use desk_terms::{Bench, Terms};
-use session_commands::Command;
+use session_commands::{Command, Refusal};
 use session_model::Act;
 use std::alloc::AllocError;
 
@@ -75,7 +76,42 @@ impl Session {
         Ok(self.add(name, terms)?)
     }
 
-    // Does one command, or refuses it.
+    /// Does one command, those of watchers too, as `step` does. The notices that it gives to watchers are kept for
+    /// `next_told`.
+    pub fn act<B: Bench>(
+        &mut self,
+        command: &Command,
+        bench: &mut B,
+        lines: &mut Vec<u8>,
+    ) -> Result<(), AllocError>
+        requires running { self.old.stopped ≡ false }
+        requires known { IsKnown self.old command.now }
+        requires sound { IsSound (B.calc bench.old) self.old.state }
+        ensures same { B.calc bench.new ≡ B.calc bench.old }
+        // The command does its turn, exactly.
+        ensures acts { OnOk result (Acts (B.calc bench.old) command.now self.old self.new
+            lines.old.items lines.new.items (B.count bench.old) (B.count bench.new)
+            (B.log bench.old) (B.log bench.new)) }
+        // Memory ran out in it: a front of its computations, no byte of its line, and nothing else.
+        ensures halts { OnErr result (Halts (B.calc bench.old) command.now self.old self.new
+            lines.old.items lines.new.items (B.count bench.old) (B.count bench.new)
+            (B.log bench.old) (B.log bench.new)) }
+        ensures ends { is_without_memory (resolve_all self.old command.now) ≡ true → is_ok result ≡ true }
+        ensures names { self.new.names ≡ self.old.names }
+        ensures actions { self.new.actions ≡ self.old.actions }
+        ensures sound { IsSound (B.calc bench.old) self.new.state }
+        ensures stopped { self.new.stopped ≡ is_err result }
+    {
+        match self.turn_all(command, bench, lines) {
+            Ok(()) => Ok(()),
+            Err(fault) => {
+                self.stop();
+                Err(fault)
+            }
+        }
+    }
+
+    // Does one command that is not of watchers, or refuses it.
     fn turn<B: Bench>(
         &mut self,
         command: &Command,
@@ -94,7 +130,55 @@ impl Session {
         ensures ends { is_without_memory (resolve self.old command.now) ≡ true → is_ok result ≡ true }
         ensures sound { IsSound (B.calc bench.old) self.new.state }
     {
-        match self.resolve(command) {
+        let found = self.resolve(command);
+        self.carry(command, found, bench, lines)
+    }
+
+    // Does one command, or refuses it.
+    fn turn_all<B: Bench>(
+        &mut self,
+        command: &Command,
+        bench: &mut B,
+        lines: &mut Vec<u8>,
+    ) -> Result<(), AllocError>
+        requires known { IsKnown self.old command.now }
+        requires sound { IsSound (B.calc bench.old) self.old.state }
+        ensures same { B.calc bench.new ≡ B.calc bench.old }
+        ensures acts { OnOk result (Acts (B.calc bench.old) command.now self.old self.new
+            lines.old.items lines.new.items (B.count bench.old) (B.count bench.new)
+            (B.log bench.old) (B.log bench.new)) }
+        ensures halts { OnErr result (Halts (B.calc bench.old) command.now self.old self.new
+            lines.old.items lines.new.items (B.count bench.old) (B.count bench.new)
+            (B.log bench.old) (B.log bench.new)) }
+        ensures ends { is_without_memory (resolve_all self.old command.now) ≡ true → is_ok result ≡ true }
+        ensures sound { IsSound (B.calc bench.old) self.new.state }
+    {
+        let found = self.resolve_all(command);
+        self.carry(command, found, bench, lines)
+    }
+
+    // Does what a command was found to be, or writes why it is refused.
+    fn carry<B: Bench>(
+        &mut self,
+        command: &Command,
+        found: Result<Act, Refusal>,
+        bench: &mut B,
+        lines: &mut Vec<u8>,
+    ) -> Result<(), AllocError>
+        requires allowed { IfOk found (IsAllowed self.old) }
+        requires sound { IsSound (B.calc bench.old) self.old.state }
+        ensures same { B.calc bench.new ≡ B.calc bench.old }
+        ensures does { OnOk result (Does (done_as (B.calc bench.old) self.old command.now found) self.new
+            lines.old.items lines.new.items (B.count bench.old) (B.count bench.new)
+            (B.log bench.old) (B.log bench.new)) }
+        ensures breaks { OnErr result (Ends (done_as (B.calc bench.old) self.old command.now found)
+            (survivors_of (B.calc bench.old) self.old.state found) self.old self.new
+            lines.old.items lines.new.items (B.count bench.old) (B.count bench.new)
+            (B.log bench.old) (B.log bench.new)) }
+        ensures ends { is_without_memory found ≡ true → is_ok result ≡ true }
+        ensures sound { IsSound (B.calc bench.old) self.new.state }
+    {
+        match found {
             Ok(act) => self.carry_out(act, bench, lines),
             Err(refusal) => self.refuse(command, &refusal, lines),
         }
@@ -124,6 +208,7 @@ impl Session {
                 Ok(_) => Ok(()),
                 Err(fault) => Err(fault),
             },
+            Act::Watch(name, action) => self.watch(name, action),
             Act::Quiet(change) => self.change(change),
             Act::Grow(growth) => self.grow(growth),
             Act::Price(name, object, how) => self.price(name, object, &how, bench, lines),

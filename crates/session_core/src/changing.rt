@@ -30,6 +30,7 @@ impl Session {
             Change::Forward(object, is_on) => Ok(self.forward(object, is_on)),
             Change::Defer => Ok(self.defer()),
             Change::Resume => Ok(self.resume()),
+            Change::Unregister(watcher, object) => Ok(self.unregister(watcher, object)),
             Change::Drop(object) => Ok(self.remove(object)),
         }
     }
@@ -45,6 +46,7 @@ impl Session {
         match growth {
             Growth::Member(composite, member, weight) => self.weigh(composite, member, weight),
             Growth::Fixing(index, day, rate) => self.fix(index, day, rate),
+            Growth::Register(watcher, object) => self.register(watcher, object),
         }
     }
 }

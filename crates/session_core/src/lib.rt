@@ -10,6 +10,7 @@ mod laws;
 mod pricing;
 mod resolving;
 mod session;
+mod telling;
 
 pub use fault::MakeFault;
 pub use laws::asks_leave_stored;

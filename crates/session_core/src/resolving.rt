@@ -1,6 +1,6 @@
 // What a command is once its names are looked up, or why it is refused.
-ghost use Rattle.std.specs.Prelude.{◌≡◌, [], None, Some, Ok, Err, is_some, if◌then◌else◌};
-ghost use Rattle.session_commands.specs.declared.refusal.Refusal.TheVariants.{Taken, TooMany};
+ghost use Rattle.std.specs.Prelude.{◌≡◌, [], None, Some, Ok, Err, is_some, not, if◌then◌else◌};
+ghost use Rattle.session_commands.specs.declared.refusal.Refusal.TheVariants.{Taken, TooMany, AlreadyRegistered, NotRegistered};
 ghost use Rattle.desk_terms.specs.declared.terms.Terms.TheVariants as terms;
 ghost use Rattle.desk_terms.specs.declared.kind.Wanted.TheVariants as wanted;
 ghost use Rattle.desk_model.specs.Market.{kind_at};
@@ -11,9 +11,10 @@ ghost use Rattle.session_model.specs.declared.act.Growth.TheVariants as growth;
 ghost use Rattle.session_model.specs.declared.act.How.TheVariants as how;
 ghost use Rattle.session_model.specs.Place.{takes_found};
 ghost use Rattle.session_model.specs.Standing.{object_named, is_full};
-ghost use Rattle.session_model.specs.Resolve.{find, with_found, making, unless, unless_used, unless_kept, unless_late, unless_taken, closes, joins, rate_at, target_of, handle_kind, engaging, combining, quote_input, curve, resolve};
+ghost use Rattle.session_model.specs.Resolve.{find, with_found, making, unless, unless_used, unless_kept, unless_late, unless_taken, closes, joins, rate_at, target_of, handle_kind, engaging, combining, watching, pairing, quote_input, curve, resolve, resolve_all};
 ghost use Rattle.desk_model.specs.Market.{least_user};
 ghost use Rattle.desk_model.specs.State.{least_source};
+ghost use Rattle.desk_model.specs.Told.{is_registered};
 ghost use Rattle.session_commands.specs.declared.refusal.Refusal.TheVariants.{Cycle};
 
 use crate::Session;
@@ -21,7 +22,7 @@ use day_number::Day;
 use desk_names::{NameId, ObjId};
 use desk_terms::{HandleKind, PartList, Terms, Wanted};
 use fixed_amount::Rate;
-use session_commands::{Command, Refusal};
+use session_commands::{ActionId, Command, Refusal};
 use session_model::{Act, Change, Growth, How, Place};
 
 impl Session {
@@ -60,6 +61,20 @@ impl Session {
             Command::Watch(..) | Command::Register(..) | Command::Unregister(..) => {
                 Err(Refusal::Unbuilt)
             }
+        }
+    }
+
+    // The same with the commands of watchers.
+    #[tactic(auto, unfolding(session_model::specs::Resolve::resolve_all))]
+    pub(crate) fn resolve_all(&mut self, command: &Command) -> Result<Act, Refusal>
+        ensures act { result ≡ resolve_all self.old command.now }
+        ensures same { self.new ≡ self.old }
+    {
+        match command {
+            Command::Watch(name, action) => self.watched(*name, *action),
+            Command::Register(watcher, object) => self.registered(*watcher, *object),
+            Command::Unregister(watcher, object) => self.unregistered(*watcher, *object),
+            _ => self.resolve(command),
         }
     }
 
@@ -316,6 +331,41 @@ impl Session {
             Some(user) => Err(Refusal::InUse(user)),
             None => Ok(Act::Quiet(Change::Drop(object))),
         }
+    }
+
+    #[tactic(auto, unfolding(session_model::specs::Resolve::unless_taken, session_model::specs::Resolve::unless))]
+    fn watched(&self, name: NameId, action: ActionId) -> Result<Act, Refusal>
+        ensures { result ≡ unless_taken self.now name (watching self.now name action) }
+    {
+        self.free(name)?;
+        self.room()?;
+        Ok(Act::Watch(name, action))
+    }
+
+    #[tactic(auto, unfolding(session_model::specs::Resolve::with_found, session_model::specs::Resolve::unless))]
+    fn registered(&self, watcher: NameId, object: NameId) -> Result<Act, Refusal>
+        ensures { result ≡ pairing self.now watcher object (λ x y.
+            unless (is_registered self.now.state x y) AlreadyRegistered (act.Grow (growth.Register x y))) }
+    {
+        let watcher = self.find(Place::Watcher, watcher)?;
+        let object = self.find(Place::Observable, object)?;
+        if self.is_registered(watcher, object) {
+            return Err(Refusal::AlreadyRegistered);
+        }
+        Ok(Act::Grow(Growth::Register(watcher, object)))
+    }
+
+    #[tactic(auto, unfolding(session_model::specs::Resolve::with_found, session_model::specs::Resolve::unless))]
+    fn unregistered(&self, watcher: NameId, object: NameId) -> Result<Act, Refusal>
+        ensures { result ≡ pairing self.now watcher object (λ x y.
+            unless (not (is_registered self.now.state x y)) NotRegistered (act.Quiet (change.Unregister x y))) }
+    {
+        let watcher = self.find(Place::Watcher, watcher)?;
+        let object = self.find(Place::Observable, object)?;
+        if !self.is_registered(watcher, object) {
+            return Err(Refusal::NotRegistered);
+        }
+        Ok(Act::Quiet(Change::Unregister(watcher, object)))
     }
 
     #[tactic(auto, unfolding(session_model::specs::Resolve::with_found))]

@@ -1,26 +1,28 @@
 // A session: its objects, their names and its actions. A clause sees it as a standing of the definition.
-ghost use Rattle.std.specs.Prelude.{◌≡◌, ◌<◌, ◌==◌, ◌||◌, ◌++◌, true, false, length, codes, None, Some, Ok, Err, is_none, is_ok, is_err, IfOk, OnOk, OnErr, replicate, option_copied, slice_get};
+ghost use Rattle.std.specs.Prelude.{◌≡◌, ◌<◌, ◌==◌, ◌||◌, ◌++◌, true, false, length, codes, None, Some, Ok, Err, is_none, is_ok, is_err, IfOk, OnOk, OnErr, replicate, option_copied, slice_get, [], ◌∷◌, IfSome, IfNone, ◌≤◌, ◌+◌, ◌^◌, slice_index_or};
 ghost use Rattle.desk_names.specs.Names.{has_text};
 ghost use Rattle.desk_terms.specs.Reading.{Calc, AreInRange};
 ghost use Rattle.desk_terms.specs.declared.kind.Kind.TheVariants as kind;
 ghost use Rattle.desk_terms.specs.declared.kind.Wanted.TheVariants as wanted;
-ghost use Rattle.desk_model.specs.Market.{slot_at, is_given, kind_at, least_user};
+ghost use Rattle.desk_model.specs.Market.{slot_at, is_given, is_watcher, kind_at, least_user};
 ghost use Rattle.desk_model.specs.Links.{AreOfKind, serves_as, is_lazy_at};
 ghost use Rattle.desk_model.specs.Sound.{IsSound, KeepsCurrent};
 ghost use Rattle.desk_terms.specs.Asked.{Shows};
 ghost use Rattle.desk_terms.specs.Reading.{Outcome};
 ghost use Rattle.desk_model.specs.State.{kept_at, least_source};
-ghost use Rattle.desk_model.specs.Effect.{quote_set, relinked, engine_set, member_set, today_set, fixing_added, frozen_set, thawed, forward_set, deferred, resumed, dropped};
+ghost use Rattle.desk_model.specs.Told.{is_registered, is_watching};
+ghost use Rattle.desk_model.specs.Effect.{quote_set, relinked, engine_set, member_set, today_set, fixing_added, frozen_set, thawed, forward_set, deferred, resumed, dropped, registered_with, unregistered};
 ghost use Rattle.session_commands.specs.Parts.{command_word};
 ghost use Rattle.price_report.specs.Line.{refusal_line};
-ghost use Rattle.session_model.specs.Standing.{start_of, object_named, is_full};
+ghost use Rattle.session_model.specs.Standing.{start_of, name_of, object_named, is_full};
 ghost use Rattle.session_model.specs.declared.place.Place.TheVariants as place;
 ghost use Rattle.session_model.specs.Place.{takes_found};
 ghost use Rattle.session_model.specs.Resolve.{closes, joins, rate_at};
 ghost use Rattle.session_model.specs.Pricing.{asking, recalculating, discount_in, priced_line};
-ghost use Rattle.session_core.specs.Allowed.{MayRelink, MayEngage, MayFix, MayRecalc};
+ghost use Rattle.session_core.specs.Allowed.{MayPair, MayRegister, MayRelink, MayEngage, MayFix, MayRecalc};
 ghost use Rattle.session_core.specs.Pricing.{Prices, StopsShort};
-ghost use Rattle.session_core.specs.Steps.{with_object, with_state};
+ghost use Rattle.session_core.specs.Watchers.{AreWatchers};
+ghost use Rattle.session_core.specs.Steps.{with_object, with_watcher, with_state};
 
 use day_number::Day;
 use desk_names::{NameId, NameList, Names, ObjId};
@@ -28,7 +30,7 @@ use desk_terms::{Asked, Bench, Cause, FixFault, Kind, Terms, Value, discount_of}
 use fixed_amount::{Discount, Rate};
 use lazy_objects::{Desk, Recalced};
 use price_report::{Namer, asked_line, df_line, refusal_line};
-use session_commands::{Actions, Command, Refusal};
+use session_commands::{ActionId, Actions, Command, CommandList, Refusal};
 use session_model::{How, MOST_LIVE, MOST_NUMBERS};
 use std::alloc::{AllocError, Global};
 use std::marker::Model;
@@ -40,6 +42,8 @@ pub struct Session {
     names: Names,
     of_object: NameList,
     actions: Actions,
+    // The action of the watcher that has or had a name, by the name's number.
+    watching: Vec<Option<ActionId>>,
     // The live object of each name, by the name's number.
     of_name: Vec<Option<ObjId>>,
     live: usize,
@@ -58,6 +62,7 @@ impl Model for Session {
       names = s.names;
       of_object = s.of_object;
       actions = s.actions;
+      watching = s.watching.items;
       stopped = s.stopped;
     } };
 
@@ -66,6 +71,7 @@ impl Model for Session {
       names = s.names;
       of_object = s.of_object;
       actions = s.actions;
+      watching = s.watching.items;
       stopped = s.stopped;
     }) s.of_name.items s.live };
 }
@@ -91,11 +97,13 @@ impl Session {
         of_object.push(first)?;
         let mut of_name = unnamed(alloc, names.len() as usize)?;
         of_name[first.place()] = Some(ObjId(0));
+        let watching = unwatched(alloc, names.len() as usize)?;
         Ok(Session {
             desk: Desk::new(alloc, today)?,
             names,
             of_object,
             actions,
+            watching,
             of_name,
             live: 1,
             stopped: false,
@@ -110,11 +118,81 @@ impl Session {
         self.stopped
     }
 
-    // Takes no further command.
-    pub(crate) fn stop(&mut self)
+    /// Takes no further command: memory ran out beside it.
+    pub fn stop(&mut self)
         ensures { self.new ≡ record self.old { stopped = true } }
     {
         self.stopped = true;
+    }
+
+    /// The name of an object.
+    pub fn name_of(&self, object: ObjId) -> NameId
+        requires { object < length self.now.of_object }
+        ensures { result ≡ name_of self.now object }
+    {
+        self.of_object.items()[object.place()]
+    }
+
+    /// The action of the watcher that has or had a name.
+    pub fn action_of(&self, name: NameId) -> Option<ActionId>
+        ensures { result ≡ slice_index_or self.now.watching name None }
+    {
+        match self.watching.get(name.place()) {
+            Some(action) => *action,
+            None => None,
+        }
+    }
+
+    /// The command at a place of an action, from 0, if there is one.
+    pub fn command_at(&self, action: ActionId, at: usize) -> Option<Command>
+        ensures at { result ≡ slice_get (slice_index_or self.now.actions action []) at }
+        ensures low { IfSome result (λ _. at + 1 < 2 ^ 64) }
+    {
+        match self.actions.items().get(action.place()) {
+            Some(commands) => command_in(commands, at),
+            None => None,
+        }
+    }
+
+    /// Whether an object is a watcher that is registered with any object.
+    pub fn is_watching(&self, object: ObjId) -> bool
+        ensures { result ≡ is_watching self.now.state object }
+    {
+        self.desk.is_watching(object)
+    }
+
+    /// Does nothing: what is known of the watchers of every session, each of which has a name that no other live one has.
+    pub fn watchers(&self)
+        ensures { AreWatchers self.now }
+    {
+        let _ = &self.of_name;
+    }
+
+    /// Its names.
+    pub fn names(&self) -> &Names
+        ensures { result.now ≡ self.now.names }
+    {
+        &self.names
+    }
+
+    /// How many numbers were given to objects.
+    pub fn numbers(&self) -> u32
+        ensures numbers { result ≡ length self.now.of_object }
+        ensures limit { result ≤ 2 ^ 16 }
+    {
+        let _ = &self.of_name;
+        self.desk.numbers()
+    }
+
+    // Takes out who was told first.
+    pub(crate) fn take_told(&mut self) -> Option<ObjId>
+        ensures none { IfNone result ((self.old.state.noticed ≡ []) × (self.new ≡ self.old)) }
+        ensures some { IfSome result (λ w. (self.old.state.noticed ≡ w ∷ self.new.state.noticed)
+            × (self.new ≡ record self.old { state = record self.old.state { noticed = self.new.state.noticed } })) }
+        ensures watcher { IfSome result (λ w. is_watcher (slot_at self.old.state.market w) ≡ true) }
+        ensures sound { (calc : Calc) → IsSound calc self.old.state → IsSound calc self.new.state }
+    {
+        self.desk.next_told()
     }
 
     // The allocator that it was made with.
@@ -196,6 +274,61 @@ impl Session {
                 Err(fault)
             }
         }
+    }
+
+    // Makes a watcher that has this name and this action. Its name is taken back where memory is wanting for it.
+    pub(crate) fn watch(&mut self, name: NameId, action: ActionId) -> Result<(), AllocError>
+        requires named { name < length self.old.names }
+        requires free { object_named self.old name ≡ None }
+        requires room { is_full self.old.state.market ≡ false }
+        ensures made { OnOk result (self.new ≡ with_watcher name action self.old) }
+        ensures err { OnErr result (self.new ≡ self.old) }
+        ensures sound { (calc : Calc) → IsSound calc self.old.state → IsSound calc self.new.state }
+    {
+        let given = self.of_object.len();
+        self.of_object.push(name)?;
+        match self.desk.add_watcher() {
+            Ok(watcher) => {
+                self.of_name[name.place()] = Some(watcher);
+                self.watching[name.place()] = Some(action);
+                self.live += 1;
+                Ok(())
+            }
+            Err(fault) => {
+                self.of_object.truncate(given);
+                Err(fault)
+            }
+        }
+    }
+
+    // Whether a watcher is registered with an object.
+    pub(crate) fn is_registered(&self, watcher: ObjId, object: ObjId) -> bool
+        requires pair { MayPair self.now watcher object }
+        ensures { result ≡ is_registered self.now.state watcher object }
+    {
+        self.desk.is_registered(watcher, object)
+    }
+
+    // Registers a watcher with an object.
+    pub(crate) fn register(&mut self, watcher: ObjId, object: ObjId) -> Result<(), AllocError>
+        requires may { MayRegister self.old watcher object }
+        ensures set { OnOk result (self.new ≡ with_state (registered_with watcher object self.old.state) self.old) }
+        ensures err { OnErr result (self.new ≡ self.old) }
+        ensures sound { (calc : Calc) → IsSound calc self.old.state → IsSound calc self.new.state }
+    {
+        match self.desk.register(watcher, object) {
+            Ok(_) => Ok(()),
+            Err(fault) => Err(fault),
+        }
+    }
+
+    // Registers a watcher with an object no more.
+    pub(crate) fn unregister(&mut self, watcher: ObjId, object: ObjId)
+        requires pair { MayPair self.old watcher object }
+        ensures set { self.new ≡ with_state (unregistered watcher object self.old.state) self.old }
+        ensures sound { (calc : Calc) → IsSound calc self.old.state → IsSound calc self.new.state }
+    {
+        self.desk.unregister(watcher, object);
     }
 
     // Gives a quote a value, or takes it away.
@@ -456,4 +589,22 @@ fn unnamed(alloc: Global, names: usize) -> Result<Vec<Option<ObjId>>, AllocError
     ensures { IfOk result (λ table. table.items ≡ replicate names None) }
 {
     vec![in alloc; None; names]
+}
+
+// A table by names in which no name has an action.
+fn unwatched(alloc: Global, names: usize) -> Result<Vec<Option<ActionId>>, AllocError>
+    ensures { IfOk result (λ table. table.items ≡ replicate names None) }
+{
+    vec![in alloc; None; names]
+}
+
+// The command at a place of a list, if there is one.
+fn command_in(commands: &CommandList, at: usize) -> Option<Command>
+    ensures at { result ≡ slice_get commands.now at }
+    ensures low { IfSome result (λ _. at + 1 < 2 ^ 64) }
+{
+    match commands.items().get(at) {
+        Some(command) => Some(*command),
+        None => None,
+    }
 }

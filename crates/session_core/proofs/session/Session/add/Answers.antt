@@ -23,6 +23,7 @@ invariant_of-self-in-Ok c =
       of_object =
           c.self.inside.of_object;
       actions = c.self.inside.actions;
+      watching = c.self.inside.watching.items;
       stopped = c.self.inside.stopped;
     } in
     let named : c.args.name < length c.self.inside.names =

@@ -25,6 +25,7 @@ returns-clause-prices g c =
       names = c.self.inside.names;
       of_object = c.self.inside.of_object;
       actions = c.self.inside.actions;
+      watching = c.self.inside.watching.items;
       stopped = c.self.inside.stopped;
     } in
     subst (λ (q : Standing). IfOk c.ask.result (λ (answer : Asked). Prices (asking calc c.args.object q.state)
@@ -43,6 +44,7 @@ returns-clause-stops g c =
       names = c.self.inside.names;
       of_object = c.self.inside.of_object;
       actions = c.self.inside.actions;
+      watching = c.self.inside.watching.items;
       stopped = c.self.inside.stopped;
     } in
     subst (λ (q : Standing). OnErr c.ask.result (StopsShort (asking calc c.args.object q.state) q

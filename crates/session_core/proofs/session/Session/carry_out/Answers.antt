@@ -3,7 +3,7 @@ use Rattle.std.specs.Prelude.{true}
 use Rattle.desk_terms.specs.Reading.{Calc}
 use Rattle.session_model.specs.declared.act.Act.{Act}
 use Rattle.session_core.specs.Steps.{takes_no_memory}
-use Rattle.session_core.proofs.Turns.{make_carries, change_carries, growth_carries, ends_at_once, on_ok, on_err_of, loud}
+use Rattle.session_core.proofs.Turns.{make_carries, watch_carries, change_carries, growth_carries, ends_at_once, on_ok, on_err_of, loud}
 use Rattle.session_core.proofs.session.Session.carry_out.Goals as goal
 
 pub returns-in-Ok-clause-steps : goal.returns-in-Ok-clause-steps
@@ -22,6 +22,25 @@ returns-in-Err-clause-stops g c =
 
 pub returns-in-Err-clause-ends : goal.returns-in-Err-clause-ends
 returns-in-Err-clause-ends g c = loud _ _ c.in-Make.is refl
+
+pub returns-in-Watch-clause-steps : goal.returns-in-Watch-clause-steps
+returns-in-Watch-clause-steps g c =
+    let calc : Calc = g.B.Bench.calc c.args.bench.now in
+    on_ok c.watch.result (λ is. rw c.in-Watch.is (watch_carries calc c.in-Watch.name c.in-Watch.action c.args.self.now
+    c.watch.new.self c.args.lines.now.items (g.B.Bench.count c.args.bench.now) (g.B.Bench.log c.args.bench.now) is))
+    c.watch.ensures.made
+
+pub returns-in-Watch-clause-stops : goal.returns-in-Watch-clause-stops
+returns-in-Watch-clause-stops g c =
+    on_err_of c.watch.result
+    (λ same. ends_at_once _ _ c.args.self.now c.watch.new.self c.args.lines.now.items c.args.lines.now.items
+    (g.B.Bench.count c.args.bench.now) (g.B.Bench.log c.args.bench.now) same refl) c.watch.ensures.err
+
+pub returns-in-Watch-clause-ends : goal.returns-in-Watch-clause-ends
+returns-in-Watch-clause-ends g c = loud _ _ c.in-Watch.is refl
+
+pub returns-in-Watch-clause-sound : goal.returns-in-Watch-clause-sound
+returns-in-Watch-clause-sound g c = c.watch.ensures.sound (g.B.Bench.calc c.args.bench.now) c.requires.sound
 
 pub returns-in-Quiet-clause-steps : goal.returns-in-Quiet-clause-steps
 returns-in-Quiet-clause-steps g c =

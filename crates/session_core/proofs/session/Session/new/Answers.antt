@@ -28,3 +28,4 @@ invariant_of-result c =
     (c.in_ok-push.ensures.ok ∙ ap (λ (l : List ℕ). l ++ c.in-Some.name ∷ []) c.new-of_object.ensures
     ∙ ap (λ (n : ℕ). n ∷ []) (sym c.place.ensures))
     c.in_ok-of_name.ensures (omega (arith, within, c.place.ensures, c.len.ensures.len)) c.len.ensures.len
+    (ap (λ (t : List (Option ℕ)). length t) c.in_ok-watching.ensures ∙ length-replicate c.len-2.result _ ∙ c.len-2.ensures.len)

@@ -32,6 +32,7 @@ returns-in_err-asked-clause-stops g c =
       names = c.self.inside.names;
       of_object = c.self.inside.of_object;
       actions = c.self.inside.actions;
+      watching = c.self.inside.watching.items;
       stopped = c.self.inside.stopped;
     } in
     on_err c.from_residual.result
@@ -61,6 +62,7 @@ returns-clause-prices g c =
       names = c.self.inside.names;
       of_object = c.self.inside.of_object;
       actions = c.self.inside.actions;
+      watching = c.self.inside.watching.items;
       stopped = c.self.inside.stopped;
     } in
     subst (λ (q : Standing). Prices (recalculating calc c.args.object q.state) c.args.object q

@@ -1,0 +1,33 @@
+use Rattle.std.proofs.Common.{◌≡◌, Result, sym, subst}
+use Rattle.std.specs.Prelude.{true, IfOk}
+use Rattle.session_commands.specs.declared.refusal.Refusal.{Refusal}
+use Rattle.session_model.specs.declared.act.Act.{Act}
+use Rattle.session_model.specs.Standing.{Standing}
+use Rattle.session_model.specs.Turn.{acted}
+use Rattle.session_core.specs.Allowed.{IsAllowed}
+use Rattle.session_core.specs.Steps.{is_without_memory}
+use Rattle.session_core.proofs.Resolved.{all_allowed}
+use Rattle.session_core.proofs.Turns.{does_of, breaks_of}
+use Rattle.session_core.proofs.session.Session.turn_all.Goals as goal
+
+pub carry-requires-clause-allowed : goal.carry-requires-clause-allowed
+carry-requires-clause-allowed g c =
+    subst (λ (p : Standing). IfOk c.resolve_all-found.result (IsAllowed p)) (sym c.resolve_all-found.ensures.same)
+    (subst (λ (r : Result Act Refusal). IfOk r (IsAllowed c.args.self.now)) (sym c.resolve_all-found.ensures.act)
+    (all_allowed c.args.self.now c.args.command.now c.requires.known))
+
+pub returns-clause-acts : goal.returns-clause-acts
+unfolding acted
+returns-clause-acts g c =
+    does_of _ _ _ _ c.resolve_all-found.new.self _ _ _ _ _ _ _ _ c.carry.result c.resolve_all-found.ensures.same c.resolve_all-found.ensures.act
+    c.carry.ensures.does
+
+pub returns-clause-halts : goal.returns-clause-halts
+unfolding acted
+returns-clause-halts g c =
+    breaks_of _ _ _ _ c.resolve_all-found.new.self _ _ _ _ _ _ _ _ c.carry.result c.resolve_all-found.ensures.same c.resolve_all-found.ensures.act
+    c.carry.ensures.breaks
+
+pub returns-clause-ends : goal.returns-clause-ends
+returns-clause-ends g c = λ yes.
+    c.carry.ensures.ends (subst (λ (r : Result Act Refusal). is_without_memory r ≡ true) (sym c.resolve_all-found.ensures.act) yes)

@@ -1,0 +1,166 @@
+-- What holds of a session with watchers stays while they are told and run.
+use Rattle.std.proofs.Common.{◌≡◌, ℕ, zero, suc, ◌-◌, Option, Some, None, ◌<◌, ◌≤◌, true, List, [], ◌∷◌, ◌++◌, length, replicate, refl, sym, ap, subst, ◌∙◌, arith}
+use Rattle.std.specs.Prelude.{slice_get, IfSome, IfNone, max}
+use Rattle.std.proofs.lemmas.List.{length-set, length-replicate, append-nil}
+use Rattle.std.proofs.lemmas.Option.{slice_get_within, slice_get-get_or}
+use Rattle.watch_rounds.specs.declared.due.DueWatcher.{DueWatcher}
+use Rattle.watch_rounds.specs.declared.tally.Tally.{Tally}
+use Rattle.watch_rounds.specs.declared.notice.Notice.{Notice}
+use Rattle.watch_rounds.specs.declared.notice.Notice.TheVariants as notices
+use Rattle.watch_rounds.specs.Due.{AreAll, IsOnly}
+use Rattle.watch_rounds.specs.Round.{Round, RoundsView, IsRound, blank, no_round, grown, tally_at, notice_of, with_notice, with_notice_as, with_run, run_of, one_more, watcher_of}
+use Rattle.watch_rounds.proofs.Stays.{nobody_ran}
+use Rattle.watch_rounds.proofs.Places.{all_map, all_with, all_removed}
+use Rattle.session_model.specs.Standing.{Standing, name_of}
+use Rattle.session_model.specs.Course.{Running, running}
+use Rattle.session_core.specs.Watchers.{IsAWatcher, AreWatchers}
+use Rattle.session_rounds.specs.Fits.{Fits, IsDueOf, AreKnown}
+use Rattle.session_rounds.specs.Goes.{HasEnded}
+use Rattle.session_rounds.proofs.Hearing.{with_noticed}
+
+-- of the due, a watcher that is told is the only one with its name
+pub only_of : (p : Standing) (w name : ℕ) (due : List DueWatcher) → AreAll (IsDueOf p) due → IsAWatcher p w → name ≡ name_of p w
+    → IsOnly w name due
+only_of p w name due all watcher named = all_map (IsDueOf p)
+    (λ one. (one.watcher ≡ w → one.name ≡ name) × (one.name ≡ name → one.watcher ≡ w))
+    (λ one is. (
+      (λ same. is.1 ∙ ap (name_of p) same ∙ sym named),
+      (λ same. watcher.alone one.watcher is.0 (sym is.1 ∙ same ∙ named)),
+    )) due all
+
+noted_tallies : (n : Notice) (w name : ℕ) (round : Round) → length (with_notice_as n w name round).tallies ≡ length round.tallies
+noted_tallies notices.Due w name round = refl
+noted_tallies notices.OverFirst w name round = length-set round.tallies name (record (tally_at round name) { over = true })
+noted_tallies notices.OverAgain w name round = refl
+
+noted_due : (Q : DueWatcher → Type 0) (n : Notice) (w name : ℕ) (round : Round) → AreAll Q round.due → Q (record { watcher = w; name = name })
+    → AreAll Q (with_notice_as n w name round).due
+noted_due Q notices.Due w name round all one = all_with Q (record { watcher = w; name = name }) round.due all one
+noted_due Q notices.OverFirst w name round all one = all
+noted_due Q notices.OverAgain w name round all one = all
+
+-- a watcher was told
+pub fits_notice : {P : Type 0} → (r : Running P) (nodes w name : ℕ) → Fits P r nodes → IsAWatcher r.standing w → name ≡ name_of r.standing w
+    → Fits P (record r { round = with_notice w name r.round }) nodes
+unfolding with_notice
+fits_notice r nodes w name fits watcher named = record {
+  counted = noted_tallies (notice_of (tally_at r.round name)) w name r.round ∙ fits.counted;
+  room = fits.room;
+  due = noted_due (IsDueOf r.standing) (notice_of (tally_at r.round name)) w name r.round fits.due (watcher.live, named);
+  known = fits.known;
+}
+
+-- other notices are left
+pub fits_leaving : {P : Type 0} → (r : Running P) (nodes : ℕ) (rest : List ℕ) (new : Standing) → Fits P r nodes
+    → new ≡ with_noticed rest r.standing → Fits P (record r { standing = new }) nodes
+fits_leaving {P} r nodes rest new fits is =
+    subst (λ (p : Standing). Fits P (record r { standing = p }) nodes) (sym is)
+    (record { counted = fits.counted; room = fits.room; due = fits.due; known = fits.known })
+
+ran_tallies : (o : Option DueWatcher) (at : ℕ) (round : Round) → length (run_of o at round).tallies ≡ length round.tallies
+ran_tallies None at round = refl
+ran_tallies (Some entry) at round = length-set round.tallies entry.name (one_more (tally_at round entry.name))
+
+ran_due : (Q : DueWatcher → Type 0) (o : Option DueWatcher) (at : ℕ) (round : Round) → slice_get round.due at ≡ o → AreAll Q round.due
+    → AreAll Q (run_of o at round).due
+ran_due Q None at round is all = all
+ran_due Q (Some entry) at round is all = all_removed Q round.due at (slice_get_within round.due at entry is) all
+
+-- a run begins
+pub fits_ran : {P : Type 0} → (r : Running P) (nodes at : ℕ) (picker : P) → Fits P r nodes
+    → Fits P (record r { round = with_run at r.round; picker = picker }) nodes
+unfolding with_run
+fits_ran r nodes at picker fits = record {
+  counted = ran_tallies (slice_get r.round.due at) at r.round ∙ fits.counted;
+  room = fits.room;
+  due = ran_due (IsDueOf r.standing) (slice_get r.round.due at) at r.round refl fits.due;
+  known = fits.known;
+}
+
+-- who runs next is listed
+pub listed_if : (p : Standing) (due : List DueWatcher) (at : ℕ) (result : Option ℕ) → AreWatchers p → AreAll (IsDueOf p) due
+    → result ≡ watcher_of (slice_get due at) → IfSome result (λ w. w < length p.of_object)
+listed_if p due at None are all is = tt
+listed_if p due at (Some w) are all is = by due at all is
+  where
+    same : (v : ℕ) → Some w ≡ Some v → w ≡ v
+    same v e = cc
+
+    by : (due : List DueWatcher) (at : ℕ) → AreAll (IsDueOf p) due → Some w ≡ watcher_of (slice_get due at) → w < length p.of_object
+    by [] zero all is = absurd (cc)
+    by [] (suc at) all is = absurd (cc)
+    by (first ∷ rest) zero all is =
+        subst (λ (v : ℕ). v < length p.of_object) (sym (same first.watcher is)) (are first.watcher all.0.0).listed
+    by (first ∷ rest) (suc at) all is = by rest at all.1 is
+
+none_due : (due : List DueWatcher) (at : ℕ) → (1 ≤ length due → at < length due) → watcher_of (slice_get due at) ≡ None → length due ≡ 0
+none_due [] at low is = refl
+none_due (first ∷ rest) at low is =
+    let some = slice_get-get_or (first ∷ rest) at first (low (omega arith)) in absurd (never (sym (ap watcher_of some) ∙ is))
+  where
+    never : {w : ℕ} → Some w ≡ None → ⊥
+    never e = cc
+
+pub none_if : (due : List DueWatcher) (at : ℕ) (result : Option ℕ) → result ≡ watcher_of (slice_get due at)
+    → (1 ≤ length due → at < length due) → IfNone result (length due ≡ 0)
+none_if due at None is low = none_due due at low (sym is)
+none_if due at (Some w) is low = tt
+
+-- no round runs
+pub fits_opened : {P : Type 0} → (r : Running P) (nodes : ℕ) (new : Standing) → Fits P r nodes → new.names ≡ r.standing.names
+    → new.of_object ≡ r.standing.of_object → AreKnown new
+    → Fits P (record r { standing = new; round = no_round (length r.round.tallies) }) nodes
+fits_opened r nodes new fits names objects known = record {
+  counted = length-replicate (length r.round.tallies) blank ∙ fits.counted ∙ sym (ap (λ (l : List (List ℕ)). length l) names);
+  room = subst (λ (l : List ℕ). length l ≤ nodes) (sym objects) fits.room;
+  due = tt;
+  known = known;
+}
+
+-- room for more objects
+no_names : (view : RoundsView) (nodes : ℕ) → grown 0 nodes view ≡ record view { nodes = max view.nodes nodes }
+no_names view nodes =
+    let e : 0 - length view.round.tallies ≡ 0 = omega arith in
+    λ i. record {
+      round = record view.round { tallies = (ap (λ (n : ℕ). view.round.tallies ++ replicate n blank) e ∙ append-nil view.round.tallies) i };
+      nodes = max view.nodes nodes;
+    }
+
+pub grown_same : (round : Round) (old nodes : ℕ) (new : RoundsView) → new ≡ grown 0 nodes (record { round = round; nodes = old })
+    → (new.round ≡ round) × (new.nodes ≡ max old nodes)
+grown_same round old nodes new is =
+    let same = is ∙ no_names (record { round = round; nodes = old }) nodes in
+    (ap (λ (v : RoundsView). v.round) same, ap (λ (v : RoundsView). v.nodes) same)
+
+-- a session with watchers begins
+grown_blank : (names : ℕ) → (replicate 0 blank) ++ replicate (names - length (replicate 0 blank)) blank ≡ replicate names blank
+grown_blank names = let e : names - 0 ≡ names = omega arith in ap (λ (n : ℕ). replicate n blank) e
+
+pub begins : (names nodes : ℕ) (new : RoundsView) → new ≡ grown names nodes (record { round = no_round 0; nodes = 0 })
+    → (new.round ≡ no_round names) × (new.nodes ≡ max 0 nodes)
+begins names nodes new is = (
+  ap (λ (v : RoundsView). v.round) is ∙ ap (λ (l : List Tally). let r : Round = record { due = []; tallies = l } in r) (grown_blank names),
+  ap (λ (v : RoundsView). v.nodes) is,
+)
+
+pub fits_new : {P : Type 0} → (p : Standing) (picker : P) (nodes : ℕ) → length p.of_object ≤ nodes → AreKnown p
+    → Fits P (running picker p) nodes
+fits_new p picker nodes room known = record {
+  counted = length-replicate (length p.names) blank;
+  room = room;
+  due = tt;
+  known = known;
+}
+
+-- where nobody is due the round has ended
+ended : (due : List DueWatcher) → length due ≡ 0 → due ≡ []
+ended [] none = refl
+ended (first ∷ rest) none = absurd (omega arith)
+
+pub ends_if : (old : Round) (new : RoundsView) (at : ℕ) (result : Option ℕ) → IfNone result (length old.due ≡ 0)
+    → new.round ≡ with_run at old → IsRound new → IfNone result (HasEnded new.round)
+ends_if old new at None none is round = record {
+  due = ap (λ (r : Round). r.due) (is ∙ nobody_ran old at none) ∙ ended old.due none;
+  most = round.most;
+}
+ends_if old new at (Some w) none is round = tt

@@ -1,0 +1,8 @@
+mod Fitting
+mod Going
+mod Hearing
+mod Known
+mod Live
+mod Passing
+mod Plays
+mod Taken

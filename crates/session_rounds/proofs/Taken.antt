@@ -1,0 +1,77 @@
+-- What a command leaves in a round.
+use Rattle.std.proofs.Common.{◌≡◌, ℕ, ◌+◌, ◌≤◌, Bool, true, false, List, [], ◌∷◌, length, Option, refl, sym, ap, subst, ◌∙◌, arith}
+use Rattle.std.specs.Prelude.{if◌then◌else◌}
+use Rattle.std.specs.List.{filter}
+use Rattle.std.proofs.lemmas.List.{append-nil}
+use Rattle.desk_terms.specs.Reading.{Outcome, Calc}
+use Rattle.desk_model.specs.Told.{is_watching}
+use Rattle.session_commands.specs.declared.command.Command.{Command}
+use Rattle.watch_rounds.specs.declared.due.DueWatcher.{DueWatcher}
+use Rattle.watch_rounds.specs.Due.{AreAll}
+use Rattle.session_model.specs.Standing.{Standing}
+use Rattle.session_model.specs.Turn.{Turn, acted}
+use Rattle.session_model.specs.Course.{Running, undue, taken}
+use Rattle.session_core.specs.Steps as steps
+use Rattle.session_core.specs.Watchers.{AreWatchers}
+use Rattle.session_rounds.specs.Fits.{Fits, IsDueOf}
+use Rattle.session_rounds.specs.Goes.{Does, Halts}
+use Rattle.session_rounds.proofs.Known.{known_same}
+use Rattle.session_rounds.proofs.Live.{acted_live, acted_named, acted_long}
+
+module _ {P : Type 0} (t : Turn) (r : Running P) (lines_old lines_new : List ℕ) (count_old count_new : ℕ)
+    (log_old log_new : Option (List (ℕ × Bool))) where
+  -- its turn is taken
+  pub does_taken : (new : Standing) → steps.Does t new lines_old lines_new count_old count_new log_old log_new
+      → Does P (taken t r) (record r { standing = new; round = undue new.state r.round })
+      (record { lines = lines_old; count = count_old; log = log_old }) (record { lines = lines_new; count = count_new; log = log_new })
+  does_taken new does = record {
+    next = ap (λ (p : Standing). let z : Running P = record r { standing = p; round = undue p.state r.round } in z) does.next;
+    out = λ i. record { lines = does.written i; count = does.count i; log = does.log i };
+  }
+
+  pub halts_taken : (survivors : List (ℕ × Outcome)) (old new : Standing)
+      → steps.Ends t survivors old new lines_old lines_new count_old count_new log_old log_new
+      → Halts P (taken t r)
+      (record { lines = lines_old; count = count_old; log = log_old }) (record { lines = lines_new; count = count_new; log = log_new })
+  halts_taken survivors old new ends = record {
+    front = [];
+    rest = t.lines;
+    whole = refl;
+    begun = ends.begun;
+    ended = ends.ended;
+    most = ends.most;
+    last = ends.last;
+    out = λ i. record { lines = (ends.written ∙ sym (append-nil lines_old)) i; count = ends.count i; log = ends.log i };
+  }
+
+filtered : (Q R : DueWatcher → Type 0) (test : DueWatcher → Bool) → ((one : DueWatcher) → Q one → test one ≡ true → R one)
+    → (due : List DueWatcher) → AreAll Q due → AreAll R (filter test due)
+filtered Q R test each [] all = tt
+filtered Q R test each (first ∷ rest) all = by (filtered Q R test each rest all.1) (test first) refl
+  where
+    by : AreAll R (filter test rest) → (b : Bool) → test first ≡ b → AreAll R (if b then first ∷ filter test rest else filter test rest)
+    by more true is = (each first all.0 is, more)
+    by more false is = more
+
+-- each watcher that is due after a command is live
+due_then : (calc : Calc) (p : Standing) (c : Command) (due : List DueWatcher) → AreWatchers p → AreAll (IsDueOf p) due
+    → AreAll (IsDueOf (acted calc p c).next) (filter (λ one. is_watching (acted calc p c).next.state one.watcher) due)
+due_then calc p c due are all =
+    filtered (IsDueOf p) (IsDueOf (acted calc p c).next) (λ one. is_watching (acted calc p c).next.state one.watcher)
+    (λ one is watching. (
+      acted_live calc p c one.watcher is.0 watching,
+      is.1 ∙ sym (acted_named calc p c one.watcher (are one.watcher is.0).listed),
+    )) due all
+
+pub fits_acted : {P : Type 0} → (calc : Calc) (r : Running P) (c : Command) (new : Standing) (nodes more : ℕ) → Fits P r nodes
+    → AreWatchers r.standing → new ≡ (acted calc r.standing c).next → new.names ≡ r.standing.names
+    → new.actions ≡ r.standing.actions → length r.standing.of_object + 1 ≤ more
+    → Fits P (record r { standing = new; round = undue new.state r.round }) more
+fits_acted {P} calc r c new nodes more fits are is names actions room = record {
+  counted = fits.counted ∙ sym (ap (λ (l : List (List ℕ)). length l) names);
+  room = let long = acted_long calc r.standing c in
+      let same = ap (λ (p : Standing). length p.of_object) is in omega arith;
+  due = subst (λ (p : Standing). AreAll (IsDueOf p) (filter (λ one. is_watching p.state one.watcher) r.round.due)) (sym is)
+      (due_then calc r.standing c r.round.due are fits.due);
+  known = known_same r.standing new names actions fits.known;
+}

@@ -1,0 +1,29 @@
+use Rattle.watch_rounds.specs.Round.{RoundsView}
+use Rattle.std.proofs.Common.{length, refl, ap}
+use Rattle.session_rounds.proofs.Fitting.{fits_ran, none_if, listed_if, ends_if}
+use Rattle.session_rounds.proofs.session.WatchedSession.begin_run.Goals as goal
+
+pub invariant_of-self : goal.invariant_of-self
+invariant_of-self g c = rw (c.next_due.ensures.ran) (fits_ran _ c.self.inside.rounds.nodes
+    (g.P.Picker.at c.self.inside.picker (length c.self.inside.rounds.round.due)) c.next_due.new.picker c.self.invariant)
+
+pub returns-clause-begun : goal.returns-clause-begun
+returns-clause-begun g c = rw (c.next_due.ensures.ran, c.next_due.ensures.picker, ← c.self.view_is) refl
+
+pub returns-clause-none : goal.returns-clause-none
+returns-clause-none g c = rw (← c.self.view_is) (none_if c.self.inside.rounds.round.due
+    (g.P.Picker.at c.self.inside.picker (length c.self.inside.rounds.round.due)) c.next_due.result c.next_due.ensures.due
+    (λ some. g.met.P.Picker.below c.self.inside.picker (length c.self.inside.rounds.round.due) some))
+
+pub returns-clause-listed : goal.returns-clause-listed
+returns-clause-listed g c = rw (← c.self.view_is) (listed_if c.self.inside.session c.self.inside.rounds.round.due
+    (g.P.Picker.at c.self.inside.picker (length c.self.inside.rounds.round.due)) c.next_due.result c.watchers.ensures
+    c.self.invariant.due c.next_due.ensures.due)
+
+pub returns-clause-ends : goal.returns-clause-ends
+returns-clause-ends g c = ends_if c.self.inside.rounds.round c.next_due.new.self
+    (g.P.Picker.at c.self.inside.picker (length c.self.inside.rounds.round.due)) c.next_due.result
+    (none_if c.self.inside.rounds.round.due
+    (g.P.Picker.at c.self.inside.picker (length c.self.inside.rounds.round.due)) c.next_due.result c.next_due.ensures.due
+    (λ some. g.met.P.Picker.below c.self.inside.picker (length c.self.inside.rounds.round.due) some))
+    (ap (λ (v : RoundsView). v.round) c.next_due.ensures.ran) c.next_due.ensures.round

@@ -1,0 +1,46 @@
+use Rattle.std.proofs.Common.{◌∙◌}
+use Rattle.std.proofs.lemmas.Result.{err_from_is_err_and, on_ok_weaker, on_err_weaker}
+use Rattle.session_model.specs.Turn.{acted}
+use Rattle.session_model.specs.Course.{taken, heard, done}
+use Rattle.session_rounds.proofs.Going.{does_both, halts_first, halts_second, does_priced, halts_priced}
+use Rattle.session_rounds.proofs.Hearing.{heard_calls}
+use Rattle.session_rounds.proofs.session.WatchedSession.command.Goals as goal
+
+pub returns-in_err-act-clause-err : goal.returns-in_err-act-clause-err
+unfolding done
+returns-in_err-act-clause-err g c =
+    let e = err_from_is_err_and c.from_residual.result c.from_residual.ensures.1 in
+    rw e.1 (halts_first (taken (acted (g.B.Bench.calc c.args.bench.now) c.args.self.now.standing c.args.command.now) c.args.self.now) heard
+    (record { lines = c.args.lines.now.items; count = g.B.Bench.count c.args.bench.now; log = g.B.Bench.log c.args.bench.now })
+    (record { lines = c.act.new.lines.items; count = g.B.Bench.count c.act.new.bench; log = g.B.Bench.log c.act.new.bench }) c.in_err-act.ensures.err)
+
+pub returns-clause-ok : goal.returns-clause-ok
+unfolding done
+returns-clause-ok g c =
+    on_ok_weaker c.hear.result (λ does. does_both (taken (acted (g.B.Bench.calc c.args.bench.now) c.args.self.now.standing c.args.command.now) c.args.self.now)
+    heard c.act.new.self c.hear.new.self
+    (record { lines = c.args.lines.now.items; count = g.B.Bench.count c.args.bench.now; log = g.B.Bench.log c.args.bench.now })
+    (record { lines = c.act.new.lines.items; count = g.B.Bench.count c.act.new.bench; log = g.B.Bench.log c.act.new.bench })
+    (record { lines = c.hear.new.lines.items; count = g.B.Bench.count c.act.new.bench; log = g.B.Bench.log c.act.new.bench })
+    c.in_ok-act.ensures.ok
+    (does_priced (heard c.act.new.self) (heard_calls c.act.new.self) c.act.new.lines.items c.hear.new.lines.items
+    (g.B.Bench.count c.act.new.bench) (g.B.Bench.log c.act.new.bench) c.hear.new.self does)) c.hear.ensures.ok
+
+pub returns-clause-err : goal.returns-clause-err
+unfolding done
+returns-clause-err g c =
+    on_err_weaker c.hear.result (λ halts. halts_second (taken (acted (g.B.Bench.calc c.args.bench.now) c.args.self.now.standing c.args.command.now) c.args.self.now)
+    heard c.act.new.self
+    (record { lines = c.args.lines.now.items; count = g.B.Bench.count c.args.bench.now; log = g.B.Bench.log c.args.bench.now })
+    (record { lines = c.act.new.lines.items; count = g.B.Bench.count c.act.new.bench; log = g.B.Bench.log c.act.new.bench })
+    (record { lines = c.hear.new.lines.items; count = g.B.Bench.count c.act.new.bench; log = g.B.Bench.log c.act.new.bench })
+    c.in_ok-act.ensures.ok
+    (halts_priced (heard c.act.new.self) (heard_calls c.act.new.self) c.act.new.lines.items c.hear.new.lines.items
+    (g.B.Bench.count c.act.new.bench) (g.B.Bench.log c.act.new.bench) halts)) c.hear.ensures.err
+
+pub returns-clause-stays : goal.returns-clause-stays
+returns-clause-stays g c = record {
+  names = c.hear.ensures.names ∙ c.act.ensures.stays.names;
+  actions = c.hear.ensures.actions ∙ c.act.ensures.stays.actions;
+  sound = c.hear.ensures.sound (g.B.Bench.calc c.args.bench.now) c.act.ensures.stays.sound;
+}

@@ -1,0 +1,25 @@
+-- What holds of a session with watchers, also while a round runs in it.
+use Rattle.std.specs.Prelude.{◌≡◌, ◌≤◌, ℕ, true, length, All}
+use Rattle.desk_model.specs.Market.{slot_at, is_watcher}
+use Rattle.watch_rounds.specs.Due.{AreAll}
+use Rattle.watch_rounds.specs.declared.due.DueWatcher.{DueWatcher}
+use Rattle.session_model.specs.Standing.{Standing, name_of, IsKnown}
+use Rattle.session_model.specs.Course.{Running}
+
+-- each command of each action is of the session's names and actions
+abbrev pub AreKnown : Standing → Type 0
+AreKnown p = All (λ commands. All (IsKnown p) commands) p.actions
+
+abbrev pub IsLive : Standing → ℕ → Type 0
+IsLive p w = is_watcher (slot_at p.state.market w) ≡ true
+
+-- a due watcher is live, and was told by its name
+abbrev pub IsDueOf : Standing → DueWatcher → Type 0
+IsDueOf p entry = IsLive p entry.watcher × (entry.name ≡ name_of p entry.watcher)
+
+-- Each name is counted, each object has room, who is due is a live watcher, and the actions are of the session's names.
+pub record Fits (P : Type 0) (r : Running P) (nodes : ℕ) : Type 0 where
+  pub counted : length r.round.tallies ≡ length r.standing.names
+  pub room : length r.standing.of_object ≤ nodes
+  pub due : AreAll (IsDueOf r.standing) r.round.due
+  pub known : AreKnown r.standing

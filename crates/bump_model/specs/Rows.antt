@@ -83,7 +83,7 @@ pub record IsTogether : Type 0 where
 
 -- A bond that is paid on day 100, 2, without an engine.
 abbrev pub without_engine : State
-without_engine = made (Flows (record { flows = Known (pos 100) (pos 7) ∷ []; index = None }) None) (quoted (Some (pos 9)) day_0)
+without_engine = made (Flows (record { flows = Known (pos 100) (pos 7) None ∷ []; index = None }) None) (quoted (Some (pos 9)) day_0)
 
 pub record IsWithout : Type 0 where
   pub base : worth plain without_engine.market 2 ≡ Err (NoEngine 2)

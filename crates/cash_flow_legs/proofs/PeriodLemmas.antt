@@ -1,5 +1,5 @@
 -- Lemmas on the periods of rising days.
-use Rattle.std.proofs.Common.{◌≡◌, ℕ, zero, suc, ◌+◌, ◌-◌, ◌<◌, ◌≤◌, arith, refl, sym, ap, subst, ◌∙◌, ℤ, pos, ◌<ℤ◌, ◌≤ℤ◌, List, [], ◌∷◌, ◌++◌, length, get_or, drop, drop_of_length-le, Option, Some, None}
+use Rattle.std.proofs.Common.{◌≡◌, ℕ, zero, suc, ◌+◌, ◌-◌, ◌<◌, ◌≤◌, arith, refl, sym, ap, subst, ◌∙◌, ℤ, pos, ◌<ℤ◌, List, [], ◌∷◌, ◌++◌, length, get_or, drop, drop_of_length-le, Option, Some, None}
 use Rattle.std.proofs.lemmas.Int.{ints}
 use Rattle.std.proofs.lemmas.List.{get_or_read_under}
 use Rattle.std.proofs.Math.Seq.{drop-cons}
@@ -15,14 +15,14 @@ use Rattle.cash_flow_legs.proofs.AppendLemmas.{behind, behind_more, behind_none,
 less_is : (a b : ℤ) → int_cmp a b ≡ Less → a <ℤ b
 less_is a b h = subst (λ (r : Ordering). MatchOrdering r (a <ℤ b) (a ≡ b) (b <ℤ a)) h (int_ranks a b)
 
--- of rising days the next is not before one
-rising_step : (from : ℤ) (days : List ℤ) (k : ℕ) (p q : ℤ) → IsStrictlySortedBy int_cmp (from ∷ days) → k < length days → p ≡ get_or (from ∷ days) k p → q ≡ get_or days k q → p ≤ℤ q
+-- of rising days the next is after one
+rising_step : (from : ℤ) (days : List ℤ) (k : ℕ) (p q : ℤ) → IsStrictlySortedBy int_cmp (from ∷ days) → k < length days → p ≡ get_or (from ∷ days) k p → q ≡ get_or days k q → p <ℤ q
 unfolding IsStrictlySortedBy
 rising_step from [] k p q sorted h ip iq = absurd (omega arith)
 rising_step from (day ∷ days) zero p q sorted h ip iq = let less = less_is from day sorted.0.0 in omega (arith, ints, ip, iq, less)
 rising_step from (day ∷ days) (suc k) p q sorted h ip iq = rising_step day days k p q sorted.1 (omega arith) ip iq
 
-pub period_order : (days : List ℤ) (at : ℕ) (p q : ℤ) → IsStrictlySortedBy int_cmp days → 1 ≤ at → at < length days → p ≡ get_or days (at - 1) p → q ≡ get_or days at q → p ≤ℤ q
+pub period_order : (days : List ℤ) (at : ℕ) (p q : ℤ) → IsStrictlySortedBy int_cmp days → 1 ≤ at → at < length days → p ≡ get_or days (at - 1) p → q ≡ get_or days at q → p <ℤ q
 period_order [] at p q sorted low h ip iq = absurd (omega arith)
 period_order (day ∷ days) zero p q sorted low h ip iq = absurd (omega arith)
 period_order (day ∷ days) (suc k) p q sorted low h ip iq =

@@ -64,7 +64,7 @@ forward_amount index today curve owner notional strike day =
 
 -- the amount of a flow on an index that is given; without one it has no rate
 abbrev pub amount_on : IndexView → ℤ → Option Curve → ℕ → FlowTerm → Result ℤ Cause
-amount_on index today curve owner (Known paid amount) = Ok amount
+amount_on index today curve owner (Known paid amount period) = Ok amount
 amount_on index today curve owner (Float paid notional spread parts fixing) =
     float_amount index today curve notional spread parts fixing
 amount_on index today curve owner (Forward paid notional strike fixing) =
@@ -73,6 +73,6 @@ amount_on index today curve owner (Forward paid notional strike fixing) =
 -- the amount of a flow of an instrument, the owner
 abbrev pub amount_of : Option IndexView → ℤ → Option Curve → ℕ → FlowTerm → Result ℤ Cause
 amount_of (Some index) today curve owner flow = amount_on index today curve owner flow
-amount_of None today curve owner (Known paid amount) = Ok amount
+amount_of None today curve owner (Known paid amount period) = Ok amount
 amount_of None today curve owner (Float paid notional spread parts fixing) = Err (NoFixing owner fixing)
 amount_of None today curve owner (Forward paid notional strike fixing) = Err (NoFixing owner fixing)

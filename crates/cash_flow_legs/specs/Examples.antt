@@ -1,6 +1,6 @@
 -- Flows that are worked out by hand: of a swap and a forward rate agreement on an index of 50 days without holidays,
 -- by Actual/360, over a curve from 2024-01-02 with the one node 0.990099009901 on 2024-04-11, and of a bond on TARGET.
-use Rattle.std.specs.Prelude.{◌≡◌, ◌^◌, ℕ, Bool, false, List, [], ◌∷◌, Some, None, Ok, Err, ℤ, pos, neg_ℤ}
+use Rattle.std.specs.Prelude.{◌≡◌, ◌^◌, ℕ, Bool, false, List, [], ◌∷◌, Option, Some, None, Ok, Err, ℤ, pos, neg_ℤ}
 use Rattle.std.specs.Borrow.{Bor}
 use Rattle.day_number.specs.declared.conventions.Convention.TheVariants.{ModifiedFollowing}
 use Rattle.day_number.specs.declared.tenors.Unit.TheVariants.{Years}
@@ -39,20 +39,24 @@ target = is_business_day (One Target)
 abbrev pub plain_index : IndexView
 plain_index = record { object = 2; terms = fifty_days; fixings = [] }
 
+-- the period from a day to a day
+abbrev pub accruing : ℕ → ℕ → Option (ℤ × ℤ)
+accruing start end = Some (pos start, pos end)
+
 -- the swap's one period
 abbrev pub fifty_day_period : List ℤ
 fifty_day_period = pos 19_774 ∷ pos 19_824 ∷ []
 
 -- the swap pays 3 %, so that leg's notional is below zero
 abbrev pub paid_leg : List FlowTerm
-paid_leg = Known (pos 19_824) (neg_ℤ (pos 4_166_666_667)) ∷ []
+paid_leg = Known (pos 19_824) (neg_ℤ (pos 4_166_666_667)) (accruing 19_774 19_824) ∷ []
 
 abbrev pub received_leg : List FlowTerm
 received_leg = Float (pos 19_824) million (pos 0) (pos 222_650) (pos 19_774) ∷ []
 
 abbrev pub swap_flows : List FlowTerm
 swap_flows =
-    Known (pos 19_824) (neg_ℤ (pos 4_166_666_667)) ∷ Float (pos 19_824) million (pos 0) (pos 222_650) (pos 19_774) ∷ []
+    Known (pos 19_824) (neg_ℤ (pos 4_166_666_667)) (accruing 19_774 19_824) ∷ Float (pos 19_824) million (pos 0) (pos 222_650) (pos 19_774) ∷ []
 
 -- the plan of the bond: 2024-01-04 to 2026-01-04 every year
 abbrev pub bond_plan : Bor Calendar → Plan
@@ -113,16 +117,18 @@ pub record AreWorked : Type 0 where
   pub coupons : each_period
       (fixed_flow target million (pos 40_000_000) Thirty360)
       (pos 19_726 ∷ pos 20_094 ∷ pos 20_458 ∷ [])
-      ≡ Some (Known (pos 20_094) (pos 40_222_222_222) ∷ Known (pos 20_458) (pos 39_888_888_889) ∷ [])
-  pub redeemed : redemption_flow target (pos 20_457) million ≡ Some (Known (pos 20_458) million)
-  pub redeemed_late : redemption_flow target (pos 19_812) million ≡ Some (Known (pos 19_815) million)
+      ≡ Some (Known (pos 20_094) (pos 40_222_222_222) (accruing 19_726 20_094)
+      ∷ Known (pos 20_458) (pos 39_888_888_889) (accruing 20_094 20_458) ∷ [])
+  pub redeemed : redemption_flow target (pos 20_457) million ≡ Some (Known (pos 20_458) million None)
+  pub redeemed_late : redemption_flow target (pos 19_812) million ≡ Some (Known (pos 19_815) million None)
   pub fixed_before : fixing_day (target_index 0) (pos 19_811) ≡ Some (pos 19_810)
   pub fixed_two_before : fixing_day (target_index 2) (pos 19_816) ≡ Some (pos 19_810)
   pub fixing_first : amount_of (Some plain_index) (pos 84_005) None 7 too_late ≡ Err (NoFixing 2 (pos 84_004))
   pub then_period : amount_of (Some stored_late) (pos 84_005) None 7 too_late ≡ Err (DateRange 2)
   pub no_divisor : settlement 7 million (pos 0) (pos 222_650) (neg_ℤ (pos 10_000_000_000)) ≡ Err (TooLarge 7)
   pub paid_after_a_holiday : each_period (fixed_flow target million (pos 40_000_000) Act360) month_ends
-      ≡ Some (Known (pos 19_815) (pos 3_444_444_444) ∷ Known (pos 19_843) (pos 3_333_333_333) ∷ [])
+      ≡ Some (Known (pos 19_815) (pos 3_444_444_444) (accruing 19_782 19_813)
+      ∷ Known (pos 19_843) (pos 3_333_333_333) (accruing 19_813 19_843) ∷ [])
   pub floating_after_a_holiday : each_period (float_flow target million (pos 10_000_000) Act360 (target_index 2)) month_ends
       ≡ Some (Float (pos 19_815) million (pos 10_000_000) (pos 138_043) (pos 19_780)
       ∷ Float (pos 19_843) million (pos 10_000_000) (pos 133_590) (pos 19_809) ∷ [])

@@ -32,10 +32,10 @@ abbrev pub each_period : (ℤ → ℤ → Option FlowTerm) → List ℤ → Opti
 each_period flow [] = Some []
 each_period flow (day ∷ days) = periods_from flow day days
 
--- known interest, where it has a day
-abbrev pub known_on : Option ℤ → ℤ → Option FlowTerm
-known_on None amount = None
-known_on (Some paid) amount = Some (Known paid amount)
+-- a known amount, where it has a day
+abbrev pub known_on : Option ℤ → ℤ → Option (ℤ × ℤ) → Option FlowTerm
+known_on None amount period = None
+known_on (Some paid) amount period = Some (Known paid amount period)
 
 -- interest at an index's rate, where it is paid and fixed on days
 abbrev pub float_on : Option ℤ → Option ℤ → ℤ → ℤ → ℤ → Option FlowTerm
@@ -43,10 +43,11 @@ float_on None fixing notional spread parts = None
 float_on (Some paid) None notional spread parts = None
 float_on (Some paid) (Some fixing) notional spread parts = Some (Float paid notional spread parts fixing)
 
--- the interest at a rate for a period, paid at its end adjusted (QuantLib's FixedRateCoupon)
+-- the interest at a rate for a period, which it keeps, paid at its end adjusted (QuantLib's FixedRateCoupon)
 abbrev pub fixed_flow : (ℤ → Bool) → ℤ → ℤ → Counter → ℤ → ℤ → Option FlowTerm
 fixed_flow business notional rate counter from to =
     known_on (adjusted business Following to) (interest notional rate (pos (frac counter from to)))
+    (Some (from, to))
 
 -- the interest at an index's rate and a spread for a period, paid at its end adjusted and fixed before its start
 -- (QuantLib's IborCoupon)

@@ -9,9 +9,9 @@ use Rattle.flow_terms.specs.declared.flows.FlowTerm.TheVariants.{Forward}
 use Rattle.cash_flow_legs.specs.Days.{fixing_day}
 use Rattle.cash_flow_legs.specs.Legs.{known_on}
 
--- the notional, paid on the end adjusted (QuantLib's Redemption)
+-- the notional, paid on the end adjusted, for no period (QuantLib's Redemption)
 abbrev pub redemption_flow : (ℤ → Bool) → ℤ → ℤ → Option FlowTerm
-redemption_flow business end notional = known_on (adjusted business Following end) notional
+redemption_flow business end notional = known_on (adjusted business Following end) notional None
 
 -- a settlement on a day, where its rate is fixed on a day
 abbrev pub settled_on : ℤ → Option ℤ → ℤ → ℤ → Option FlowTerm

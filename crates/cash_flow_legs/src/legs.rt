@@ -17,8 +17,8 @@ use year_parts::Counter;
 
 /// Appends interest at a rate on a notional, at most 10^18 units either way, for each period of a schedule (QuantLib's
 /// `FixedRateLeg`). It is paid on the calendar's next business day at or after the period's end, and its parts run
-/// from one day of the schedule to the next. `DateRange` where a payment has no day, whatever the memory; a fault leaves the list
-/// as it was.
+/// from one day of the schedule to the next, which it keeps as its period. `DateRange` where a payment has no day,
+/// whatever the memory; a fault leaves the list as it was.
 pub fn fixed_leg(
     schedule: &Schedule,
     cal: &Calendar,

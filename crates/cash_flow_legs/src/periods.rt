@@ -1,5 +1,5 @@
 // A flow for each period of a schedule.
-ghost use Rattle.std.specs.Prelude.{◌≡◌, ◌≤◌, ◌≤ℤ◌, length, is_some, IfSome, IfNone, Err};
+ghost use Rattle.std.specs.Prelude.{◌≡◌, ◌≤◌, ◌<ℤ◌, length, is_some, IfSome, IfNone, Err};
 ghost use Rattle.std.specs.List.{All};
 ghost use Rattle.std.specs.List.Sorted.{IsStrictlySortedBy};
 ghost use Rattle.std.specs.Ordering.{int_cmp};
@@ -98,7 +98,7 @@ fn push_flows(leg: &Leg<'_>, days: &[Day], out: &mut FlowTermList) -> Result<(),
 // The flow of a period, where there are days for it.
 fn period_flow(leg: &Leg<'_>, from: Day, to: Day) -> Option<FlowTerm>
     requires leg { IsLeg leg.now }
-    requires order { from ≤ℤ to }
+    requires order { from <ℤ to }
     ensures flow { result ≡ flow_of leg.now from to }
     ensures range { IfSome result IsFlow }
 {
@@ -108,6 +108,7 @@ fn period_flow(leg: &Leg<'_>, from: Day, to: Day) -> Option<FlowTerm>
         Coupon::Fixed(rate) => Some(FlowTerm::Known {
             paid,
             amount: interest(leg.notional, rate, parts),
+            period: Some((from, to)),
         }),
         Coupon::Float(spread, index) => Some(FlowTerm::Float {
             paid,

@@ -29,7 +29,11 @@ pub fn redemption(
     ensures day { IfNone (single.redemption_flow (is_business_day cal.now) end notional) (result ≡ Err DateRange) }
     ensures range { AddsInRange out.old out.new }
 {
-    append_one(redemption_flow(cal, end, notional), out)
+    let Some(flow) = redemption_flow(cal, end, notional) else {
+        return Err(LegFault::DateRange);
+    };
+    out.push(flow)?;
+    Ok(())
 }
 
 // The flow of a redemption, where there is a day for it.
@@ -42,6 +46,7 @@ fn redemption_flow(cal: &Calendar, end: Day, notional: Amount) -> Option<FlowTer
     Some(FlowTerm::Known {
         paid,
         amount: notional,
+        period: None,
     })
 }
 
@@ -63,7 +68,11 @@ pub fn forward_flow(
     ensures day { IfNone (single.settlement_flow index.now start notional strike) (result ≡ Err DateRange) }
     ensures range { AddsInRange out.old out.new }
 {
-    append_one(settlement_flow(index, start, notional, strike), out)
+    let Some(flow) = settlement_flow(index, start, notional, strike) else {
+        return Err(LegFault::DateRange);
+    };
+    out.push(flow)?;
+    Ok(())
 }
 
 // The flow of a settlement, where there are days for it.
@@ -86,18 +95,4 @@ fn settlement_flow(
         strike,
         fixing,
     })
-}
-
-// Appends a flow for which there are days, or leaves the list as it was.
-fn append_one(flow: Option<FlowTerm>, out: &mut FlowTermList) -> Result<(), LegFault>
-    requires { IfSome flow IsFlow }
-    ensures flows { Appends (one_flow flow) out.old out.new result }
-    ensures day { IfNone flow (result ≡ Err DateRange) }
-    ensures range { AddsInRange out.old out.new }
-{
-    let Some(flow) = flow else {
-        return Err(LegFault::DateRange);
-    };
-    out.push(flow)?;
-    Ok(())
 }

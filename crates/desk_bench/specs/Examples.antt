@@ -21,7 +21,7 @@ stock_at rate = price_at 2 (Stock 1) None (input.TheVariants.Rate rate ∷ [])
 -- object 9: 100 on 2024-04-11
 abbrev pub hundred : Terms
 hundred =
-    Flows (record { flows = Known (pos 19824) (pos 100000000) ∷ []; index = None }) (Some 3)
+    Flows (record { flows = Known (pos 19824) (pos 100000000) None ∷ []; index = None }) (Some 3)
 
 -- the curve of object 7 from 2024-01-02, with the one node 0.990099009901 on 2024-04-11; and object 8, which sees it from
 -- a day

@@ -160,7 +160,7 @@ curve_of helpers = record { cal = One Null; settlement = 0; helpers = helpers }
 -- A quote, 1, a curve with two helpers on it, 2, an engine on the curve, 3, and a bond that is paid on day 100, 4.
 abbrev pub bond : State
 bond =
-    made (Flows (record { flows = Known (pos 100) (pos 7) ∷ []; index = None }) (Some 3))
+    made (Flows (record { flows = Known (pos 100) (pos 7) None ∷ []; index = None }) (Some 3))
     (made (Engine 2) (made (Curve (curve_of (deposit ∷ deposit ∷ []))) (quote (pos 9) day_0)))
 
 abbrev pub without_engine : State

@@ -13,7 +13,7 @@ use Rattle.flow_terms.specs.declared.flows.FlowTerm.{FlowTerm}
 use Rattle.flow_terms.specs.declared.flows.FlowTerm.TheVariants.{Known, Float, Forward}
 use Rattle.flow_terms.specs.Fixings.{Stored}
 use Rattle.rate_indexes.specs.Examples.{fifty_days, one_node}
-use Rattle.cash_flow_legs.specs.Examples.{million, swap_flows}
+use Rattle.cash_flow_legs.specs.Examples.{million, accruing, swap_flows}
 use Rattle.discount_engines.specs.Price.{instrument_price}
 
 -- the price of the object 7 of these terms and inputs
@@ -57,7 +57,7 @@ one_node_at reference day factor =
 
 -- the bond's notional of 100 is paid on 2024-04-11
 abbrev pub hundred : List FlowTerm
-hundred = Known (pos 19_824) (pos 100_000_000) ∷ []
+hundred = Known (pos 19_824) (pos 100_000_000) None ∷ []
 
 abbrev pub agreement : List FlowTerm
 agreement = Forward (pos 19_774) million (pos 30_000_000) (pos 19_774) ∷ []
@@ -65,7 +65,8 @@ agreement = Forward (pos 19_774) million (pos 30_000_000) (pos 19_774) ∷ []
 -- two years of 4 % on 1,000,000, and the redemption
 abbrev pub par_bond : List FlowTerm
 par_bond =
-    Known (pos 20_094) (pos 40_222_222_222) ∷ Known (pos 20_458) (pos 39_888_888_889) ∷ Known (pos 20_458) million ∷ []
+    Known (pos 20_094) (pos 40_222_222_222) (accruing 19_726 20_094)
+    ∷ Known (pos 20_458) (pos 39_888_888_889) (accruing 20_094 20_458) ∷ Known (pos 20_458) million None ∷ []
 
 -- the curve at which that bond is worth its notional
 abbrev pub par_curve : CurveView
@@ -78,15 +79,15 @@ par_curve = record {
 
 -- one unit on 2024-04-11
 abbrev pub unit : FlowTerm
-unit = Known (pos 19_824) (pos 1)
+unit = Known (pos 19_824) (pos 1) None
 
 -- the greatest amount, on 2024-04-11
 abbrev pub greatest : FlowTerm
-greatest = Known (pos 19_824) (pos (10 ^ 22))
+greatest = Known (pos 19_824) (pos (10 ^ 22)) None
 
 -- one unit on the day after 2024-04-11, and interest at a rate of 2024-01-01
 abbrev pub late : FlowTerm
-late = Known (pos 19_825) (pos 1)
+late = Known (pos 19_825) (pos 1) None
 
 abbrev pub unfixed : ℤ → FlowTerm
 unfixed paid = Float paid million (pos 0) (pos 222_650) (pos 19_723)
@@ -98,7 +99,8 @@ spread_flow spread = Float (pos 19_824) million spread (pos 222_650) (pos 19_774
 -- a bond of 4 % to 2024-04-30 whose first period ends on a Sunday, 2024-03-31, behind which Easter Monday follows
 abbrev pub month_end_bond : List FlowTerm
 month_end_bond =
-    Known (pos 19_815) (pos 3_444_444_444) ∷ Known (pos 19_843) (pos 3_333_333_333) ∷ Known (pos 19_843) million ∷ []
+    Known (pos 19_815) (pos 3_444_444_444) (accruing 19_782 19_813)
+    ∷ Known (pos 19_843) (pos 3_333_333_333) (accruing 19_813 19_843) ∷ Known (pos 19_843) million None ∷ []
 
 -- the days are 2024-01-02 (19,724), 2024-02-21 (19,774), 2024-02-29 (19,782), 2024-03-01 (19,783), 2024-04-02 (19,815),
 -- 2024-04-11 (19,824), 2024-04-30 (19,843), 2024-06-09 (19,883) and 2024-06-26 (19,900)
@@ -128,6 +130,6 @@ pub record AreWorked : Type 0 where
   pub spread_added : indexed_at (spread_flow (pos 10_000_000)) (pos 19_724) [] (over_both one_node) ≡ Ok (Money (pos 6_325_632_563))
   pub spread_taken : indexed_at (spread_flow (neg_ℤ (pos 10_000_000))) (pos 19_724) [] (over_both one_node) ≡ Ok (Money (pos 3_575_357_536))
   pub spread_over_a_stored_rate : indexed_at (spread_flow (pos 10_000_000)) (pos 19_783) ((pos 19_774, pos 50_000_000) ∷ []) (over (one_node_at (pos 19_783) (pos 19_883) (pos 990_099_009_901))) ≡ Ok (Money (pos 8_299_504_950))
-  pub paid_after_a_holiday : known_at (Known (pos 19_815) (pos 3_444_444_444) ∷ []) (pos 19_782) (over (one_node_at (pos 19_782) (pos 19_900) (pos 980_000_000_000))) ≡ Ok (Money (pos 3_425_178_907))
+  pub paid_after_a_holiday : known_at (Known (pos 19_815) (pos 3_444_444_444) (accruing 19_782 19_813) ∷ []) (pos 19_782) (over (one_node_at (pos 19_782) (pos 19_900) (pos 980_000_000_000))) ≡ Ok (Money (pos 3_425_178_907))
   pub month_ends : known_at month_end_bond (pos 19_782) (over (one_node_at (pos 19_782) (pos 19_900) (pos 980_000_000_000))) ≡ Ok (Money (pos 996_385_065_912))
   pub repaid_before_the_curve : known_at hundred (pos 19_823) (over (one_node_at (pos 19_825) (pos 19_925) (pos 990_099_009_901))) ≡ Ok (Money (pos 0))

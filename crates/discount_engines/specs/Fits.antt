@@ -158,10 +158,10 @@ IndexOwned P (Some index) = Owned P index.object
 -- an amount's causes name the instrument, its index or the owner of the curve that this is forecast from
 amount_named : (P : Cause → Type 0) (o : ℕ) (index : Option IndexView) (today : ℤ) (curve : Option CurveView) → Owned P o → IndexOwned P index → OwnedBy P curve
     → (flow : FlowTerm) → IfErr (amount_of index today curve o flow) P
-amount_named P o None today curve own named owner (Known paid amount) = tt
+amount_named P o None today curve own named owner (Known paid amount period) = tt
 amount_named P o None today curve own named owner (Float paid notional spread parts fixing) = own _ refl
 amount_named P o None today curve own named owner (Forward paid notional strike fixing) = own _ refl
-amount_named P o (Some index) today curve own named owner (Known paid amount) = tt
+amount_named P o (Some index) today curve own named owner (Known paid amount period) = tt
 amount_named P o (Some index) today curve own named owner (Float paid notional spread parts fixing) =
     on_both P (λ rate. Ok (interest notional (rate +ℤ spread) parts)) (rate_on index today curve fixing) (rate_named P index today curve fixing named owner) (λ rate. tt)
 amount_named P o (Some index) today curve own named owner (Forward paid notional strike fixing) =

@@ -7,13 +7,13 @@ use Rattle.flow_terms.specs.Fixings.{Stored, fixing_on}
 
 -- the day on which a flow is paid
 abbrev pub paid_on : FlowTerm → ℤ
-paid_on (Known paid amount) = paid
+paid_on (Known paid amount period) = paid
 paid_on (Float paid notional spread parts fixing) = paid
 paid_on (Forward paid notional strike fixing) = paid
 
 -- the day on which the rate of its index is taken; none where it is on no index
 abbrev pub fixed_on : FlowTerm → Option ℤ
-fixed_on (Known paid amount) = None
+fixed_on (Known paid amount period) = None
 fixed_on (Float paid notional spread parts fixing) = Some fixing
 fixed_on (Forward paid notional strike fixing) = Some fixing
 

@@ -1,5 +1,5 @@
 -- The limits of the terms of indexes and flows (this project's limits).
-use Rattle.std.specs.Prelude.{◌≡◌, ◌≤◌, ℕ, List, length, Option, Some, None, ℤ, pos}
+use Rattle.std.specs.Prelude.{◌≡◌, ◌≤◌, ◌<ℤ◌, ℕ, List, length, Option, Some, None, ℤ, pos}
 use Rattle.std.specs.Int.{IsInRange}
 use Rattle.std.specs.List.{All}
 use Rattle.jiff_core.specs.Calendar.{IsBetween, IsWithin}
@@ -21,9 +21,14 @@ pub record IsIndexInRange (terms : IndexTerms) : Type 0 where
 abbrev pub IsNotional : ℤ → Type 0
 IsNotional notional = IsWithin MOST_NOTIONAL notional
 
--- a flow whose amount or notional, rate and parts are within their limits
+-- a period that starts before it ends, where there is one
+abbrev pub IsInOrder : Option (ℤ × ℤ) → Type 0
+IsInOrder None = Unit {0}
+IsInOrder (Some (start, end)) = start <ℤ end
+
+-- a flow whose amount or notional, rate and parts are within their limits, and whose period starts before it ends
 abbrev pub IsFlow : FlowTerm → Type 0
-IsFlow (Known paid amount) = IsWithin MOST_AMOUNT amount
+IsFlow (Known paid amount period) = IsWithin MOST_AMOUNT amount × IsInOrder period
 IsFlow (Float paid notional spread parts fixing) =
     IsNotional notional × IsRate spread × IsBetween (pos 0) MOST_PARTS parts
 IsFlow (Forward paid notional strike fixing) = IsNotional notional × IsRate strike

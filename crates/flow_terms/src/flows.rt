@@ -9,13 +9,19 @@ use fixed_amount::{Amount, Rate};
 use item_lists::Items;
 use year_parts::YearParts;
 
+/// The day from which the interest of a coupon accrues, and the later one up to which it does (QuantLib's
+/// `accrualStartDate` and `accrualEndDate`).
+pub type Period = (Day, Day);
+
 /// One flow, paid on a day (QuantLib's `CashFlow`).
 #[derive(Clone, Copy, Debug, PartialEq, Eq)]
 pub enum FlowTerm {
-    /// An amount that is known (QuantLib's `FixedRateCoupon`, `Redemption`).
+    /// An amount that is known: a coupon at a rate, with the period that it accrues over, or a redemption, without one
+    /// (QuantLib's `FixedRateCoupon`, `Redemption`). No price reads the period.
     Known {
         paid: Day,
         amount: Amount,
+        period: Option<Period>,
     },
     /// Interest on a notional at an index's rate and a spread, for a part of a year (QuantLib's `IborCoupon`).
     Float {

@@ -4,13 +4,13 @@ ghost use Rattle.std.specs.List.{All};
 ghost use Rattle.jiff_core.specs.Calendar.{IsBetween, IsWithin};
 ghost use Rattle.day_number.specs.Tenor.{IsTenor, unit_limit};
 ghost use Rattle.flow_terms.specs.Fixings.{IsRate};
-ghost use Rattle.flow_terms.specs.Ranges.{IsIndexInRange, IsNotional, IsFlow, IsIndexNamed, AreFlowsInRange};
+ghost use Rattle.flow_terms.specs.Ranges.{IsIndexInRange, IsNotional, IsInOrder, IsFlow, IsIndexNamed, AreFlowsInRange};
 ghost use Rattle.flow_terms.specs.declared.limits.TheConstants.{MOST_AMOUNT, MOST_PARTS};
 
 use crate::limits::{
     MOST_AMOUNT, MOST_FIXING_DAYS, MOST_FLOWS, MOST_NOTIONAL, MOST_PARTS, MOST_RATE,
 };
-use crate::{FlowTerm, FlowTerms, IndexTerms};
+use crate::{FlowTerm, FlowTerms, IndexTerms, Period};
 use day_number::{Tenor, Unit};
 use desk_names::ObjId;
 use fixed_amount::{Amount, Rate};
@@ -40,12 +40,14 @@ impl FlowTerms {
 
 impl FlowTerm {
     /// Whether the amount or the notional, the rate and the parts are within their limits: a known amount within 10^22
-    /// units either way, a notional within 10^18, a spread or strike within 10, at most 440 years.
+    /// units either way, a notional within 10^18, a spread or strike within 10, at most 440 years; and whether its
+    /// period, where it has one, starts before it ends.
     pub fn is_in_range(&self) -> bool
         ensures { IsTrue result ↔ IsFlow self.now }
     {
         match self {
-            FlowTerm::Known { amount, .. } => is_known_amount(*amount),
+            FlowTerm::Known { amount, period, .. } => is_known_amount(*amount)
+                && is_in_order(*period),
             FlowTerm::Float {
                 notional,
                 spread,
@@ -83,6 +85,16 @@ fn is_known_amount(amount: Amount) -> bool
     ensures { IsTrue result ↔ IsWithin MOST_AMOUNT amount }
 {
     amount.units().unsigned_abs() <= MOST_AMOUNT
+}
+
+// Whether a period, where there is one, starts before it ends.
+fn is_in_order(period: Option<Period>) -> bool
+    ensures { IsTrue result ↔ IsInOrder period }
+{
+    match period {
+        None => true,
+        Some((start, end)) => start < end,
+    }
 }
 
 // Whether a notional is within its limit.

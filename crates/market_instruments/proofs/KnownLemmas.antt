@@ -31,16 +31,16 @@ module _ (flow : ℤ → ℤ → Option FlowTerm) (known : (from to : ℤ) → I
   each_known [] = All-nil IsKnown
   each_known (day ∷ days) = periods_known day days
 
-known_there : (paid : Option ℤ) (amount : ℤ) → IfSome (known_on paid amount) IsKnown
-known_there None amount = tt
-known_there (Some paid) amount = refl
+known_there : (paid : Option ℤ) (amount : ℤ) (period : Option (ℤ × ℤ)) → IfSome (known_on paid amount period) IsKnown
+known_there None amount period = tt
+known_there (Some paid) amount period = refl
 
 pub fixed_known : (business : ℤ → Bool) (notional rate : ℤ) (counter : Counter) (from to : ℤ) → IfSome (fixed_flow business notional rate counter from to) IsKnown
-fixed_known business notional rate counter from to = known_there _ _
+fixed_known business notional rate counter from to = known_there _ _ _
 
 one_known : (flow : Option FlowTerm) → IfSome flow IsKnown → IfSome (one_flow flow) AreKnown
 one_known None h = tt
 one_known (Some flow) h = All-cons IsKnown flow [] h (All-nil IsKnown)
 
 pub redemption_known : (business : ℤ → Bool) (end notional : ℤ) → IfSome (one_flow (redemption_flow business end notional)) AreKnown
-redemption_known business end notional = one_known _ (known_there _ _)
+redemption_known business end notional = one_known _ (known_there _ _ _)

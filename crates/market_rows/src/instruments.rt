@@ -119,7 +119,7 @@ fn push_optional(
 fn push_flow(alloc: Global, flow: &FlowTerm, out: &mut Vec<u8>) -> Result<(), AllocError> {
     out.extend_from_slice(b" [")?;
     match flow {
-        FlowTerm::Known { paid, amount } => {
+        FlowTerm::Known { paid, amount, .. } => {
             out.extend_from_slice(b"known")?;
             push_day(alloc, *paid, out)?;
             push_amount(alloc, *amount, out)?;

@@ -262,7 +262,7 @@ some_market = start_with (pos 0)
       }) [],
     )
     ∷ (4, terms.Engine 2)
-    ∷ (5, terms.Flows (record { flows = Known (pos 100) (pos 100_000_000) ∷ []; index = None }) (Some 4))
+    ∷ (5, terms.Flows (record { flows = Known (pos 100) (pos 100_000_000) None ∷ []; index = None }) (Some 4))
     ∷ (6, terms.Handle handle.TheVariants.Curve None)
     ∷ (7, terms.Implied 6 (pos 10))
     ∷ []) []

@@ -7,7 +7,7 @@ use Rattle.watch_rounds.specs.Round.{Round, runs_left, tally_at, watcher_at}
 use Rattle.watch_rounds.proofs.Places.{all_at}
 use Rattle.watch_rounds.proofs.Tallies.{left_noticed, left_ran, most_left}
 use Rattle.session_model.specs.Standing.{name_of}
-use Rattle.session_model.specs.Turn.{Turn, acted}
+use Rattle.session_model.specs.Turn.{Turn, turn}
 use Rattle.session_model.specs.Course.{Running, Meaning, Course, quiet, before, and_then, taken, notice, noticed, heard, all_handed_out, done, all_done, chosen, begun, action_of, run, unless_none, runs_by}
 use Rattle.session_model.specs.Ends.{IsPicking, HaveRunsLeft, KeepRunsLeft}
 
@@ -27,7 +27,7 @@ heard_left r = noticed_left r.standing.state.noticed (record r { standing = all_
 pub done_left : {P : Type 0} → (m : Meaning P) (r : Running P) (c : Command) → runs_left (done m r c).next.round ≡ runs_left r.round
 unfolding done and_then
 done_left m r c =
-    heard_left (taken (acted m.calc r.standing c) r).next ∙ taken_left (acted m.calc r.standing c) r
+    heard_left (taken (turn m.calc r.standing c) r).next ∙ taken_left (turn m.calc r.standing c) r
 
 -- no command takes a run away, or gives one
 pub all_done_left : {P : Type 0} → (m : Meaning P) (commands : List Command) (r : Running P)

@@ -1,3 +1,5 @@
+pub mod Answered
 pub mod Afresh
+pub mod Moments
 pub mod Rooms
 pub mod Ends

@@ -11,7 +11,7 @@ use Rattle.watch_rounds.specs.declared.notice.Notice.{Notice}
 use Rattle.watch_rounds.specs.declared.notice.Notice.TheVariants as notices
 use Rattle.watch_rounds.specs.Round.{Round, no_round, notice_of, tally_at, with_notice, watcher_at, with_run}
 use Rattle.session_model.specs.Standing.{Standing, name_of}
-use Rattle.session_model.specs.Turn.{TurnOf, Turn, acted}
+use Rattle.session_model.specs.Turn.{TurnOf, Turn, turn}
 
 -- a session, the round that runs in it, and what picks the watchers to run
 pub record Running (P : Type 0) : Type 0 where
@@ -78,7 +78,7 @@ heard r = noticed r.standing.state.noticed (record r { standing = all_handed_out
 
 -- A COMMAND, at the top or in an action: its turn, then its notices
 unfoldable pub done : {P : Type 0} → Meaning P → Running P → Command → Course P
-done m r c = and_then (taken (acted m.calc r.standing c) r) heard
+done m r c = and_then (taken (turn m.calc r.standing c) r) heard
 
 unfoldable pub all_done : {P : Type 0} → Meaning P → List Command → Running P → Course P
 all_done m [] r = quiet r
@@ -125,11 +125,6 @@ opened r = record r { standing = all_handed_out r.standing; round = no_round (le
 -- THE ROUND of a command: its turn with its notices, and the runs of the watchers that are due
 unfoldable pub round_of : {P : Type 0} → Meaning P → Running P → Command → Course P
 round_of m r command = and_then (done m (opened r) command) (runs_by m (most_runs r))
-
--- the rounds of commands, one after another
-unfoldable pub all_rounds : {P : Type 0} → Meaning P → List Command → Running P → Course P
-all_rounds m [] r = quiet r
-all_rounds m (command ∷ commands) r = and_then (round_of m r command) (all_rounds m commands)
 
 -- a session with watchers begins
 abbrev pub running : {P : Type 0} → P → Standing → Running P

@@ -7,6 +7,7 @@ pub mod Resolve
 pub mod Turn
 pub mod Course
 pub mod Ends
+pub mod Moments
 pub mod RoomRows
 pub mod Rounds
 pub mod Rows

@@ -1,7 +1,7 @@
 -- What a command is once its names are looked up, or why it is refused (this project's profile). The first reason in
--- this order: it is not built; its new name is taken; another name, in the order in which they are written, is unknown
--- or of another kind; it closes a cycle, the object is in use, a rate is stored already, or the object is late; there
--- is no room.
+-- this order: its new name is taken; another name, in the order in which they are written, is unknown or of another
+-- kind; it closes a cycle, the object is in use, a rate is stored already, the watcher is registered already or is not,
+-- or the object is late; there is no room.
 use Rattle.std.specs.Prelude.{ℕ, Bool, true, false, not, ◌&&◌, ◌||◌, ◌==◌, if◌then◌else◌, [], Option, Some, None, is_some, Result, Ok, Err, ℤ, pos}
 use Rattle.std.specs.Ordering.{int_eq}
 use Rattle.desk_terms.specs.declared.terms.Terms.{Terms}
@@ -17,7 +17,7 @@ use Rattle.desk_model.specs.Told.{is_registered}
 use Rattle.session_commands.specs.declared.command.Command.{Command}
 use Rattle.session_commands.specs.declared.command.Command.TheVariants as command
 use Rattle.session_commands.specs.declared.refusal.Refusal.{Refusal}
-use Rattle.session_commands.specs.declared.refusal.Refusal.TheVariants.{Unknown, Taken, Kind, Cycle, InUse, FixingExists, TooMany, AlreadyRegistered, NotRegistered, Deferred, Unbuilt}
+use Rattle.session_commands.specs.declared.refusal.Refusal.TheVariants.{Unknown, Taken, Kind, Cycle, InUse, FixingExists, TooMany, AlreadyRegistered, NotRegistered, Deferred}
 use Rattle.session_model.specs.declared.act.Act.{Act}
 use Rattle.session_model.specs.declared.act.Act.TheVariants as act
 use Rattle.session_model.specs.declared.act.Change.TheVariants as change
@@ -114,6 +114,14 @@ combining p name minus a b =
     with_found (find quote_input p a)
     (λ x. with_found (find quote_input p b) (λ y. making p name (terms.Derived minus x y)))
 
+-- a new watcher needs room
+abbrev pub watching : Standing → ℕ → ℕ → Result Act Refusal
+watching p name action = unless (is_full p.state.market) TooMany (act.Watch name action)
+
+-- a watcher and an object that it may watch
+abbrev pub pairing : Standing → ℕ → ℕ → (ℕ → ℕ → Result Act Refusal) → Result Act Refusal
+pairing p w o rest = with_found (find place.Watcher p w) (λ x. with_found (find place.Observable p o) (λ y. rest x y))
+
 unfoldable pub resolve : Standing → Command → Result Act Refusal
 resolve p (command.Quote name value) = unless_taken p name (making p name (terms.Quote value))
 resolve p (command.Sum name a b) = unless_taken p name (combining p name false a b)
@@ -143,27 +151,12 @@ resolve p (command.Recalc o) =
 resolve p (command.Forward o is_on) = with_found (find place.Priced p o) (λ x. Ok (act.Quiet (change.Forward x is_on)))
 resolve p command.Defer = Ok (act.Quiet change.Defer)
 resolve p command.Resume = Ok (act.Quiet change.Resume)
-resolve p (command.Watch w action) = Err Unbuilt
-resolve p (command.Register w o) = Err Unbuilt
-resolve p (command.Unregister w o) = Err Unbuilt
+resolve p (command.Watch w action) = unless_taken p w (watching p w action)
+resolve p (command.Register w o) =
+    pairing p w o (λ x y. unless (is_registered p.state x y) AlreadyRegistered (act.Grow (growth.Register x y)))
+resolve p (command.Unregister w o) =
+    pairing p w o (λ x y. unless (not (is_registered p.state x y)) NotRegistered (act.Quiet (change.Unregister x y)))
 resolve p (command.Drop o) =
     with_found (find place.Droppable p o) (λ x. unless_used (least_user p.state.market x) (act.Quiet (change.Drop x)))
 resolve p (command.Ask o) = with_found (find place.Priced p o) (λ x. Ok (act.Price o x how.Ask))
 resolve p (command.Df c day) = with_found (find curve p c) (λ x. Ok (act.Price c x (how.Df day)))
-
--- a new watcher needs room
-abbrev pub watching : Standing → ℕ → ℕ → Result Act Refusal
-watching p name action = unless (is_full p.state.market) TooMany (act.Watch name action)
-
--- a watcher and an object that it may watch
-abbrev pub pairing : Standing → ℕ → ℕ → (ℕ → ℕ → Result Act Refusal) → Result Act Refusal
-pairing p w o rest = with_found (find place.Watcher p w) (λ x. with_found (find place.Observable p o) (λ y. rest x y))
-
--- the same with the commands of watchers
-unfoldable pub resolve_all : Standing → Command → Result Act Refusal
-resolve_all p (command.Watch w action) = unless_taken p w (watching p w action)
-resolve_all p (command.Register w o) =
-    pairing p w o (λ x y. unless (is_registered p.state x y) AlreadyRegistered (act.Grow (growth.Register x y)))
-resolve_all p (command.Unregister w o) =
-    pairing p w o (λ x y. unless (not (is_registered p.state x y)) NotRegistered (act.Quiet (change.Unregister x y)))
-resolve_all p c = resolve p c

@@ -9,28 +9,29 @@ use Rattle.desk_model.specs.State.{kept_at}
 use Rattle.desk_model.specs.Effect.{start, dropped}
 use Rattle.session_commands.specs.declared.command.Command.{Command}
 use Rattle.session_commands.specs.declared.command.Command.TheVariants.{Set, Unset, Link, Forward, Ask, Df}
+use Rattle.watch_rounds.specs.declared.picker.Order.{Order}
+use Rattle.watch_rounds.specs.declared.picker.Order.TheVariants.{First}
 use Rattle.session_model.specs.Standing.{Standing, start_with, is_full}
-use Rattle.session_model.specs.Turn.{turn}
-use Rattle.session_model.specs.Rounds.{calls_of}
-use Rattle.session_model.specs.Rows.{by_hand, some_session, some_market, with_stock, written, units}
+use Rattle.session_model.specs.Course.{Running, running, round_of}
+use Rattle.session_model.specs.Rows.{orders_by_hand, some_session, some_market, with_stock, called, written, units}
 
 -- A discount factor computes its curve where that is not current, and then the one above it; a day beyond the curve and a
 -- quote without a value compute nothing.
 pub record AreComputed : Type 0 where
-  pub factors : calls_of by_hand some_market
+  pub factors : called some_market
       (Df 2 (pos 50) ∷ Df 2 (pos 50) ∷ Df 2 (pos 101) ∷ Set 1 (pos 40_000_000) ∷ Df 2 (pos 100) ∷ Unset 1
       ∷ Df 2 (pos 50) ∷ []) ≡ (2, true) ∷ (2, true) ∷ []
-  pub implied : calls_of by_hand some_market (Link 6 2 ∷ Df 7 (pos 50) ∷ Df 7 (pos 60) ∷ Df 2 (pos 50) ∷ [])
+  pub implied : called some_market (Link 6 2 ∷ Df 7 (pos 50) ∷ Df 7 (pos 60) ∷ Df 2 (pos 50) ∷ [])
       ≡ (2, true) ∷ (7, true) ∷ []
 
 -- the session that commands leave
-unfoldable pub left_by : Standing → List Command → Standing
-left_by p [] = p
-left_by p (c ∷ commands) = left_by (turn by_hand p c).next commands
+unfoldable pub left_by : Running Order → List Command → Running Order
+left_by r [] = r
+left_by r (c ∷ commands) = left_by (round_of orders_by_hand r c).next commands
 
 -- whether the stock of `with_stock` always passes notices on
 abbrev pub passes_on : List Command → Bool
-passes_on commands = (kept_at (left_by some_session (with_stock (units 1) commands)).state 2).forward
+passes_on commands = (kept_at (left_by (running First some_session) (with_stock (units 1) commands)).standing.state 2).forward
 
 pub record AreForwarded : Type 0 where
   pub begun : passes_on [] ≡ false

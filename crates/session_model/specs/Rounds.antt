@@ -1,29 +1,26 @@
--- The transcript of a session: the lines of the turns of its commands, each over the session that the turns before it
+-- The transcript of a session: the lines of the rounds of its commands, each over the session that the rounds before it
 -- left.
 use Rattle.std.specs.Prelude.{ℕ, Bool, List, [], ◌∷◌, ◌++◌}
-use Rattle.desk_terms.specs.Reading.{Calc}
 use Rattle.session_commands.specs.declared.command.Command.{Command}
-use Rattle.session_model.specs.Standing.{Standing}
-use Rattle.session_model.specs.Turn.{Turn, turn}
+use Rattle.session_model.specs.Course.{Running, Meaning, Course, round_of}
 
--- the turns of the commands, one for each
-unfoldable pub rounds : Calc → Standing → List Command → List Turn
-rounds calc standing [] = []
-rounds calc standing (command ∷ commands) =
-    turn calc standing command ∷ rounds calc (turn calc standing command).next commands
+-- the rounds of the commands, one for each
+unfoldable pub rounds : {P : Type 0} → Meaning P → Running P → List Command → List (Course P)
+rounds m r [] = []
+rounds m r (command ∷ commands) = round_of m r command ∷ rounds m (round_of m r command).next commands
 
-unfoldable pub lines_of : List Turn → List ℕ
+unfoldable pub lines_of : {P : Type 0} → List (Course P) → List ℕ
 lines_of [] = []
-lines_of (t ∷ turns) = t.lines ++ lines_of turns
+lines_of (course ∷ courses) = course.lines ++ lines_of courses
 
-unfoldable pub calls_in : List Turn → List (ℕ × Bool)
+unfoldable pub calls_in : {P : Type 0} → List (Course P) → List (ℕ × Bool)
 calls_in [] = []
-calls_in (t ∷ turns) = t.calls ++ calls_in turns
+calls_in (course ∷ courses) = course.calls ++ calls_in courses
 
 -- the lines of the commands
-abbrev pub transcript : Calc → Standing → List Command → List ℕ
-transcript calc standing commands = lines_of (rounds calc standing commands)
+abbrev pub transcript : {P : Type 0} → Meaning P → Running P → List Command → List ℕ
+transcript m r commands = lines_of (rounds m r commands)
 
 -- the computations of the commands
-abbrev pub calls_of : Calc → Standing → List Command → List (ℕ × Bool)
-calls_of calc standing commands = calls_in (rounds calc standing commands)
+abbrev pub calls_of : {P : Type 0} → Meaning P → Running P → List Command → List (ℕ × Bool)
+calls_of m r commands = calls_in (rounds m r commands)

@@ -20,7 +20,11 @@ use Rattle.desk_terms.specs.Reading.{Outcome, Calc}
 use Rattle.session_commands.specs.declared.command.Command.{Command}
 use Rattle.session_commands.specs.declared.command.Command.TheVariants.{Quote, Sum, Difference, Handle, Stock, Composite, Member, Set, Unset, Link, Unlink, Engine, Today, Fixing, Freeze, Thaw, Recalc, Forward, Defer, Resume, Drop, Ask, Df, Watch, Register}
 use Rattle.session_model.specs.declared.limits.TheConstants.{MOST_LIVE, MOST_NUMBERS}
+use Rattle.watch_rounds.specs.declared.picker.Order.{Order}
+use Rattle.watch_rounds.specs.declared.picker.Order.TheVariants.{First}
+use Rattle.watch_rounds.specs.Order.{order_at, order_after}
 use Rattle.session_model.specs.Standing.{Standing, start_of, start_with}
+use Rattle.session_model.specs.Course.{Meaning, running}
 use Rattle.session_model.specs.Rounds.{transcript, calls_of}
 
 -- A stock is worth its quote, rounded from units of 10^-9 to units of 10^-6, and a composite the weighted sum of its
@@ -58,6 +62,16 @@ hand_price o (terms.Flows flows engine) inputs = Ok (Money (pos (1_000_000 * len
 abbrev pub by_hand : Calc
 by_hand reading = hand_price reading.object reading.terms reading.inputs
 
+abbrev pub orders_by_hand : Meaning Order
+orders_by_hand = record { calc = by_hand; at = order_at; after = order_after }
+
+-- what a session writes and computes where the first of the due watchers runs first
+abbrev pub transcribed : Standing → List Command → List ℕ
+transcribed p commands = transcript orders_by_hand (running First p) commands
+
+abbrev pub called : Standing → List Command → List (ℕ × Bool)
+called p commands = calls_of orders_by_hand (running First p) commands
+
 -- a session of the names `today`, `q`, `s`, `z`, `a`, `b`, `t`, `k`, `l` and `d`, by the numbers 0 to 9
 abbrev pub some_session : Standing
 some_session = start_of (pos 0)
@@ -65,10 +79,10 @@ some_session = start_of (pos 0)
     codes "d" ∷ []) []
 
 abbrev pub written : List Command → List ℕ
-written commands = transcript by_hand some_session commands
+written commands = transcribed some_session commands
 
 abbrev pub computed : List Command → List (ℕ × Bool)
-computed commands = calls_of by_hand some_session commands
+computed commands = called some_session commands
 
 -- so many units of a quote
 abbrev pub units : ℕ → ℤ
@@ -95,8 +109,8 @@ pub record AreRefused : Type 0 where
       (pos 1) ∷ []))
       ≡ codes "refused sum taken s\nrefused sum kind s\nrefused sum unknown z\n"
       ++ codes "refused member unknown z\nrefused member kind s\nrefused member kind q\n"
-  pub unbuilt : written (with_stock (units 1) (Watch 2 0 ∷ Register 2 1 ∷ Ask 2 ∷ []))
-      ≡ codes "refused watch unbuilt\nrefused register unbuilt\ns 1.000000 fresh 1\n"
+  pub watchers : written (with_stock (units 1) (Watch 2 0 ∷ Register 2 1 ∷ Ask 2 ∷ []))
+      ≡ codes "refused watch taken s\nrefused register kind s\ns 1.000000 fresh 1\n"
 
 pub record AreUnset : Type 0 where
   pub set : written (Quote 1 None ∷ Stock 2 1 ∷ Ask 2 ∷ Set 1
@@ -214,7 +228,7 @@ some_handles = start_of (pos 0)
     (codes "today" ∷ codes "a" ∷ codes "h" ∷ codes "s" ∷ codes "q" ∷ codes "d" ∷ []) []
 
 abbrev pub linked : List Command → List ℕ
-linked commands = transcript by_hand some_handles commands
+linked commands = transcribed some_handles commands
 
 pub record AreLinked : Type 0 where
   pub links : linked
@@ -268,7 +282,7 @@ some_market = start_with (pos 0)
     ∷ []) []
 
 abbrev pub priced : List Command → List ℕ
-priced commands = transcript by_hand some_market commands
+priced commands = transcribed some_market commands
 
 pub record AreOfAMarket : Type 0 where
   pub factors : priced

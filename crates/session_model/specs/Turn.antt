@@ -14,7 +14,7 @@ use Rattle.session_model.specs.declared.act.How.{How}
 use Rattle.session_model.specs.Change.{changed, grown}
 use Rattle.session_model.specs.Pricing.{Pricing, pricing_of, priced_line}
 use Rattle.session_model.specs.Standing.{Standing}
-use Rattle.session_model.specs.Resolve.{resolve, resolve_all}
+use Rattle.session_model.specs.Resolve.{resolve}
 
 -- what commands give: their lines, the computations that they make, and the session after them
 pub record TurnOf (S : Type 0) : Type 0 where
@@ -87,10 +87,6 @@ done_as calc p c (Err refusal) =
     record { lines = refusal_line p.names p.of_object (command_word c) refusal; calls = []; next = p }
 done_as calc p c (Ok a) = effect_of calc p a
 
--- A round is the command alone, as long as no command makes a watcher.
+-- THE TURN OF A COMMAND: what it resolves to is done, or it is refused
 unfoldable pub turn : Calc → Standing → Command → Turn
 turn calc p c = done_as calc p c (resolve p c)
-
--- the turn of a command where those of watchers are carried out, too
-unfoldable pub acted : Calc → Standing → Command → Turn
-acted calc p c = done_as calc p c (resolve_all p c)

@@ -2,16 +2,14 @@
 use Rattle.std.specs.Prelude.{◌≡◌, ℕ, true, List, [], ◌∷◌, ◌++◌, codes, pos, Some}
 use Rattle.watch_rounds.specs.declared.picker.Order.{Order}
 use Rattle.watch_rounds.specs.declared.picker.Order.TheVariants.{First, Last, Seed}
-use Rattle.watch_rounds.specs.Order.{order_at, order_after}
 use Rattle.watch_rounds.specs.Round.{tally_at}
 use Rattle.session_commands.specs.declared.command.Command.{Command}
 use Rattle.session_commands.specs.declared.command.Command.TheVariants.{Quote, Stock, Set, Unset, Freeze, Thaw, Recalc, Forward, Defer, Resume, Watch, Register, Unregister, Drop, Ask}
 use Rattle.session_model.specs.Standing.{start_of}
-use Rattle.session_model.specs.Course.{Running, Meaning, all_rounds, running}
-use Rattle.session_model.specs.Rows.{by_hand, units, with_stock}
-
-abbrev pub orders_by_hand : Meaning Order
-orders_by_hand = record { calc = by_hand; at = order_at; after = order_after }
+use Rattle.session_model.specs.Course.{Running, running}
+use Rattle.session_model.specs.Rounds.{transcript}
+use Rattle.session_model.specs.Rows.{orders_by_hand, units, with_stock}
+use Rattle.session_model.specs.RoomRows.{left_by}
 
 -- a session of the names `today`, `q`, `s`, `t`, `v`, `w`, `u` and `k`, by the numbers 0 to 7, with these actions
 abbrev pub some_watchers : List (List Command) → Order → Running Order
@@ -19,12 +17,11 @@ some_watchers actions order = running order (start_of (pos 0)
     (codes "today" ∷ codes "q" ∷ codes "s" ∷ codes "t" ∷ codes "v" ∷ codes "w" ∷ codes "u" ∷ codes "k" ∷ []) actions)
 
 abbrev pub played : List (List Command) → Order → List Command → List ℕ
-played actions order commands = (all_rounds orders_by_hand commands (some_watchers actions order)).lines
+played actions order commands = transcript orders_by_hand (some_watchers actions order) commands
 
 -- how often a name has run in the last of these rounds
 abbrev pub runs_in : List (List Command) → List Command → ℕ → ℕ
-runs_in actions commands name =
-    (tally_at (all_rounds orders_by_hand commands (some_watchers actions First)).next.round name).runs
+runs_in actions commands name = (tally_at (left_by (some_watchers actions First) commands).round name).runs
 
 -- an action that asks the stock `s`
 abbrev pub asks_s : List (List Command)

@@ -1,9 +1,9 @@
 //! What a session with names does, said without the code that does it: what a command resolves to, what it changes, the
-//! lines and the computations that it gives, and the transcript of all its commands.
+//! lines and the computations that it gives, whom it tells and whose actions run then, and the transcript of all its rounds.
 //!
 //! `Act` with `Change`, `Growth` and `How`, `Place`, `MOST_LIVE`, `MOST_NUMBERS`. Words of `specs/`: `Standing`,
-//! `resolve`, `changed`, `pricing_of`, `step`, `Turn`, `turn`, `rounds`, `transcript`, `calls_of`; of watchers, for whom the
-//! program does not run yet, `acted`, `Running`, `done`, `run`, `round_of`.
+//! `resolve`, `changed`, `pricing_of`, `step`, `Turn`, `turn`, `Running`, `done`, `run`, `round_of`, `rounds`, `transcript`,
+//! `calls_of`.
 //! Its functions without a body are laws: their contracts are what is proved.
 #![tactic(auto)]
 
@@ -16,7 +16,9 @@ mod rows;
 mod watch_rows;
 
 pub use act::{Act, Change, Growth, How};
-pub use laws::{every_round_ends, without_freezing_and_deferral_all_is_fresh};
+pub use laws::{
+    each_answer_is_of_its_moment, every_round_ends, without_freezing_and_deferral_all_is_fresh,
+};
 pub use limits::{MOST_LIVE, MOST_NUMBERS};
 pub use place::Place;
 pub use room_rows::{

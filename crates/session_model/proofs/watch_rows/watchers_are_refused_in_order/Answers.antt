@@ -17,14 +17,15 @@ use Rattle.price_report.specs.Line.{asked_line, refusal_line, over_line}
 use Rattle.watch_rounds.specs.Order.{churned}
 use Rattle.watch_rounds.specs.Round.{with_notice, with_run}
 use Rattle.session_model.specs.Standing.{named_from, is_full}
-use Rattle.session_model.specs.Resolve.{find, with_found, unless, unless_used, unless_late, unless_taken, resolve, resolve_all}
+use Rattle.session_model.specs.Resolve.{find, with_found, unless, unless_used, unless_late, unless_taken, resolve}
 use Rattle.session_model.specs.Change.{changed, grown}
-use Rattle.session_model.specs.Turn.{step, effect_of, acted}
-use Rattle.session_model.specs.Course.{and_then, noticed, heard, done, all_done, begun, run, runs_by, opened, round_of, all_rounds}
+use Rattle.session_model.specs.Turn.{step, effect_of, turn}
+use Rattle.session_model.specs.Course.{and_then, noticed, heard, done, all_done, begun, run, runs_by, opened, round_of}
+use Rattle.session_model.specs.Rounds.{rounds, lines_of}
 use Rattle.session_model.proofs.watch_rows.watchers_are_refused_in_order.Goals as goal
 
 pub returns : goal.returns
-unfolding digits below_by decimal_text place_of input_by input_at answer_by fresh is_frozen is_source is_late is_late_of least_source is_clear held seen now mark_of shows visit_by runs stored asked told tell forwards reaches made notified revised quote_set relinked member_set dropped frozen_set thawed deferred resumed forward_set watching registered_with unregistered inputs_walk reruns recalced parts_of row_of asked_line refusal_line over_line churned with_notice with_run named_from is_full find with_found unless unless_used unless_late unless_taken resolve resolve_all changed grown step effect_of acted and_then noticed heard done all_done begun run runs_by opened round_of all_rounds
+unfolding digits below_by decimal_text place_of input_by input_at answer_by fresh is_frozen is_source is_late is_late_of least_source is_clear held seen now mark_of shows visit_by runs stored asked told tell forwards reaches made notified revised quote_set relinked member_set dropped frozen_set thawed deferred resumed forward_set watching registered_with unregistered inputs_walk reruns recalced parts_of row_of asked_line refusal_line over_line churned with_notice with_run named_from is_full find with_found unless unless_used unless_late unless_taken resolve changed grown step effect_of turn and_then noticed heard done all_done begun run runs_by opened round_of rounds lines_of
 returns c = record {
   names = refl;
   pairs = refl;

@@ -47,7 +47,7 @@ unfolding noticed and_then
 noticed_calls [] r = refl
 noticed_calls (w ∷ ws) r = noticed_calls ws (notice w r).next
 
-heard_calls : {P : Type 0} → (r : Running P) → (heard r).calls ≡ []
+pub heard_calls : {P : Type 0} → (r : Running P) → (heard r).calls ≡ []
 unfolding heard
 heard_calls r = noticed_calls r.standing.state.noticed (record r { standing = all_handed_out r.standing })
 

@@ -36,7 +36,7 @@ use Rattle.session_model.specs.declared.place.Place.{Place}
 use Rattle.session_model.specs.declared.place.Place.TheVariants as place
 use Rattle.session_model.specs.Place.{takes_found}
 use Rattle.session_model.specs.Standing.{Standing, object_named, is_full, IsKnown}
-use Rattle.session_model.specs.Resolve.{object_or_refusal, find, with_found, unless, unless_used, unless_kept, unless_late, unless_taken, closes, joins, rate_at, target_of, handle_kind, engaging, making, quote_input, member, curve, index, engine, pairing, resolve, resolve_all}
+use Rattle.session_model.specs.Resolve.{object_or_refusal, find, with_found, unless, unless_used, unless_kept, unless_late, unless_taken, closes, joins, rate_at, target_of, handle_kind, engaging, making, quote_input, member, curve, index, engine, pairing, resolve}
 use Rattle.session_core.specs.Allowed.{IsAllowed, MayPair}
 
 -- what is found is of a kind that the place takes
@@ -267,6 +267,13 @@ module _ (p : Standing) where
       may_make name (terms.Derived minus x y) named tt
       (taken_input _ wanted.QuoteInput first, (taken_input _ wanted.QuoteInput second, tt)) free))
 
+  pairs : (w o : ℕ) (rest : ℕ → ℕ → Result Act Refusal)
+      → ((x y : ℕ) → MayPair p x y → AllAllowed (rest x y)) → AllAllowed (pairing p w o rest)
+  pairs w o rest all = finds place.Watcher w _ (λ x watcher. finds place.Observable o _ (λ y subject. all x y (record {
+    watcher = taken_watcher (slot_at p.state.market x) watcher;
+    subject = taken_observable (slot_at p.state.market y) subject;
+  })))
+
   pub allowed : (c : Command) → IsKnown p c → AllAllowed (resolve p c)
   unfolding resolve IsCommand parts_of row_of
   allowed (command.Quote name value) known = untaken name _ (may_make name (terms.Quote value) known.first tt tt)
@@ -315,32 +322,17 @@ module _ (p : Standing) where
       finds place.Priced o _ (λ x is. taken_lazy (slot_at p.state.market x) is)
   allowed command.Defer known = tt
   allowed command.Resume known = tt
-  allowed (command.Watch w action) known = tt
-  allowed (command.Register w o) known = tt
-  allowed (command.Unregister w o) known = tt
+  allowed (command.Watch w action) known =
+      untaken w _ (λ free. unless_allowed (is_full p.state.market) refusal.TooMany (act.Watch w action)
+      (λ room. record { named = known.first; free = free; room = room }))
+  allowed (command.Register w o) known =
+      pairs w o _ (λ x y pair. unless_allowed (is_registered p.state x y) refusal.AlreadyRegistered (act.Grow (growth.Register x y))
+      (λ free. record { pair = pair; free = free }))
+  allowed (command.Unregister w o) known =
+      pairs w o _ (λ x y pair. unless_allowed (not (is_registered p.state x y)) refusal.NotRegistered
+      (act.Quiet (change.Unregister x y)) (λ found. pair))
   allowed (command.Drop o) known =
       finds place.Droppable o _ (λ x is. used_allowed (least_user p.state.market x)
       (act.Quiet (change.Drop x)) (λ free. record { taken = is; unused = free }))
   allowed (command.Ask o) known = finds place.Priced o _ (λ x is. taken_lazy (slot_at p.state.market x) is)
   allowed (command.Df c day) known = finds curve c _ (λ x is. taken_curve (slot_at p.state.market x) is)
-
-  pairs : (w o : ℕ) (rest : ℕ → ℕ → Result Act Refusal)
-      → ((x y : ℕ) → MayPair p x y → AllAllowed (rest x y)) → AllAllowed (pairing p w o rest)
-  pairs w o rest all = finds place.Watcher w _ (λ x watcher. finds place.Observable o _ (λ y subject. all x y (record {
-    watcher = taken_watcher (slot_at p.state.market x) watcher;
-    subject = taken_observable (slot_at p.state.market y) subject;
-  })))
-
-  -- and so it is of the commands of watchers
-  pub all_allowed : (c : Command) → IsKnown p c → AllAllowed (resolve_all p c)
-  unfolding resolve_all IsCommand parts_of row_of
-  all_allowed (command.Watch w action) known =
-      untaken w _ (λ free. unless_allowed (is_full p.state.market) refusal.TooMany (act.Watch w action)
-      (λ room. record { named = known.first; free = free; room = room }))
-  all_allowed (command.Register w o) known =
-      pairs w o _ (λ x y pair. unless_allowed (is_registered p.state x y) refusal.AlreadyRegistered (act.Grow (growth.Register x y))
-      (λ free. record { pair = pair; free = free }))
-  all_allowed (command.Unregister w o) known =
-      pairs w o _ (λ x y pair. unless_allowed (not (is_registered p.state x y)) refusal.NotRegistered
-      (act.Quiet (change.Unregister x y)) (λ found. pair))
-  all_allowed c known = allowed c known

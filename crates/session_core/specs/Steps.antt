@@ -16,8 +16,8 @@ use Rattle.session_model.specs.declared.act.Change.{Change}
 use Rattle.session_model.specs.declared.act.Change.TheVariants as change
 use Rattle.session_model.specs.Pricing.{pricing_of}
 use Rattle.session_model.specs.Standing.{Standing}
-use Rattle.session_model.specs.Resolve.{resolve, resolve_all}
-use Rattle.session_model.specs.Turn.{Turn, turn, acted, effect_of}
+use Rattle.session_model.specs.Resolve.{resolve}
+use Rattle.session_model.specs.Turn.{Turn, turn, effect_of}
 
 -- another state of the objects
 abbrev pub with_state : State → Standing → Standing
@@ -120,29 +120,16 @@ BreaksOff calc a old new lines_old lines_new count_old count_new log_old log_new
     log_old log_new
 
 -- A COMMAND DOES ITS TURN
-abbrev pub Steps : Calc → Command → Standing → Standing → List ℕ → List ℕ → ℕ → ℕ → Option (List (ℕ × Bool))
-    → Option (List (ℕ × Bool)) → Type 0
-Steps calc c old new lines_old lines_new count_old count_new log_old log_new =
-    Does (turn calc old c) new lines_old lines_new count_old count_new log_old log_new
-
--- MEMORY RUNS OUT IN IT
-abbrev pub Stops : Calc → Command → Standing → Standing → List ℕ → List ℕ → ℕ → ℕ → Option (List (ℕ × Bool))
-    → Option (List (ℕ × Bool)) → Type 0
-Stops calc c old new lines_old lines_new count_old count_new log_old log_new =
-    Ends (turn calc old c) (survivors_of calc old.state (resolve old c)) old new lines_old lines_new count_old
-    count_new log_old log_new
-
--- A COMMAND, ALSO ONE OF WATCHERS, DOES ITS TURN
 abbrev pub Acts : Calc → Command → Standing → Standing → List ℕ → List ℕ → ℕ → ℕ → Option (List (ℕ × Bool))
     → Option (List (ℕ × Bool)) → Type 0
 Acts calc c old new lines_old lines_new count_old count_new log_old log_new =
-    Does (acted calc old c) new lines_old lines_new count_old count_new log_old log_new
+    Does (turn calc old c) new lines_old lines_new count_old count_new log_old log_new
 
--- memory runs out in it
+-- MEMORY RUNS OUT IN IT
 abbrev pub Halts : Calc → Command → Standing → Standing → List ℕ → List ℕ → ℕ → ℕ → Option (List (ℕ × Bool))
     → Option (List (ℕ × Bool)) → Type 0
 Halts calc c old new lines_old lines_new count_old count_new log_old log_new =
-    Ends (acted calc old c) (survivors_of calc old.state (resolve_all old c)) old new lines_old lines_new count_old
+    Ends (turn calc old c) (survivors_of calc old.state (resolve old c)) old new lines_old lines_new count_old
     count_new log_old log_new
 
 -- An object is made where the definition makes it, and refused where it refuses; memory is wanted only where it is not

@@ -4,10 +4,10 @@ ghost use Rattle.desk_terms.specs.Reading.{Calc, AreInRange};
 ghost use Rattle.desk_model.specs.Links.{AreOfKind};
 ghost use Rattle.desk_model.specs.Sound.{IsSound, KeepsCurrent};
 ghost use Rattle.session_model.specs.Standing.{IsKnown};
-ghost use Rattle.session_model.specs.Resolve.{making, unless_taken, resolve, resolve_all};
+ghost use Rattle.session_model.specs.Resolve.{making, unless_taken, resolve};
 ghost use Rattle.session_model.specs.Turn.{done_as};
 ghost use Rattle.session_core.specs.Allowed.{IsAllowed};
-ghost use Rattle.session_core.specs.Steps.{with_object, AnswersMake, Does, Ends, Carries, BreaksOff, Steps, Stops, Acts, Halts, survivors_of, takes_no_memory, is_without_memory};
+ghost use Rattle.session_core.specs.Steps.{with_object, AnswersMake, Does, Ends, Carries, BreaksOff, Acts, Halts, survivors_of, takes_no_memory, is_without_memory};
 
 use crate::{MakeFault, Session};
 use desk_names::{NameId, ObjId};
@@ -17,45 +17,6 @@ use session_model::Act;
 use std::alloc::AllocError;
 
 impl Session {
-    /// Does one command, and appends its line where it writes one: the answer of an ask or of a recalculation, or why the
-    /// command is refused. A refused command changes nothing, and a command that writes nothing appends nothing. After
-    /// want of memory the session is stopped; what was computed before stays, and where the line alone found no memory,
-    /// the command is done.
-    pub fn step<B: Bench>(
-        &mut self,
-        command: &Command,
-        bench: &mut B,
-        lines: &mut Vec<u8>,
-    ) -> Result<(), AllocError>
-        requires running { self.old.stopped ≡ false }
-        requires known { IsKnown self.old command.now }
-        requires sound { IsSound (B.calc bench.old) self.old.state }
-        ensures same { B.calc bench.new ≡ B.calc bench.old }
-        // The command does its turn, exactly.
-        ensures steps { OnOk result (Steps (B.calc bench.old) command.now self.old self.new
-            lines.old.items lines.new.items (B.count bench.old) (B.count bench.new)
-            (B.log bench.old) (B.log bench.new)) }
-        // Memory ran out in it: a front of its computations, no byte of its line, and nothing else.
-        ensures stops { OnErr result (Stops (B.calc bench.old) command.now self.old self.new
-            lines.old.items lines.new.items (B.count bench.old) (B.count bench.new)
-            (B.log bench.old) (B.log bench.new)) }
-        // A change of a value, a day or a flag, a target or an engine taken away, a deferral, a resume and a drop, not
-        // refused, never want memory.
-        ensures ends { is_without_memory (resolve self.old command.now) ≡ true → is_ok result ≡ true }
-        ensures names { self.new.names ≡ self.old.names }
-        ensures actions { self.new.actions ≡ self.old.actions }
-        ensures sound { IsSound (B.calc bench.old) self.new.state }
-        ensures stopped { self.new.stopped ≡ is_err result }
-    {
-        match self.turn(command, bench, lines) {
-            Ok(()) => Ok(()),
-            Err(fault) => {
-                self.stop();
-                Err(fault)
-            }
-        }
-    }
-
     /// Makes an object that has this name and these terms, and answers its number: how many numbers were given before.
     /// It is refused `Taken` where a live object has the name, then `TooMany` where there is no room. After a refusal
     /// or want of memory the session is as it was.
@@ -76,8 +37,10 @@ impl Session {
         Ok(self.add(name, terms)?)
     }
 
-    /// Does one command, those of watchers too, as `step` does. The notices that it gives to watchers are kept for
-    /// `next_told`.
+    /// Does one command, and appends its line where it writes one: the answer of an ask or of a recalculation, or why the
+    /// command is refused. A refused command changes nothing, and a command that writes nothing appends nothing. The
+    /// notices that it gives to watchers are kept for `next_told`. After want of memory the session is stopped; what was
+    /// computed before stays, and where the line alone found no memory, the command is done.
     pub fn act<B: Bench>(
         &mut self,
         command: &Command,
@@ -96,13 +59,15 @@ impl Session {
         ensures halts { OnErr result (Halts (B.calc bench.old) command.now self.old self.new
             lines.old.items lines.new.items (B.count bench.old) (B.count bench.new)
             (B.log bench.old) (B.log bench.new)) }
-        ensures ends { is_without_memory (resolve_all self.old command.now) ≡ true → is_ok result ≡ true }
+        // A change of a value, a day or a flag, a target or an engine taken away, a deferral, a resume, an unregister and a
+        // drop, not refused, never want memory.
+        ensures ends { is_without_memory (resolve self.old command.now) ≡ true → is_ok result ≡ true }
         ensures names { self.new.names ≡ self.old.names }
         ensures actions { self.new.actions ≡ self.old.actions }
         ensures sound { IsSound (B.calc bench.old) self.new.state }
         ensures stopped { self.new.stopped ≡ is_err result }
     {
-        match self.turn_all(command, bench, lines) {
+        match self.turn(command, bench, lines) {
             Ok(()) => Ok(()),
             Err(fault) => {
                 self.stop();
@@ -111,31 +76,8 @@ impl Session {
         }
     }
 
-    // Does one command that is not of watchers, or refuses it.
-    fn turn<B: Bench>(
-        &mut self,
-        command: &Command,
-        bench: &mut B,
-        lines: &mut Vec<u8>,
-    ) -> Result<(), AllocError>
-        requires known { IsKnown self.old command.now }
-        requires sound { IsSound (B.calc bench.old) self.old.state }
-        ensures same { B.calc bench.new ≡ B.calc bench.old }
-        ensures steps { OnOk result (Steps (B.calc bench.old) command.now self.old self.new
-            lines.old.items lines.new.items (B.count bench.old) (B.count bench.new)
-            (B.log bench.old) (B.log bench.new)) }
-        ensures stops { OnErr result (Stops (B.calc bench.old) command.now self.old self.new
-            lines.old.items lines.new.items (B.count bench.old) (B.count bench.new)
-            (B.log bench.old) (B.log bench.new)) }
-        ensures ends { is_without_memory (resolve self.old command.now) ≡ true → is_ok result ≡ true }
-        ensures sound { IsSound (B.calc bench.old) self.new.state }
-    {
-        let found = self.resolve(command);
-        self.carry(command, found, bench, lines)
-    }
-
     // Does one command, or refuses it.
-    fn turn_all<B: Bench>(
+    fn turn<B: Bench>(
         &mut self,
         command: &Command,
         bench: &mut B,
@@ -150,10 +92,10 @@ impl Session {
         ensures halts { OnErr result (Halts (B.calc bench.old) command.now self.old self.new
             lines.old.items lines.new.items (B.count bench.old) (B.count bench.new)
             (B.log bench.old) (B.log bench.new)) }
-        ensures ends { is_without_memory (resolve_all self.old command.now) ≡ true → is_ok result ≡ true }
+        ensures ends { is_without_memory (resolve self.old command.now) ≡ true → is_ok result ≡ true }
         ensures sound { IsSound (B.calc bench.old) self.new.state }
     {
-        let found = self.resolve_all(command);
+        let found = self.resolve(command);
         self.carry(command, found, bench, lines)
     }
 

@@ -11,7 +11,7 @@ ghost use Rattle.session_model.specs.declared.act.Growth.TheVariants as growth;
 ghost use Rattle.session_model.specs.declared.act.How.TheVariants as how;
 ghost use Rattle.session_model.specs.Place.{takes_found};
 ghost use Rattle.session_model.specs.Standing.{object_named, is_full};
-ghost use Rattle.session_model.specs.Resolve.{find, with_found, making, unless, unless_used, unless_kept, unless_late, unless_taken, closes, joins, rate_at, target_of, handle_kind, engaging, combining, watching, pairing, quote_input, curve, resolve, resolve_all};
+ghost use Rattle.session_model.specs.Resolve.{find, with_found, making, unless, unless_used, unless_kept, unless_late, unless_taken, closes, joins, rate_at, target_of, handle_kind, engaging, combining, watching, pairing, quote_input, curve, resolve};
 ghost use Rattle.desk_model.specs.Market.{least_user};
 ghost use Rattle.desk_model.specs.State.{least_source};
 ghost use Rattle.desk_model.specs.Told.{is_registered};
@@ -58,23 +58,9 @@ impl Session {
             Command::Drop(object) => self.dropped(*object),
             Command::Ask(object) => self.asked(*object),
             Command::Df(curve, day) => self.discounted(*curve, *day),
-            Command::Watch(..) | Command::Register(..) | Command::Unregister(..) => {
-                Err(Refusal::Unbuilt)
-            }
-        }
-    }
-
-    // The same with the commands of watchers.
-    #[tactic(auto, unfolding(session_model::specs::Resolve::resolve_all))]
-    pub(crate) fn resolve_all(&mut self, command: &Command) -> Result<Act, Refusal>
-        ensures act { result ≡ resolve_all self.old command.now }
-        ensures same { self.new ≡ self.old }
-    {
-        match command {
             Command::Watch(name, action) => self.watched(*name, *action),
             Command::Register(watcher, object) => self.registered(*watcher, *object),
             Command::Unregister(watcher, object) => self.unregistered(*watcher, *object),
-            _ => self.resolve(command),
         }
     }
 

@@ -16,15 +16,15 @@ carry-requires-clause-allowed g c =
     (subst (λ (r : Result Act Refusal). IfOk r (IsAllowed c.args.self.now)) (sym c.resolve-found.ensures.act)
     (allowed c.args.self.now c.args.command.now c.requires.known))
 
-pub returns-clause-steps : goal.returns-clause-steps
+pub returns-clause-acts : goal.returns-clause-acts
 unfolding turn
-returns-clause-steps g c =
+returns-clause-acts g c =
     does_of _ _ _ _ c.resolve-found.new.self _ _ _ _ _ _ _ _ c.carry.result c.resolve-found.ensures.same c.resolve-found.ensures.act
     c.carry.ensures.does
 
-pub returns-clause-stops : goal.returns-clause-stops
+pub returns-clause-halts : goal.returns-clause-halts
 unfolding turn
-returns-clause-stops g c =
+returns-clause-halts g c =
     breaks_of _ _ _ _ c.resolve-found.new.self _ _ _ _ _ _ _ _ c.carry.result c.resolve-found.ensures.same c.resolve-found.ensures.act
     c.carry.ensures.breaks
 

@@ -14,16 +14,6 @@ with_noticed ws p = record p { state = record p.state { noticed = ws } }
 abbrev pub leaving : {P : Type 0} → List ℕ → Running P → Running P
 leaving ws r = record r { standing = with_noticed ws r.standing }
 
-noticed_calls : {P : Type 0} → (ws : List ℕ) (r : Running P) → (noticed ws r).calls ≡ []
-unfolding noticed and_then
-noticed_calls [] r = refl
-noticed_calls (w ∷ ws) r = noticed_calls ws (notice w r).next
-
--- notices compute nothing
-pub heard_calls : {P : Type 0} → (r : Running P) → (heard r).calls ≡ []
-unfolding heard
-heard_calls r = noticed_calls r.standing.state.noticed (drained r)
-
 heard_first : {P : Type 0} → (r : Running P) (w : ℕ) (rest : List ℕ) → r.standing.state.noticed ≡ w ∷ rest
     → heard r ≡ and_then (notice w (drained r)) (noticed rest)
 unfolding heard noticed

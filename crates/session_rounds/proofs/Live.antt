@@ -29,8 +29,8 @@ use Rattle.session_model.specs.declared.act.How.TheVariants as how
 use Rattle.session_model.specs.Change.{changed, grown}
 use Rattle.session_model.specs.Pricing.{pricing_of}
 use Rattle.session_model.specs.Standing.{Standing, name_of}
-use Rattle.session_model.specs.Resolve.{resolve_all}
-use Rattle.session_model.specs.Turn.{step, object_names, effect_of, done_as, acted}
+use Rattle.session_model.specs.Resolve.{resolve}
+use Rattle.session_model.specs.Turn.{step, object_names, effect_of, done_as, turn}
 use Rattle.session_rounds.specs.Fits.{IsLive}
 
 -- what stands at a number is the same in both
@@ -181,9 +181,9 @@ step_live calc s (act.Price name o h) w live has = priced_live calc o s h w
 
 -- A WATCHER THAT HAS A REGISTRATION after a command stayed live through it
 pub acted_live : (calc : Calc) (p : Standing) (c : Command) (w : ℕ) → IsLive p w
-    → is_watching (acted calc p c).next.state w ≡ true → IsLive (acted calc p c).next w
-unfolding acted effect_of
-acted_live calc p c w = by (resolve_all p c)
+    → is_watching (turn calc p c).next.state w ≡ true → IsLive (turn calc p c).next w
+unfolding turn effect_of
+acted_live calc p c w = by (resolve p c)
   where
     by : (found : Result Act Refusal) → IsLive p w → is_watching (done_as calc p c found).next.state w ≡ true
         → IsLive (done_as calc p c found).next w
@@ -211,17 +211,17 @@ long_by (act.Grow g) names = omega arith
 long_by (act.Price name o h) names = omega arith
 
 pub acted_named : (calc : Calc) (p : Standing) (c : Command) (w : ℕ) → w < length p.of_object
-    → name_of (acted calc p c).next w ≡ name_of p w
-unfolding acted effect_of
-acted_named calc p c w low = by (resolve_all p c)
+    → name_of (turn calc p c).next w ≡ name_of p w
+unfolding turn effect_of
+acted_named calc p c w low = by (resolve p c)
   where
     by : (found : Result Act Refusal) → name_of (done_as calc p c found).next w ≡ name_of p w
     by (Err refusal) = refl
     by (Ok a) = named_by a p.of_object w low
 
-pub acted_long : (calc : Calc) (p : Standing) (c : Command) → length (acted calc p c).next.of_object ≤ length p.of_object + 1
-unfolding acted effect_of
-acted_long calc p c = by (resolve_all p c)
+pub acted_long : (calc : Calc) (p : Standing) (c : Command) → length (turn calc p c).next.of_object ≤ length p.of_object + 1
+unfolding turn effect_of
+acted_long calc p c = by (resolve p c)
   where
     by : (found : Result Act Refusal) → length (done_as calc p c found).next.of_object ≤ length p.of_object + 1
     by (Err refusal) = omega arith

@@ -9,7 +9,7 @@ use Rattle.session_commands.specs.declared.command.Command.{Command}
 use Rattle.watch_rounds.specs.declared.due.DueWatcher.{DueWatcher}
 use Rattle.watch_rounds.specs.Due.{AreAll}
 use Rattle.session_model.specs.Standing.{Standing}
-use Rattle.session_model.specs.Turn.{Turn, acted}
+use Rattle.session_model.specs.Turn.{Turn, turn}
 use Rattle.session_model.specs.Course.{Running, undue, taken}
 use Rattle.session_core.specs.Steps as steps
 use Rattle.session_core.specs.Watchers.{AreWatchers}
@@ -55,16 +55,16 @@ filtered Q R test each (first ∷ rest) all = by (filtered Q R test each rest al
 
 -- each watcher that is due after a command is live
 due_then : (calc : Calc) (p : Standing) (c : Command) (due : List DueWatcher) → AreWatchers p → AreAll (IsDueOf p) due
-    → AreAll (IsDueOf (acted calc p c).next) (filter (λ one. is_watching (acted calc p c).next.state one.watcher) due)
+    → AreAll (IsDueOf (turn calc p c).next) (filter (λ one. is_watching (turn calc p c).next.state one.watcher) due)
 due_then calc p c due are all =
-    filtered (IsDueOf p) (IsDueOf (acted calc p c).next) (λ one. is_watching (acted calc p c).next.state one.watcher)
+    filtered (IsDueOf p) (IsDueOf (turn calc p c).next) (λ one. is_watching (turn calc p c).next.state one.watcher)
     (λ one is watching. (
       acted_live calc p c one.watcher is.0 watching,
       is.1 ∙ sym (acted_named calc p c one.watcher (are one.watcher is.0).listed),
     )) due all
 
 pub fits_acted : {P : Type 0} → (calc : Calc) (r : Running P) (c : Command) (new : Standing) (nodes more : ℕ) → Fits P r nodes
-    → AreWatchers r.standing → new ≡ (acted calc r.standing c).next → new.names ≡ r.standing.names
+    → AreWatchers r.standing → new ≡ (turn calc r.standing c).next → new.names ≡ r.standing.names
     → new.actions ≡ r.standing.actions → length r.standing.of_object + 1 ≤ more
     → Fits P (record r { standing = new; round = undue new.state r.round }) more
 fits_acted {P} calc r c new nodes more fits are is names actions room = record {

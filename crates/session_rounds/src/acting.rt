@@ -2,7 +2,7 @@
 ghost use Rattle.std.specs.Prelude.{◌≡◌, false, OnOk, OnErr};
 ghost use Rattle.desk_model.specs.Sound.{IsSound};
 ghost use Rattle.session_model.specs.Standing.{IsKnown};
-ghost use Rattle.session_model.specs.Turn.{acted};
+ghost use Rattle.session_model.specs.Turn.{turn};
 ghost use Rattle.session_model.specs.Course.{taken, done};
 ghost use Rattle.session_rounds.specs.Goes.{Does, Halts, Stays};
 
@@ -50,10 +50,10 @@ impl<P: Picker> WatchedSession<P> {
         requires known { IsKnown self.old.standing command.now }
         requires sound { IsSound (B.calc bench.old) self.old.standing.state }
         ensures same { B.calc bench.new ≡ B.calc bench.old }
-        ensures ok { OnOk result (Does P (taken (acted (B.calc bench.old) self.old.standing command.now) self.old)
+        ensures ok { OnOk result (Does P (taken (turn (B.calc bench.old) self.old.standing command.now) self.old)
             self.new (record { lines = lines.old.items; count = B.count bench.old; log = B.log bench.old })
             (record { lines = lines.new.items; count = B.count bench.new; log = B.log bench.new })) }
-        ensures err { OnErr result (Halts P (taken (acted (B.calc bench.old) self.old.standing command.now) self.old)
+        ensures err { OnErr result (Halts P (taken (turn (B.calc bench.old) self.old.standing command.now) self.old)
             (record { lines = lines.old.items; count = B.count bench.old; log = B.log bench.old })
             (record { lines = lines.new.items; count = B.count bench.new; log = B.log bench.new })) }
         ensures stays { Stays (B.calc bench.old) self.old.standing self.new.standing }

@@ -3,7 +3,7 @@ use Rattle.std.specs.Prelude.{max}
 use Rattle.std.proofs.Math.Nat.{le-max_right}
 use Rattle.std.proofs.lemmas.Result.{err_from_is_err_and}
 use Rattle.watch_rounds.specs.Round.{Round, RoundsView}
-use Rattle.session_model.specs.Turn.{acted}
+use Rattle.session_model.specs.Turn.{turn}
 use Rattle.session_model.specs.Course.{Running, undue}
 use Rattle.session_rounds.specs.Fits.{Fits}
 use Rattle.session_rounds.proofs.Going.{halts_at_once}
@@ -33,4 +33,4 @@ pub returns-in-Err-clause-err : goal.returns-in-Err-clause-err
 returns-in-Err-clause-err g c =
     let r : Running g.row.P.Denot = record { standing = c.self.inside.session; round = c.self.inside.rounds.round; picker = c.self.inside.picker } in
     rw (← c.self.view_is)
-    (halts_taken (acted (g.B.Bench.calc c.args.bench.now) c.self.inside.session c.args.command.now) r _ _ _ _ _ _ _ _ _ c.in-Err.ensures.halts)
+    (halts_taken (turn (g.B.Bench.calc c.args.bench.now) c.self.inside.session c.args.command.now) r _ _ _ _ _ _ _ _ _ c.in-Err.ensures.halts)

@@ -1,23 +1,23 @@
 use Rattle.std.proofs.Common.{◌∙◌}
 use Rattle.std.proofs.lemmas.Result.{err_from_is_err_and, on_ok_weaker, on_err_weaker}
-use Rattle.session_model.specs.Turn.{acted}
+use Rattle.session_model.specs.Turn.{turn}
 use Rattle.session_model.specs.Course.{taken, heard, done}
 use Rattle.session_rounds.proofs.Going.{does_both, halts_first, halts_second, does_priced, halts_priced}
-use Rattle.session_rounds.proofs.Hearing.{heard_calls}
+use Rattle.session_model.proofs.Moments.{heard_calls}
 use Rattle.session_rounds.proofs.session.WatchedSession.command.Goals as goal
 
 pub returns-in_err-act-clause-err : goal.returns-in_err-act-clause-err
 unfolding done
 returns-in_err-act-clause-err g c =
     let e = err_from_is_err_and c.from_residual.result c.from_residual.ensures.1 in
-    rw e.1 (halts_first (taken (acted (g.B.Bench.calc c.args.bench.now) c.args.self.now.standing c.args.command.now) c.args.self.now) heard
+    rw e.1 (halts_first (taken (turn (g.B.Bench.calc c.args.bench.now) c.args.self.now.standing c.args.command.now) c.args.self.now) heard
     (record { lines = c.args.lines.now.items; count = g.B.Bench.count c.args.bench.now; log = g.B.Bench.log c.args.bench.now })
     (record { lines = c.act.new.lines.items; count = g.B.Bench.count c.act.new.bench; log = g.B.Bench.log c.act.new.bench }) c.in_err-act.ensures.err)
 
 pub returns-clause-ok : goal.returns-clause-ok
 unfolding done
 returns-clause-ok g c =
-    on_ok_weaker c.hear.result (λ does. does_both (taken (acted (g.B.Bench.calc c.args.bench.now) c.args.self.now.standing c.args.command.now) c.args.self.now)
+    on_ok_weaker c.hear.result (λ does. does_both (taken (turn (g.B.Bench.calc c.args.bench.now) c.args.self.now.standing c.args.command.now) c.args.self.now)
     heard c.act.new.self c.hear.new.self
     (record { lines = c.args.lines.now.items; count = g.B.Bench.count c.args.bench.now; log = g.B.Bench.log c.args.bench.now })
     (record { lines = c.act.new.lines.items; count = g.B.Bench.count c.act.new.bench; log = g.B.Bench.log c.act.new.bench })
@@ -29,7 +29,7 @@ returns-clause-ok g c =
 pub returns-clause-err : goal.returns-clause-err
 unfolding done
 returns-clause-err g c =
-    on_err_weaker c.hear.result (λ halts. halts_second (taken (acted (g.B.Bench.calc c.args.bench.now) c.args.self.now.standing c.args.command.now) c.args.self.now)
+    on_err_weaker c.hear.result (λ halts. halts_second (taken (turn (g.B.Bench.calc c.args.bench.now) c.args.self.now.standing c.args.command.now) c.args.self.now)
     heard c.act.new.self
     (record { lines = c.args.lines.now.items; count = g.B.Bench.count c.args.bench.now; log = g.B.Bench.log c.args.bench.now })
     (record { lines = c.act.new.lines.items; count = g.B.Bench.count c.act.new.bench; log = g.B.Bench.log c.act.new.bench })

@@ -96,6 +96,14 @@ impl Wave {
         }
     }
 
+    /// Whether a node is marked.
+    pub fn is_marked(&self, node: ObjId) -> bool
+        requires { node < length self.now.marks }
+        ensures { result ≡ is_marked self.now.marks node }
+    {
+        self.marks[node.place()]
+    }
+
     /// No node waits and none is marked. Takes time in proportion to the marked ones, and no memory.
     pub fn reset(&mut self)
         ensures marks { (o : ℕ) → is_marked self.new.marks o ≡ false }

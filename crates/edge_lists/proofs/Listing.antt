@@ -2,7 +2,7 @@
 use Rattle.std.proofs.Common.{◌≡◌, inl, inr, ℕ, zero, suc, Bool, true, false, ◌⊎◌, List, [], ◌∷◌, ◌++◌, length, get_or, ◌<◌, ◌≤◌, arith, refl, sym, ap, ◌∙◌, subst, Option, Some, None, cond, eqb}
 use Rattle.std.specs.Prelude.{◌↔◌, IsSome, IfSome, IsTrue, is_some}
 use Rattle.std.proofs.lemmas.Bool.{eqb-true, eq-eqb, cases_eq}
-use Rattle.std.proofs.lemmas.List.{length-append, get_or_append_left, get_or_past}
+use Rattle.std.proofs.lemmas.List.{length-append, length-map, get_or_append_left, get_or_past}
 use Rattle.slab.specs.Slab.{Slab}
 use Rattle.walks.specs.Walk.{Among, IsOnce}
 use Rattle.edge_lists.specs.declared.edge.Edge.{Edge}
@@ -11,7 +11,7 @@ use Rattle.edge_lists.specs.Ends.{node_of, after_of, slot_at, heads_at}
 use Rattle.edge_lists.specs.declared.edge.Heads.{Heads}
 use Rattle.edge_lists.proofs.Linking.{live_within}
 use Rattle.edge_lists.specs.Stands.{Stands, IsEdge, IsPairIn}
-use Rattle.edge_lists.specs.Walks.{GivesAll, GoesOn, number_or, node_at, slots_from}
+use Rattle.edge_lists.specs.Walks.{GivesAll, GoesOn, number_or, node_at, slots_from, steps_by}
 use Rattle.edge_lists.proofs.Stepping.{none_steps}
 use Rattle.edge_lists.proofs.Walking.{among_map, pair_of}
 use Rattle.edge_lists.specs.EdgesView.{EdgesView, IsPair, IsWhole, IsThere, HasSubject, HasObserver, subjects_in, subjects_of, observers_from, subjects_from, below, subject_lists}
@@ -216,3 +216,20 @@ observes v o (Some k) gives = (
   (λ yes. (node_at Subject v.slots k, pair_of Observer v.slots k o gives.of)),
   (λ p. refl),
 )
+
+-- a walk gives no more than there are slots
+steps_short : (next : ℕ → Option ℕ) (n : ℕ) (found : Option ℕ) → length (steps_by next n found) ≤ n
+unfolding steps_by
+steps_short next zero found = omega arith
+steps_short next (suc n) None = omega arith
+steps_short next (suc n) (Some k) = let s = steps_short next n (next k) in omega arith
+
+pub observers_short : (v : EdgesView) (found : Option ℕ) → length (observers_from v found) ≤ length v.slots
+observers_short v found =
+    let s = steps_short (λ k. after_of Subject (slot_at v.slots k)) (length v.slots) found in
+    let m = length-map (slots_from Subject v.slots found) (node_at Observer v.slots) in omega arith
+
+pub subjects_short : (v : EdgesView) (found : Option ℕ) → length (subjects_from v found) ≤ length v.slots
+subjects_short v found =
+    let s = steps_short (λ k. after_of Observer (slot_at v.slots k)) (length v.slots) found in
+    let m = length-map (slots_from Observer v.slots found) (node_at Subject v.slots) in omega arith

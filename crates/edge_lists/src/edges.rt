@@ -4,7 +4,7 @@ ghost use Rattle.edge_lists.specs.declared.edge.Side.TheVariants.{Subject, Obser
 ghost use Rattle.edge_lists.specs.Ends.{heads_at};
 ghost use Rattle.edge_lists.specs.Stands.{IsEdge};
 ghost use Rattle.edge_lists.specs.Walks.{GivesAll, GoesOn};
-ghost use Rattle.edge_lists.specs.EdgesView.{IsLive, IsPair, IsWhole, IsThere, AddsPair, TakesPair, TakesNode, no_pairs, with_node, pair_count};
+ghost use Rattle.edge_lists.specs.EdgesView.{IsLive, IsPair, IsWhole, IsThere, AddsPair, TakesPair, TakesNode, HasSubject, HasObserver, no_pairs, with_node, pair_count};
 
 use crate::edge::{Edge, EdgeId, Heads, Side};
 use crate::pairing::{find, make_room, put_in, take_node, take_pair};
@@ -219,6 +219,26 @@ impl Edges {
     {
         let pair = self.slots[edge.key()];
         (pair.subject.node, pair.observer.node)
+    }
+
+    /// The observer of a pair, and the next pair with the same subject, if there is one: one look at a slot.
+    pub fn observer_and_next(&self, edge: EdgeId) -> (ObjId, Option<EdgeId>)
+        requires { IsThere self.now edge }
+        ensures observer { HasObserver self.now edge result.0 }
+        ensures next { GoesOn Subject self.now.slots edge result.1 }
+    {
+        let pair = &self.slots[edge.key()];
+        (pair.observer.node, pair.subject.after)
+    }
+
+    /// The subject of a pair, and the next pair with the same observer, if there is one: one look at a slot.
+    pub fn subject_and_next(&self, edge: EdgeId) -> (ObjId, Option<EdgeId>)
+        requires { IsThere self.now edge }
+        ensures subject { HasSubject self.now edge result.0 }
+        ensures next { GoesOn Observer self.now.slots edge result.1 }
+    {
+        let pair = &self.slots[edge.key()];
+        (pair.subject.node, pair.observer.after)
     }
 
     /// What holds of all pairs between two calls.

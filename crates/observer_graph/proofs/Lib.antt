@@ -10,6 +10,7 @@ pub mod Marks
 pub mod Growth
 pub mod Least
 pub mod Linked
+pub mod Turns
 pub mod Waves
 pub mod Settling
 pub mod SubjectLists

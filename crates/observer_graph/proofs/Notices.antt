@@ -1,5 +1,5 @@
 -- Whom a notice makes noticed.
-use Rattle.std.proofs.Common.{◌≡◌, ◌⊎◌, inl, inr, ℕ, Bool, List, Option, None, refl, sym, ap, subst, ◌∙◌}
+use Rattle.std.proofs.Common.{◌≡◌, ◌⊎◌, inl, inr, ℕ, Bool, List, Option, None, sym, subst}
 use Rattle.std.specs.Prelude.{◌↔◌, slice_index_or}
 use Rattle.walks.specs.Walk.{Among}
 use Rattle.observer_graph.specs.declared.node.Node.{Node}

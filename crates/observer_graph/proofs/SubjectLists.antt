@@ -1,10 +1,10 @@
 -- Linked pairs as lists of subjects.
-use Rattle.std.proofs.Common.{◌≡◌, ◌⊎◌, inl, inr, ℕ, zero, suc, ◌+◌, ◌<◌, ◌≤◌, Bool, true, false, List, [], ◌∷◌, ◌++◌, length, map, refl, sym, ap, ◌∙◌, subst, arith, append-nil, Option, Some, None}
+use Rattle.std.proofs.Common.{◌≡◌, inl, inr, ℕ, zero, suc, ◌<◌, Bool, true, false, List, [], ◌∷◌, ◌++◌, length, map, refl, sym, ap, ◌∙◌, subst, arith, append-nil, Option, Some, None}
 use Rattle.std.specs.Prelude.{◌↔◌, is_some, IsSome, slice_index_or, slice_set}
 use Rattle.std.proofs.lemmas.Bool.{cases_eq}
 use Rattle.std.proofs.lemmas.List.{length-map, length-set, length-append, get_or_past, get_or-set_same, get_or-set_other}
 use Rattle.walks.specs.Walk.{Among, IsOnce}
-use Rattle.edge_lists.specs.EdgesView.{EdgesView, IsPair, IsLive, IsWhole, SameNodes, TakesNode, subjects_of, subject_lists, with_node, no_heads, below}
+use Rattle.edge_lists.specs.EdgesView.{EdgesView, IsPair, IsWhole, SameNodes, TakesNode, subjects_of, subject_lists, with_node, no_heads, below}
 use Rattle.edge_lists.proofs.Listing.{among_subjects, subject_list, length_below}
 use Rattle.observer_graph.specs.Lists.{list_at, is_marked, ArePairs, SetView, Extends, PairsView, IsLinked}
 

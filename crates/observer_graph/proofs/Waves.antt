@@ -1,13 +1,11 @@
--- Sets of nodes that grow until they are closed: whom a notice reaches, and what lies beneath a node.
+-- A set of nodes that grows until it is closed: whom a notice reaches.
 use Rattle.std.proofs.Common.{◌≡◌, ◌⊎◌, inl, inr, ℕ, ◌+◌, ◌<◌, ◌≤◌, Bool, true, List, [], ◌∷◌, ◌++◌, length, take, refl, sym, ◌∙◌, ap, subst, arith}
-use Rattle.std.specs.Prelude.{◌↔◌, ◌==◌, slice_index_or}
-use Rattle.std.proofs.lemmas.Bool.{eqb-true}
+use Rattle.std.specs.Prelude.{◌↔◌, slice_index_or}
 use Rattle.std.proofs.lemmas.List.{take_more, take_all, take-append-le}
 use Rattle.walks.specs.Walk.{Among, Below}
 use Rattle.walks.specs.Walk.Below.{next, beyond}
-use Rattle.walks.proofs.Ranks.{meets_on, meets_next}
 use Rattle.observer_graph.specs.Lists.{SetView, IsSet, Extends, list_at}
-use Rattle.observer_graph.specs.Walks.{IsFirst, Leads}
+use Rattle.observer_graph.specs.Walks.{IsFirst}
 use Rattle.observer_graph.proofs.Members.{among_last}
 
 -- the first nodes of a list are those of a longer one
@@ -137,64 +135,3 @@ module _ (subjects : List (List ℕ)) (from through : ℕ → Bool) where
       complete o (next {x = x} a here) = s.start o x a here
       complete o (beyond {x = x} a passes below) = s.closed o x a (subst (Among x) (sym (take_all at items past))
           (complete x below)) passes
-
--- What lies beneath a node, on its way: the set holds the node; who is in the set lies beneath; what each that
--- was looked at reads is there.
-pub record Descends (reads : ℕ → List ℕ) (from : ℕ) (items : List ℕ) (at : ℕ) : Type 0 where
-  pub first : Among from items
-  pub sound : (y : ℕ) → Among y items → Leads reads from y
-  pub closed : (y x : ℕ) → Among x (reads y) → Among y (take at items) → Among x items
-
-module _ (reads : ℕ → List ℕ) (from : ℕ) where
-  pub descends_first : (items : List ℕ) → ((o : ℕ) → Among o items ↔ (o ≡ from)) → Descends reads from items 0
-  descends_first items is = record {
-    first = (is from).1 refl;
-    sound = λ y a. inl (sym ((is y).0 a));
-    closed = λ y x a none. absurd (nothing items y none);
-  }
-    where
-      nothing : (xs : List ℕ) (x : ℕ) → Among x (take 0 xs) → ⊥
-      nothing [] x a = a
-      nothing (y ∷ ys) x a = a
-
-  -- one step further down
-  leads_on : (y x : ℕ) → Among x (reads y) → Leads reads from y → Leads reads from x
-  leads_on y x a (inl same) = inr (meets_next reads (λ z. true) x from
-      (subst (λ (z : ℕ). Among x (reads z)) (sym same) a))
-  leads_on y x a (inr below) = inr (meets_on reads (λ z. z == x) (λ z. true) y from refl
-      (meets_next reads (λ z. true) x y a) below)
-
-  pub descends_on : (wave wave2 : SetView) (at i : ℕ) → at < length wave.items → i ≡ slice_index_or wave.items at i
-      → Among i wave.items → Extends wave wave2 (λ o. Among o (reads i))
-      → Descends reads from wave.items at → Descends reads from wave2.items (at + 1)
-  descends_on wave wave2 at i low is here grown s = record {
-    first = (grown.items from).1 (inl s.first);
-    sound = λ y a. elim ((grown.items y).0 a) [
-      | inl was ↦ s.sound y was
-      | inr new ↦ leads_on i y new (s.sound i here)
-    ];
-    closed = λ y x a looked. (grown.items x).1 (by_case y x a (split y looked));
-  }
-    where
-      split : (y : ℕ) → Among y (take (at + 1) wave2.items) → Among y (take at wave.items) ⊎ (y ≡ i)
-      split y a = (among_last y (take at wave.items) i).0
-          (subst (Among y) (front_is wave.items wave2.items grown.end.0 at i low is grown.end.1) a)
-
-      by_case : (y x : ℕ) → Among x (reads y) → Among y (take at wave.items) ⊎ (y ≡ i) → Among x wave.items
-          ⊎ Among x (reads i)
-      by_case y x a (inl was) = inl (s.closed y x a was)
-      by_case y x a (inr same) = inr (subst (λ (z : ℕ). Among x (reads z)) same a)
-
-  pub descends_all : (items : List ℕ) (at to : ℕ) → length items ≤ at → Descends reads from items at
-      → Among to items ↔ Leads reads from to
-  descends_all items at to past s = (s.sound to, complete)
-    where
-      further : (o : ℕ) → Among o items → Below reads (λ y. y == to) (λ y. true) o → Among to items
-      further o here (next {x = x} a is) = subst (λ (z : ℕ). Among z items) (eqb-true x to is)
-          (s.closed o x a (subst (Among o) (sym (take_all at items past)) here))
-      further o here (beyond {x = x} a passes below) = further x
-          (s.closed o x a (subst (Among o) (sym (take_all at items past)) here)) below
-
-      complete : Leads reads from to → Among to items
-      complete (inl same) = subst (λ (z : ℕ). Among z items) same s.first
-      complete (inr below) = further from s.first below

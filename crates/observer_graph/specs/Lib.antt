@@ -6,3 +6,4 @@ pub mod Change
 pub mod Stands
 pub mod Walks
 pub mod Noticed
+pub mod Turns

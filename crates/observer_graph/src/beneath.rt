@@ -47,8 +47,8 @@ pub fn insert_edges(pairs: &Pairs, nodes: &[Option<Node>], node: ObjId, set: &mu
     }
 }
 
-// Whether the pairs in which a node observes are edges.
-fn has_edges(node: &Option<Node>) -> bool
+/// Whether the pairs in which a node observes are edges.
+pub fn has_edges(node: &Option<Node>) -> bool
     ensures { (subjects : List ℕ) → edges_as node.now subjects ≡ (if result then subjects else []) }
 {
     match node {

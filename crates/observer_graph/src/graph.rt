@@ -13,7 +13,7 @@ use crate::node::{Flags, Node, Role};
 use crate::node_set::NodeSet;
 use crate::pairs::Pairs;
 use crate::rising::{first_out, reserve_for, take_out};
-use crate::walk::{is_beneath, notice_all, tell_all, unsettle, unsettle_one};
+use crate::walk::{notice_all, tell_all, unsettle, unsettle_one};
 use desk_names::ObjId;
 use std::alloc::{AllocError, Global};
 use std::marker::Model;
@@ -154,7 +154,8 @@ impl Graph {
     }
 
     /// Whether a node is another, or the other lies beneath it by the edges of nodes that are no watchers. Takes no
-    /// memory, and time in proportion to what lies beneath the node.
+    /// memory, and time in proportion to the lesser of what lies beneath the node and what lies above the other: none
+    /// where nothing observes the other.
     pub fn reaches(&mut self, from: ObjId, to: ObjId) -> bool
         requires from { IsLive self.old from }
         requires to { IsLive self.old to }
@@ -162,9 +163,7 @@ impl Graph {
         ensures same { self.new ≡ self.old }
         ensures whole { IsWhole self.new }
     {
-        let answer = is_beneath(&self.pairs, &self.nodes, from, to, &mut self.wave);
-        self.wave.clear();
-        answer
+        self.pairs.leads(&self.nodes, from, to)
     }
 
     /// The first by creation of the watchers that were told and not handed out since; it is forgotten. None where

@@ -5,6 +5,7 @@
 #![tactic(auto)]
 
 mod beneath;
+mod by_turns;
 mod graph;
 mod lists;
 mod node;

@@ -5,7 +5,9 @@ ghost use Rattle.edge_lists.specs.EdgesView.{IsLive, IsPair, SameNodes};
 ghost use Rattle.observer_graph.specs.GraphView.{IsWatcher};
 ghost use Rattle.observer_graph.specs.Lists.{IsLinked, list_at, is_marked, ArePairs, Extends};
 ghost use Rattle.observer_graph.specs.Notice.{IsLeast};
+ghost use Rattle.observer_graph.specs.Walks.{Leads, edges_in};
 
+use crate::by_turns::{leads_by_turns, make_room};
 use crate::lists::lesser;
 use crate::node::{Node, is_watcher};
 use crate::node_set::NodeSet;
@@ -13,21 +15,28 @@ use desk_names::ObjId;
 use edge_lists::Edges;
 use std::alloc::{AllocError, Global};
 use std::marker::Model;
+use wave_queue::Wave;
 
 /// Pairs of a subject and one of its observers, each once. A clause sees the subjects of each node, and which nodes live.
 #[derive(Drop)]
 pub struct Pairs {
     edges: Edges,
+    // What lies beneath a node and what lies above one, during a call; empty between calls.
+    down: Wave,
+    up: Wave,
 }
 
 impl Model for Pairs {
-    ghost use Rattle.std.specs.Prelude.{map, is_some};
+    ghost use Rattle.std.specs.Prelude.{length, map, is_some};
     ghost use Rattle.edge_lists.specs.EdgesView.{subject_lists};
     ghost use Rattle.observer_graph.specs.Lists.{PairsView};
+    ghost use Rattle.observer_graph.specs.Turns.{IsFree};
 
     ghost Value = { PairsView };
 
     ghost view = { λ p. record { subjects = subject_lists p.edges; live = map is_some p.edges.nodes } };
+
+    ghost invariant = { λ p. IsFree (length p.edges.nodes) p.down × IsFree (length p.edges.nodes) p.up };
 }
 
 impl Pairs {
@@ -37,6 +46,8 @@ impl Pairs {
     {
         Pairs {
             edges: Edges::new(alloc),
+            down: Wave::new(alloc),
+            up: Wave::new(alloc),
         }
     }
 
@@ -57,6 +68,9 @@ impl Pairs {
         ensures err { OnErr result (self.new ≡ self.old) }
     {
         self.edges.whole();
+        let nodes = self.edges.len() + 1;
+        make_room(&mut self.down, nodes)?;
+        make_room(&mut self.up, nodes)?;
         self.edges.add_node()?;
         Ok(())
     }
@@ -75,6 +89,9 @@ impl Pairs {
         ensures err { OnErr result (self.new ≡ self.old) }
     {
         self.edges.whole();
+        let nodes = self.edges.len() + 1;
+        make_room(&mut self.down, nodes)?;
+        make_room(&mut self.up, nodes)?;
         self.edges.reserve_more(named.len())?;
         self.edges.add_node()?;
         link_all(&mut self.edges, node, named);
@@ -126,6 +143,22 @@ impl Pairs {
         self.edges.whole();
         self.edges.drop_node(node);
         self.edges.whole();
+    }
+
+    /// Whether a node is another, or the other lies beneath it by the edges of nodes that are no watchers. Takes time in
+    /// proportion to the lesser of what lies beneath the node and what lies above the other.
+    pub fn leads(&mut self, nodes: &[Option<Node>], from: ObjId, to: ObjId) -> bool
+        requires nodes { length nodes.now ≡ length self.old.subjects }
+        requires from { from < length nodes.now }
+        requires to { to < length nodes.now }
+        ensures answer { IsTrue result ↔ Leads (edges_in nodes.now self.old.subjects) from to }
+        ensures same { self.new ≡ self.old }
+    {
+        self.edges.whole();
+        let answer = leads_by_turns(&self.edges, nodes, from, to, &mut self.down, &mut self.up);
+        self.down.reset();
+        self.up.reset();
+        answer
     }
 
     /// Puts the observers of a node last into a set, each that is not in it. Takes time in proportion to their number.
@@ -186,8 +219,9 @@ fn insert_observers_of(edges: &Edges, node: ObjId, set: &mut NodeSet)
 {
     let mut at = edges.first_observer(node);
     while let Some(edge) = at {
-        set.insert(edges.ends(edge).1);
-        at = edges.next_observer(edge);
+        let (observer, next) = edges.observer_and_next(edge);
+        set.insert(observer);
+        at = next;
     }
 }
 
@@ -199,8 +233,9 @@ fn insert_subjects_of(edges: &Edges, node: ObjId, set: &mut NodeSet)
 {
     let mut at = edges.first_subject(node);
     while let Some(edge) = at {
-        set.insert(edges.ends(edge).0);
-        at = edges.next_subject(edge);
+        let (subject, next) = edges.subject_and_next(edge);
+        set.insert(subject);
+        at = next;
     }
 }
 
@@ -213,11 +248,11 @@ fn least_user_of(edges: &Edges, node: ObjId, nodes: &[Option<Node>]) -> Option<O
     let mut least: Option<ObjId> = None;
     let mut at = edges.first_observer(node);
     while let Some(edge) = at {
-        let observer = edges.ends(edge).1;
+        let (observer, next) = edges.observer_and_next(edge);
         if !is_watcher(&nodes[observer.place()]) {
             least = Some(lesser(least, observer));
         }
-        at = edges.next_observer(edge);
+        at = next;
     }
     least
 }

@@ -1,13 +1,12 @@
-// Whom a notice reaches, and what lies beneath a node: sets that grow until they are closed.
+// Whom a notice reaches: a set that grows until it is closed.
 ghost use Rattle.std.specs.Prelude.{◌≡◌, ◌↔◌, ◌⊎◌, ◌<◌, ◌≤◌, ℕ, vec_capacity, [], length, IsTrue, None, slice_index_or};
 ghost use Rattle.walks.specs.Walk.{Among};
 ghost use Rattle.observer_graph.specs.Lists.{is_marked};
 ghost use Rattle.observer_graph.specs.Notice.{IsTold, passes_of, unsettled};
 ghost use Rattle.observer_graph.specs.GraphView.{IsWatcher};
 ghost use Rattle.observer_graph.specs.Noticed.{AreNoticed};
-ghost use Rattle.observer_graph.specs.Walks.{IsFirst, IsWithin, Leads, edges_in, graph_of};
+ghost use Rattle.observer_graph.specs.Walks.{IsFirst, IsWithin, graph_of};
 
-use crate::beneath::insert_edges;
 use crate::node::{Node, Role, is_watcher};
 use crate::node_set::NodeSet;
 use crate::pairs::Pairs;
@@ -78,34 +77,6 @@ fn passes(node: &Option<Node>) -> bool
             Role::Watcher => false,
         },
     }
-}
-
-/// Whether a node is another, or the other lies beneath it by the edges of nodes that are no watchers, by an empty set
-/// that is filled with what lies beneath the node.
-pub fn is_beneath(
-    pairs: &Pairs,
-    nodes: &[Option<Node>],
-    from: ObjId,
-    to: ObjId,
-    wave: &mut NodeSet,
-) -> bool
-    requires within { IsWithin pairs.now.subjects (length nodes.now) }
-    requires pairs { length pairs.now.subjects ≡ length nodes.now }
-    requires wave { length wave.old.marks ≡ length nodes.now }
-    requires from { from < length nodes.now }
-    requires to { to < length nodes.now }
-    requires empty { wave.old.items ≡ [] }
-    ensures answer { IsTrue result ↔ Leads (edges_in nodes.now pairs.now.subjects) from to }
-    ensures room { length wave.new.marks ≡ length wave.old.marks }
-{
-    wave.insert(from);
-    let mut at: usize = 0;
-    while at < wave.len() {
-        let node = wave.get(at);
-        insert_edges(pairs, nodes, node, wave);
-        at += 1;
-    }
-    wave.contains(to)
 }
 
 /// The watchers among those who were told are remembered, by creation.

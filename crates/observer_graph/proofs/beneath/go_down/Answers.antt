@@ -1,12 +1,11 @@
-use Rattle.std.proofs.Common.{◌∙◌, ℕ, inl, inr, Bool, List, None, length, sym, subst, ap, refl, arith, ◌+◌}
+use Rattle.std.proofs.Common.{◌∙◌, ℕ, inl, inr, Bool, None, length, sym, subst, ap, refl, arith, ◌+◌}
 use Rattle.std.specs.Prelude.{not, slice_index_or}
 use Rattle.std.proofs.lemmas.Bool.{eqb-true, eq-eqb, false≢true}
 use Rattle.std.proofs.lemmas.Option.{get_or_from_slice_get, slice_get_within}
 use Rattle.walks.specs.Walk.{Among}
-use Rattle.observer_graph.specs.Lists.{SetView, Extends, list_at}
+use Rattle.observer_graph.specs.Lists.{SetView}
 use Rattle.observer_graph.specs.Walks.{edges_in}
 use Rattle.observer_graph.specs.Late.{frozen_of}
-use Rattle.observer_graph.proofs.Edges.{edge_pair}
 use Rattle.observer_graph.proofs.Members.{among_item}
 use Rattle.observer_graph.proofs.Marks.{marked_within}
 use Rattle.observer_graph.proofs.Exposed.{GoesOn, Sinks, sinks_first, sinks_on, sinks_past, sinks_all}

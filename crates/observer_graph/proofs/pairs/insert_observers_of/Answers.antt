@@ -1,4 +1,4 @@
-use Rattle.std.proofs.Common.{◌≡◌, ◌⊎◌, inl, inr, ◌<◌, ◌∙◌, ap, sym, subst, refl, arith, ℕ, List, ◌∷◌, length, Option, Some, None}
+use Rattle.std.proofs.Common.{◌≡◌, inl, inr, ◌∙◌, ap, sym, subst, arith, ℕ, List, Option}
 use Rattle.std.specs.Prelude.{IfSome}
 use Rattle.walks.specs.Walk.{Among}
 use Rattle.edge_lists.specs.EdgesView.{IsPair, HasSubject, observers_from}
@@ -15,24 +15,24 @@ loop-at-init c = record {
   extends = extends_none_of c.args.set.now (λ o. IsPair c.args.edges.now c.args.node o × Among o c.args.set.now.items) (λ o p. p.1);
 }
 
-pub ends-requires : goal.ends-requires
-ends-requires c = subject_there c.args.edges.now c.in-Some.edge c.args.node
+pub observer_and_next-observer-requires : goal.observer_and_next-observer-requires
+observer_and_next-observer-requires c = subject_there c.args.edges.now c.in-Some.edge c.args.node
     (subst (λ (f : Option ℕ). IfSome f (λ edge. HasSubject c.args.edges.now edge c.args.node)) c.in-Some.is c.loop-at.invariant.of)
 
 pub insert-requires : goal.insert-requires
 insert-requires c =
     let has = subst (λ (f : Option ℕ). IfSome f (λ edge. HasSubject c.args.edges.now edge c.args.node)) c.in-Some.is c.loop-at.invariant.of in
-    let pair = edge_ahead c.args.edges.now c.in-Some.edge c.args.node c.ends.result.0 c.ends.result.1 has c.ends.ensures in
-    let w = c.requires.within c.ends.result.1 pair in let l = c.loop-at.invariant.extends.room in omega arith
+    let pair = edge_ahead c.args.edges.now c.in-Some.edge c.args.node c.args.node c.observer_and_next-observer.result.0 has (record { subject = has; observer = c.observer_and_next-observer.ensures.observer }) in
+    let w = c.requires.within c.observer_and_next-observer.result.0 pair in let l = c.loop-at.invariant.extends.room in omega arith
 
 pub loop-at-preserved : goal.loop-at-preserved
 loop-at-preserved c =
     let is = ap (observers_from c.args.edges.now) c.in-Some.is in
     let has = subst (λ (f : Option ℕ). IfSome f (λ edge. HasSubject c.args.edges.now edge c.args.node)) c.in-Some.is c.loop-at.invariant.of in
-    let step = is ∙ observers_step c.args.edges.now c.in-Some.edge c.ends.result.0 c.ends.result.1 c.next_observer-at.result c.next_observer-at.ensures c.ends.ensures in
-    let pair = edge_ahead c.args.edges.now c.in-Some.edge c.args.node c.ends.result.0 c.ends.result.1 has c.ends.ensures in
+    let step = is ∙ observers_step c.args.edges.now c.in-Some.edge c.args.node c.observer_and_next-observer.result.0 c.observer_and_next-observer.result.1 c.observer_and_next-observer.ensures.next (record { subject = has; observer = c.observer_and_next-observer.ensures.observer }) in
+    let pair = edge_ahead c.args.edges.now c.in-Some.edge c.args.node c.args.node c.observer_and_next-observer.result.0 has (record { subject = has; observer = c.observer_and_next-observer.ensures.observer }) in
     record {
-      of = subject_next c.args.edges.now c.in-Some.edge c.args.node c.next_observer-at.result c.next_observer-at.ensures has;
+      of = subject_next c.args.edges.now c.in-Some.edge c.args.node c.observer_and_next-observer.result.1 c.observer_and_next-observer.ensures.next has;
       ahead = λ o a. c.loop-at.invariant.ahead o (subst (λ (xs : List ℕ). Among o xs) (sym step) (inr a));
       all = λ o p. elim (c.loop-at.invariant.all o p) [
         | inl on ↦ inl ((c.insert.ensures.extends.items o).1 (inl on))
@@ -42,7 +42,7 @@ loop-at-preserved c =
         ]
       ];
       extends = extends_on c.args.set.now c.loop-at.set c.insert.new.self
-          (λ o. IsPair c.args.edges.now c.args.node o × Among o c.loop-at.set.items) (λ o. o ≡ c.ends.result.1)
+          (λ o. IsPair c.args.edges.now c.args.node o × Among o c.loop-at.set.items) (λ o. o ≡ c.observer_and_next-observer.result.0)
           (λ o. IsPair c.args.edges.now c.args.node o × Among o c.insert.new.self.items)
           (λ o either. elim either [
             | inl p ↦ (p.0, (c.insert.ensures.extends.items o).1 (inl p.1))

@@ -1,4 +1,4 @@
-use Rattle.std.proofs.Common.{◌≡◌, ◌⊎◌, inl, inr, ◌<◌, ◌∙◌, ap, sym, subst, refl, arith, ℕ, List, ◌∷◌, length, Option, Some, None}
+use Rattle.std.proofs.Common.{◌≡◌, inl, inr, ◌∙◌, ap, sym, subst, arith, ℕ, List, Option}
 use Rattle.std.specs.Prelude.{IfSome}
 use Rattle.walks.specs.Walk.{Among}
 use Rattle.edge_lists.specs.EdgesView.{IsPair, HasObserver, subjects_from}
@@ -15,24 +15,24 @@ loop-at-init c = record {
   extends = extends_none_of c.args.set.now (λ o. IsPair c.args.edges.now o c.args.node × Among o c.args.set.now.items) (λ o p. p.1);
 }
 
-pub ends-requires : goal.ends-requires
-ends-requires c = observer_there c.args.edges.now c.in-Some.edge c.args.node
+pub subject_and_next-subject-requires : goal.subject_and_next-subject-requires
+subject_and_next-subject-requires c = observer_there c.args.edges.now c.in-Some.edge c.args.node
     (subst (λ (f : Option ℕ). IfSome f (λ edge. HasObserver c.args.edges.now edge c.args.node)) c.in-Some.is c.loop-at.invariant.of)
 
 pub insert-requires : goal.insert-requires
 insert-requires c =
     let has = subst (λ (f : Option ℕ). IfSome f (λ edge. HasObserver c.args.edges.now edge c.args.node)) c.in-Some.is c.loop-at.invariant.of in
-    let pair = edge_beneath c.args.edges.now c.in-Some.edge c.args.node c.ends.result.0 c.ends.result.1 has c.ends.ensures in
-    let w = c.requires.within c.ends.result.0 pair in let l = c.loop-at.invariant.extends.room in omega arith
+    let pair = edge_beneath c.args.edges.now c.in-Some.edge c.args.node c.subject_and_next-subject.result.0 c.args.node has (record { subject = c.subject_and_next-subject.ensures.subject; observer = has }) in
+    let w = c.requires.within c.subject_and_next-subject.result.0 pair in let l = c.loop-at.invariant.extends.room in omega arith
 
 pub loop-at-preserved : goal.loop-at-preserved
 loop-at-preserved c =
     let is = ap (subjects_from c.args.edges.now) c.in-Some.is in
     let has = subst (λ (f : Option ℕ). IfSome f (λ edge. HasObserver c.args.edges.now edge c.args.node)) c.in-Some.is c.loop-at.invariant.of in
-    let step = is ∙ subjects_step c.args.edges.now c.in-Some.edge c.ends.result.0 c.ends.result.1 c.next_subject-at.result c.next_subject-at.ensures c.ends.ensures in
-    let pair = edge_beneath c.args.edges.now c.in-Some.edge c.args.node c.ends.result.0 c.ends.result.1 has c.ends.ensures in
+    let step = is ∙ subjects_step c.args.edges.now c.in-Some.edge c.subject_and_next-subject.result.0 c.args.node c.subject_and_next-subject.result.1 c.subject_and_next-subject.ensures.next (record { subject = c.subject_and_next-subject.ensures.subject; observer = has }) in
+    let pair = edge_beneath c.args.edges.now c.in-Some.edge c.args.node c.subject_and_next-subject.result.0 c.args.node has (record { subject = c.subject_and_next-subject.ensures.subject; observer = has }) in
     record {
-      of = observer_next c.args.edges.now c.in-Some.edge c.args.node c.next_subject-at.result c.next_subject-at.ensures has;
+      of = observer_next c.args.edges.now c.in-Some.edge c.args.node c.subject_and_next-subject.result.1 c.subject_and_next-subject.ensures.next has;
       ahead = λ o a. c.loop-at.invariant.ahead o (subst (λ (xs : List ℕ). Among o xs) (sym step) (inr a));
       all = λ o p. elim (c.loop-at.invariant.all o p) [
         | inl on ↦ inl ((c.insert.ensures.extends.items o).1 (inl on))
@@ -42,7 +42,7 @@ loop-at-preserved c =
         ]
       ];
       extends = extends_on c.args.set.now c.loop-at.set c.insert.new.self
-          (λ o. IsPair c.args.edges.now o c.args.node × Among o c.loop-at.set.items) (λ o. o ≡ c.ends.result.0)
+          (λ o. IsPair c.args.edges.now o c.args.node × Among o c.loop-at.set.items) (λ o. o ≡ c.subject_and_next-subject.result.0)
           (λ o. IsPair c.args.edges.now o c.args.node × Among o c.insert.new.self.items)
           (λ o either. elim either [
             | inl p ↦ (p.0, (c.insert.ensures.extends.items o).1 (inl p.1))

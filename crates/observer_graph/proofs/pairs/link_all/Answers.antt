@@ -1,8 +1,8 @@
-use Rattle.std.proofs.Common.{◌≡◌, ◌⊎◌, inl, inr, ◌+◌, ◌<◌, ◌∙◌, ap, sym, subst, refl, arith, ℕ, List, [], ◌∷◌, ◌++◌, length, take}
-use Rattle.std.specs.Prelude.{◌↔◌, IsSome, is_some}
+use Rattle.std.proofs.Common.{◌≡◌, ◌⊎◌, inl, inr, ◌+◌, ◌∙◌, ap, sym, subst, refl, arith, ℕ, List, [], ◌∷◌, ◌++◌, take}
+use Rattle.std.specs.Prelude.{◌↔◌}
 use Rattle.std.proofs.lemmas.List.{take_more, take_all}
 use Rattle.walks.specs.Walk.{Among}
-use Rattle.edge_lists.specs.EdgesView.{EdgesView, IsPair, IsLive, SameNodes}
+use Rattle.edge_lists.specs.EdgesView.{IsPair}
 use Rattle.observer_graph.proofs.Members.{among_item, among_last}
 use Rattle.observer_graph.proofs.Linked.{once_front}
 use Rattle.observer_graph.proofs.pairs.link_all.Goals as goal

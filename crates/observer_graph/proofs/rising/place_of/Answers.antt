@@ -1,4 +1,4 @@
-use Rattle.std.proofs.Common.{◌≡◌, ◌<◌, ◌≤◌, ◌+◌, ◌-◌, ◌/◌, ℕ, length, get_or, sym, arith}
+use Rattle.std.proofs.Common.{◌<◌, ◌+◌, ◌-◌, ◌/◌, ℕ, arith}
 use Rattle.observer_graph.proofs.Numbers.{rising_at}
 use Rattle.observer_graph.proofs.rising.place_of.Goals as goal
 

@@ -1,4 +1,4 @@
-use Rattle.std.proofs.Common.{◌≡◌, ◌∙◌, ℕ, true, false, List, sym, ap, subst, length, arith}
+use Rattle.std.proofs.Common.{◌∙◌, ℕ, List, sym, ap, subst, length, arith}
 use Rattle.std.proofs.lemmas.List.Edits.{length-insert}
 use Rattle.observer_graph.specs.Noticed.{IsPlace, is_at}
 use Rattle.observer_graph.proofs.Numbers.{put_there, stays_there}

@@ -1,4 +1,4 @@
-use Rattle.std.proofs.Common.{◌≡◌, ◌∙◌, ℕ, true, false, List, sym, ap, subst}
+use Rattle.std.proofs.Common.{◌∙◌, ℕ, List, sym, ap, subst}
 use Rattle.observer_graph.specs.Noticed.{IsPlace, is_at}
 use Rattle.observer_graph.proofs.Numbers.{taken_out, not_there}
 use Rattle.observer_graph.proofs.rising.take_out.Goals as goal

@@ -1,4 +1,4 @@
-use Rattle.std.proofs.Common.{◌≡◌, ◌<◌, ◌≤◌, ◌∙◌, ◌⊎◌, ℕ, List, None, length, take, refl, sym, ap, subst, arith}
+use Rattle.std.proofs.Common.{◌∙◌, ◌⊎◌, ℕ, List, None, length, sym, subst, arith}
 use Rattle.std.specs.Prelude.{◌↔◌, slice_index_or}
 use Rattle.std.proofs.lemmas.Bool.{true≢false}
 use Rattle.walks.specs.Walk.{Among}

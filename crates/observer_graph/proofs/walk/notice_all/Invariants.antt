@@ -1,4 +1,4 @@
-use Rattle.std.proofs.Common.{◌≡◌, ◌⊎◌, ◌≤◌, ℕ, None, length, take, vec_capacity}
+use Rattle.std.proofs.Common.{◌⊎◌, ◌≤◌, ℕ, None, length, take, vec_capacity}
 use Rattle.std.specs.Prelude.{◌↔◌, slice_index_or}
 use Rattle.walks.specs.Walk.{Among}
 use Rattle.observer_graph.specs.GraphView.{IsWatcher}

@@ -1,7 +1,7 @@
 use Rattle.std.proofs.Common.{arith}
 use Rattle.std.proofs.lemmas.List.{length-append}
 use Rattle.observer_graph.proofs.Numbers.{noticed_more}
-use Rattle.std.proofs.Common.{◌∙◌, ◌<◌, ◌^◌, ◌++◌, [], ◌∷◌, ap, sym, subst, List, Bool, false, ℕ, length, Option, Some}
+use Rattle.std.proofs.Common.{◌∙◌, ◌<◌, ◌^◌, ◌++◌, [], ◌∷◌, ap, sym, subst, List, Bool, false, length, Option, Some}
 use Rattle.observer_graph.specs.declared.node.Node.{Node}
 use Rattle.observer_graph.specs.GraphView.{GraphView}
 use Rattle.observer_graph.proofs.Wholes.{stands_added, off_flags}

@@ -2,11 +2,9 @@ use Rattle.observer_graph.proofs.Numbers.{noticed_more}
 use Rattle.std.proofs.Common.{◌≡◌, ◌<◌, ◌^◌, ◌+◌, ◌∙◌, ℕ, inl, inr, [], ◌∷◌, ◌++◌, List, Bool, false, Option, Some, length, ap, sym, subst, arith}
 use Rattle.std.specs.Prelude.{◌↔◌}
 use Rattle.std.proofs.lemmas.List.{length-append}
-use Rattle.walks.specs.Walk.{Among, IsOnce}
+use Rattle.walks.specs.Walk.{Among}
 use Rattle.observer_graph.specs.declared.node.Node.{Node}
 use Rattle.observer_graph.specs.GraphView.{GraphView, IsLive}
-use Rattle.observer_graph.specs.Walks.{graph_of}
-use Rattle.observer_graph.specs.Change.{AddsNode}
 use Rattle.observer_graph.proofs.Wholes.{live_marked, live_within, off_flags}
 use Rattle.observer_graph.proofs.Linked.{stands_linked, adds_node}
 use Rattle.observer_graph.specs.Late.{frozen_count}

@@ -1,6 +1,5 @@
 use Rattle.std.specs.Prelude.{vec_capacity, slice_index_or, None}
 use Rattle.observer_graph.specs.Notice.{unsettled}
-use Rattle.observer_graph.specs.Change.{flagged}
 use Rattle.observer_graph.proofs.Numbers.{noticed_set, room_set}
 use Rattle.std.proofs.Common.{sym, subst, ◌∙◌}
 use Rattle.observer_graph.specs.GraphView.{GraphView, IsLive}

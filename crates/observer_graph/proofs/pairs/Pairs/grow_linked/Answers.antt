@@ -1,11 +1,13 @@
-use Rattle.std.proofs.Common.{◌≡◌, ◌⊎◌, inl, inr, ◌<◌, ◌+◌, ◌++◌, ◌∙◌, ap, sym, subst, arith, ℕ, Bool, List, [], ◌∷◌, length, map, true, Some}
-use Rattle.std.specs.Prelude.{is_some, IsSome, ◌↔◌}
+use Rattle.std.proofs.Common.{◌≡◌, ◌⊎◌, inl, inr, ◌<◌, ◌+◌, ◌∙◌, ap, sym, subst, arith, ℕ, [], ◌∷◌, length, map, Some}
+use Rattle.std.specs.Prelude.{is_some, ◌↔◌}
+use Rattle.std.proofs.lemmas.List.{length-append}
 use Rattle.walks.specs.Walk.{Among}
-use Rattle.edge_lists.specs.EdgesView.{EdgesView, IsPair, IsLive, IsWhole, subjects_of, subject_lists, with_node, no_heads}
+use Rattle.edge_lists.specs.EdgesView.{EdgesView, IsPair, IsLive, subjects_of, with_node, no_heads}
 use Rattle.edge_lists.proofs.Listing.{length_below}
 use Rattle.edge_lists.proofs.Linking.{live_within}
 use Rattle.observer_graph.specs.Lists.{is_marked, PairsView}
 use Rattle.observer_graph.proofs.SubjectLists.{linked_whole, listed_by, same_live, marks_some, marks_last, last_some, front_some}
+use Rattle.observer_graph.proofs.Turns.{free_as}
 use Rattle.observer_graph.proofs.pairs.Pairs.grow_linked.Goals as goal
 
 pub add_node-requires : goal.add_node-requires
@@ -64,3 +66,28 @@ returns-clause-live c =
 
 pub returns-clause-linked : goal.returns-clause-linked
 returns-clause-linked c = linked_whole c.link_all.new.edges c.whole-2.ensures
+
+pub make_room-requires : goal.make_room-requires
+make_room-requires c =
+    let r = subst (λ (v : PairsView). length v.subjects < 65536) (sym c.self.view_is) c.requires.room in
+    let l = length_below (subjects_of c.self.inside.edges) (length c.self.inside.edges.nodes) in
+    let n = c.len-nodes.ensures in omega arith
+
+pub make_room-requires-2 : goal.make_room-requires-2
+make_room-requires-2 c =
+    let r = subst (λ (v : PairsView). length v.subjects < 65536) (sym c.self.view_is) c.requires.room in
+    let l = length_below (subjects_of c.self.inside.edges) (length c.self.inside.edges.nodes) in
+    let n = c.len-nodes.ensures in omega arith
+
+pub invariant_of-self-2 : goal.invariant_of-self-2
+invariant_of-self-2 c =
+    let longer = length-append c.self.inside.edges.nodes (Some no_heads ∷ []) in
+    let grown = c.link_all.ensures.nodes.given ∙ ap (λ (v : EdgesView). length v.nodes) (c.in_ok-add_node.ensures.ok
+    ∙ ap with_node c.in_ok-reserve_more.ensures.ok) in
+    let n = c.len-nodes.ensures in
+    let same : length c.link_all.new.edges.nodes ≡ c.len-nodes.result + 1 = omega arith in (
+      free_as (c.len-nodes.result + 1) (length c.link_all.new.edges.nodes) c.make_room.new.wave same
+          (c.in_ok-make_room.ensures.room (length c.self.inside.edges.nodes) c.self.invariant.0),
+      free_as (c.len-nodes.result + 1) (length c.link_all.new.edges.nodes) c.make_room-2.new.wave same
+          (c.in_ok-make_room-2.ensures.room (length c.self.inside.edges.nodes) c.self.invariant.1),
+    )

@@ -1,10 +1,9 @@
-use Rattle.std.proofs.Common.{◌≡◌, ◌<◌, ◌∙◌, ap, sym, subst, arith, ℕ, List, length, true, map}
-use Rattle.std.specs.Prelude.{is_some}
+use Rattle.std.proofs.Common.{◌≡◌, ◌<◌, sym, subst, arith, length}
 use Rattle.walks.specs.Walk.{Among}
 use Rattle.edge_lists.specs.EdgesView.{IsPair, subjects_of, subject_lists}
 use Rattle.edge_lists.proofs.Listing.{length_below}
 use Rattle.edge_lists.proofs.Linking.{live_within}
-use Rattle.observer_graph.specs.Lists.{list_at, is_marked, PairsView}
+use Rattle.observer_graph.specs.Lists.{list_at, PairsView}
 use Rattle.observer_graph.proofs.SubjectLists.{among_listed, extends_as}
 use Rattle.observer_graph.proofs.pairs.Pairs.insert_observers.Goals as goal
 

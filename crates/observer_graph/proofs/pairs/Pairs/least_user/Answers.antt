@@ -1,4 +1,4 @@
-use Rattle.std.proofs.Common.{◌≡◌, ◌<◌, ◌∙◌, List, None, arith, length, subst, sym}
+use Rattle.std.proofs.Common.{◌≡◌, ◌<◌, None, arith, length, subst, sym}
 use Rattle.std.specs.Prelude.{slice_index_or}
 use Rattle.walks.specs.Walk.{Among}
 use Rattle.edge_lists.specs.EdgesView.{IsPair, subjects_of, subject_lists}

@@ -1,13 +1,12 @@
-use Rattle.std.proofs.Common.{◌≡◌, ◌⊎◌, inl, inr, ◌∙◌, ap, sym, subst, arith, ℕ, Bool, List, [], ◌∷◌, length, map, true}
-use Rattle.std.specs.Prelude.{is_some, OnOk, OnErr}
-use Rattle.std.proofs.lemmas.Result.{on_ok_weaker, on_err_weaker}
+use Rattle.std.proofs.Common.{◌≡◌, ◌⊎◌, inl, inr, ap, subst, length, map}
+use Rattle.std.specs.Prelude.{is_some}
+use Rattle.std.proofs.lemmas.Result.{on_ok_weaker}
 use Rattle.walks.specs.Walk.{Among}
-use Rattle.edge_lists.specs.EdgesView.{EdgesView, IsPair, IsWhole, AddsPair, subject_lists}
-use Rattle.edge_lists.proofs.Listing.{length_below, subject_list}
-use Rattle.edge_lists.proofs.Linking.{live_within}
-use Rattle.observer_graph.specs.Lists.{list_at, is_marked, ArePairs, PairsView}
+use Rattle.edge_lists.specs.EdgesView.{EdgesView, AddsPair}
+use Rattle.observer_graph.specs.Lists.{list_at, PairsView}
 use Rattle.observer_graph.proofs.Wholes.{either}
-use Rattle.observer_graph.proofs.SubjectLists.{among_listed, linked_whole, listed_by, same_live, cut_live, marks_some, marks_last, with_node_lists}
+use Rattle.observer_graph.proofs.SubjectLists.{among_listed, linked_whole, listed_by, same_live}
+use Rattle.observer_graph.proofs.Turns.{free_as}
 use Rattle.observer_graph.proofs.pairs.Pairs.link.Goals as goal
 
 pub link-linked-requires-clause-new : goal.link-linked-requires-clause-new
@@ -30,3 +29,11 @@ returns-clause-live c = rw (← c.self.view_is) (either c.link-linked.result c.l
 
 pub returns-clause-linked : goal.returns-clause-linked
 returns-clause-linked c = linked_whole c.link-linked.new.self c.whole-2.ensures
+
+pub invariant_of-self : goal.invariant_of-self
+invariant_of-self c =
+    let same = either c.link-linked.result c.link-linked.ensures.ok c.link-linked.ensures.err
+    (λ adds. adds.nodes.given) (λ is. ap (λ (v : EdgesView). length v.nodes) is) in (
+      free_as (length c.self.inside.edges.nodes) (length c.link-linked.new.self.nodes) c.self.inside.down same c.self.invariant.0,
+      free_as (length c.self.inside.edges.nodes) (length c.link-linked.new.self.nodes) c.self.inside.up same c.self.invariant.1,
+    )

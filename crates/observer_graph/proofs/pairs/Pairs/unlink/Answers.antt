@@ -1,13 +1,6 @@
-use Rattle.std.proofs.Common.{◌≡◌, ◌⊎◌, inl, inr, ◌∙◌, ap, sym, subst, arith, ℕ, Bool, List, [], ◌∷◌, length, map, true}
-use Rattle.std.specs.Prelude.{is_some, OnOk, OnErr}
-use Rattle.std.proofs.lemmas.Result.{on_ok_weaker, on_err_weaker}
-use Rattle.walks.specs.Walk.{Among}
-use Rattle.edge_lists.specs.EdgesView.{EdgesView, IsPair, IsWhole, AddsPair, subject_lists}
-use Rattle.edge_lists.proofs.Listing.{length_below, subject_list}
-use Rattle.edge_lists.proofs.Linking.{live_within}
-use Rattle.observer_graph.specs.Lists.{list_at, is_marked, ArePairs, PairsView}
-use Rattle.observer_graph.proofs.Wholes.{either}
-use Rattle.observer_graph.proofs.SubjectLists.{among_listed, linked_whole, listed_by, same_live, cut_live, marks_some, marks_last, with_node_lists}
+use Rattle.std.proofs.Common.{◌≡◌, length}
+use Rattle.observer_graph.proofs.SubjectLists.{among_listed, linked_whole, listed_by, same_live}
+use Rattle.observer_graph.proofs.Turns.{free_as}
 use Rattle.observer_graph.proofs.pairs.Pairs.unlink.Goals as goal
 
 pub returns-clause-was : goal.returns-clause-was
@@ -27,3 +20,10 @@ returns-clause-live c = rw (← c.self.view_is) (same_live c.self.inside.edges c
 
 pub returns-clause-linked : goal.returns-clause-linked
 returns-clause-linked c = linked_whole c.unlink-was.new.self c.whole-2.ensures
+
+pub invariant_of-self : goal.invariant_of-self
+invariant_of-self c =
+    let same = c.unlink-was.ensures.pair.nodes.given in (
+      free_as (length c.self.inside.edges.nodes) (length c.unlink-was.new.self.nodes) c.self.inside.down same c.self.invariant.0,
+      free_as (length c.self.inside.edges.nodes) (length c.unlink-was.new.self.nodes) c.self.inside.up same c.self.invariant.1,
+    )

@@ -7,7 +7,7 @@ use Rattle.desk_terms.specs.declared.cause.Cause.{Cause}
 use Rattle.desk_terms.specs.declared.cause.Cause.TheVariants.{Unset, Empty, NoEngine, NoFixing, Before, Past, Pillar, Discount, Negative, RateRange, DateRange, TooLarge, Unpriced}
 use Rattle.desk_terms.specs.declared.asked.Mark.TheVariants.{Fresh, Frozen, Late, Held, Recalc}
 use Rattle.session_commands.specs.declared.refusal.Refusal.{Refusal}
-use Rattle.session_commands.specs.declared.refusal.Refusal.TheVariants.{Unknown, Taken, Kind, Cycle, InUse, FixingExists, TooMany, AlreadyRegistered, NotRegistered, Deferred, Unbuilt}
+use Rattle.session_commands.specs.declared.refusal.Refusal.TheVariants.{Unknown, Taken, Kind, Cycle, InUse, FixingExists, TooMany, AlreadyRegistered, NotRegistered, Deferred}
 use Rattle.price_report.specs.Line.{asked_line, df_line, refusal_line, over_line}
 
 abbrev pub ten_names : List (List ℕ)
@@ -30,7 +30,7 @@ dated_causes = NoFixing 2 (pos 19_774) ∷ Before 1 (pos 19_723) ∷ Past 1 (pos
 abbrev pub refusals : List Refusal
 refusals =
     Unknown 6 ∷ Taken 0 ∷ Kind 7 ∷ Cycle ∷ InUse 4 ∷ FixingExists (pos 50_000_000) ∷ TooMany ∷ AlreadyRegistered
-    ∷ NotRegistered ∷ Deferred 5 ∷ Unbuilt ∷ []
+    ∷ NotRegistered ∷ Deferred 5 ∷ []
 
 -- the line of a refused ask of `s`
 abbrev pub cause_line : Cause → List ℕ
@@ -83,6 +83,6 @@ pub record AreWorked : Type 0 where
       codes "refused set unknown z\n" ∷ codes "refused set taken q\n" ∷ codes "refused set kind s\n"
       ∷ codes "refused set cycle\n" ∷ codes "refused set inuse h\n" ∷ codes "refused set exists 0.050000000\n"
       ∷ codes "refused set toomany\n" ∷ codes "refused set registered\n" ∷ codes "refused set notregistered\n"
-      ∷ codes "refused set deferred q\n" ∷ codes "refused set unbuilt\n" ∷ []
+      ∷ codes "refused set deferred q\n" ∷ []
   pub over : over_line ten_names 9 ≡ codes "over v\n"
   pub nobody : over_line ten_names 10 ≡ codes "over \n"

@@ -14,7 +14,7 @@ use Rattle.desk_terms.specs.Reading.{Outcome}
 use Rattle.day_number.specs.Day.{day_text}
 use Rattle.fixed_amount.specs.Decimal.{decimal_text}
 use Rattle.session_commands.specs.declared.refusal.Refusal.{Refusal}
-use Rattle.session_commands.specs.declared.refusal.Refusal.TheVariants.{Unknown, Taken, Kind, Cycle, InUse, FixingExists, TooMany, AlreadyRegistered, NotRegistered, Deferred, Unbuilt}
+use Rattle.session_commands.specs.declared.refusal.Refusal.TheVariants.{Unknown, Taken, Kind, Cycle, InUse, FixingExists, TooMany, AlreadyRegistered, NotRegistered, Deferred}
 use Rattle.session_commands.specs.Refusal.{refusal_word}
 use Rattle.price_report.specs.Namer.{name_text, object_text}
 
@@ -88,7 +88,6 @@ refusal_detail names of_object Cycle = []
 refusal_detail names of_object TooMany = []
 refusal_detail names of_object AlreadyRegistered = []
 refusal_detail names of_object NotRegistered = []
-refusal_detail names of_object Unbuilt = []
 
 -- `refused WORD REFUSAL` and a newline, WORD being the first word of the command
 unfoldable pub refusal_line : List (List ℕ) → List ℕ → List ℕ → Refusal → List ℕ

@@ -68,11 +68,8 @@ fn push_detail(
             line,
         ),
         Refusal::FixingExists(rate) => push_rate(alloc, *rate, line),
-        Refusal::Cycle
-        | Refusal::TooMany
-        | Refusal::AlreadyRegistered
-        | Refusal::NotRegistered
-        | Refusal::Unbuilt => Ok(()),
+        Refusal::Cycle | Refusal::TooMany | Refusal::AlreadyRegistered | Refusal::NotRegistered =>
+            Ok(()),
     }
 }
 

@@ -28,8 +28,6 @@ pub enum Refusal {
     NotRegistered,
     /// The object to compute again is late: the least source of that.
     Deferred(ObjId),
-    /// The command is of a part of the session that is not built.
-    Unbuilt,
 }
 
 impl Refusal {
@@ -48,7 +46,6 @@ impl Refusal {
             Refusal::AlreadyRegistered => b"registered",
             Refusal::NotRegistered => b"notregistered",
             Refusal::Deferred(_) => b"deferred",
-            Refusal::Unbuilt => b"unbuilt",
         }
     }
 }

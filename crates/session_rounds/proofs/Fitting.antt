@@ -1,5 +1,5 @@
 -- What holds of a session with watchers stays while they are told and run.
-use Rattle.std.proofs.Common.{◌≡◌, ℕ, zero, suc, ◌-◌, Option, Some, None, ◌<◌, ◌≤◌, true, List, [], ◌∷◌, ◌++◌, length, replicate, refl, sym, ap, subst, ◌∙◌, arith}
+use Rattle.std.proofs.Common.{◌≡◌, ℕ, zero, suc, ◌-◌, Option, Some, None, ◌<◌, ◌≤◌, ◌+◌, true, false, List, [], ◌∷◌, ◌++◌, length, replicate, refl, sym, ap, subst, ◌∙◌, arith}
 use Rattle.std.specs.Prelude.{slice_get, IfSome, IfNone, max}
 use Rattle.std.proofs.lemmas.List.{length-set, length-replicate, append-nil}
 use Rattle.std.proofs.lemmas.Option.{slice_get_within, slice_get-get_or}
@@ -46,6 +46,7 @@ unfolding with_notice
 fits_notice r nodes w name fits watcher named = record {
   counted = noted_tallies (notice_of (tally_at r.round name)) w name r.round ∙ fits.counted;
   room = fits.room;
+  spare = fits.spare;
   due = noted_due (IsDueOf r.standing) (notice_of (tally_at r.round name)) w name r.round fits.due (watcher.live, named);
   known = fits.known;
 }
@@ -55,7 +56,7 @@ pub fits_leaving : {P : Type 0} → (r : Running P) (nodes : ℕ) (rest : List �
     → new ≡ with_noticed rest r.standing → Fits P (record r { standing = new }) nodes
 fits_leaving {P} r nodes rest new fits is =
     subst (λ (p : Standing). Fits P (record r { standing = p }) nodes) (sym is)
-    (record { counted = fits.counted; room = fits.room; due = fits.due; known = fits.known })
+    (record { counted = fits.counted; room = fits.room; spare = fits.spare; due = fits.due; known = fits.known })
 
 ran_tallies : (o : Option DueWatcher) (at : ℕ) (round : Round) → length (run_of o at round).tallies ≡ length round.tallies
 ran_tallies None at round = refl
@@ -73,6 +74,7 @@ unfolding with_run
 fits_ran r nodes at picker fits = record {
   counted = ran_tallies (slice_get r.round.due at) at r.round ∙ fits.counted;
   room = fits.room;
+  spare = fits.spare;
   due = ran_due (IsDueOf r.standing) (slice_get r.round.due at) at r.round refl fits.due;
   known = fits.known;
 }
@@ -108,11 +110,12 @@ none_if due at (Some w) is low = tt
 
 -- no round runs
 pub fits_opened : {P : Type 0} → (r : Running P) (nodes : ℕ) (new : Standing) → Fits P r nodes → new.names ≡ r.standing.names
-    → new.of_object ≡ r.standing.of_object → AreKnown new
+    → new.of_object ≡ r.standing.of_object → (new.stopped ≡ false → r.standing.stopped ≡ false) → AreKnown new
     → Fits P (record r { standing = new; round = no_round (length r.round.tallies) }) nodes
-fits_opened r nodes new fits names objects known = record {
+fits_opened r nodes new fits names objects runs known = record {
   counted = length-replicate (length r.round.tallies) blank ∙ fits.counted ∙ sym (ap (λ (l : List (List ℕ)). length l) names);
   room = subst (λ (l : List ℕ). length l ≤ nodes) (sym objects) fits.room;
+  spare = λ running. subst (λ (l : List ℕ). length l + 1 ≤ nodes) (sym objects) (fits.spare (runs running));
   due = tt;
   known = known;
 }
@@ -143,11 +146,12 @@ begins names nodes new is = (
   ap (λ (v : RoundsView). v.nodes) is,
 )
 
-pub fits_new : {P : Type 0} → (p : Standing) (picker : P) (nodes : ℕ) → length p.of_object ≤ nodes → AreKnown p
+pub fits_new : {P : Type 0} → (p : Standing) (picker : P) (nodes : ℕ) → length p.of_object + 1 ≤ nodes → AreKnown p
     → Fits P (running picker p) nodes
 fits_new p picker nodes room known = record {
   counted = length-replicate (length p.names) blank;
-  room = room;
+  room = omega arith;
+  spare = λ running. room;
   due = tt;
   known = known;
 }

@@ -1,5 +1,6 @@
 -- How far a course has gone: begin, go on, end, halt.
 use Rattle.std.proofs.Common.{◌≡◌, ℕ, zero, suc, Bool, ◌+◌, ◌≤◌, List, [], ◌∷◌, ◌++◌, length, take, Option, Some, None, refl, sym, ap, ◌∙◌, arith}
+use Rattle.std.proofs.Math.Seq.{take-length}
 use Rattle.std.proofs.lemmas.List.{append_assoc, append-nil, length-append, take-append-le}
 use Rattle.desk_terms.specs.Bench.{counted, logged}
 use Rattle.desk_terms.specs.Reading.{Calc}
@@ -172,6 +173,24 @@ halts_at_once t out = record {
   most = omega arith;
   last = (omega arith, omega arith);
   out = λ i. record { lines = sym (append-nil out.lines) i; count = out.count; log = logged_none out.log i };
+}
+
+-- all of it was done, and then memory ran out
+pub does_halts : {P : Type 0} → (t : Course P) (new : Running P) (out_old out_new : Output) → Does P t new out_old out_new
+    → Halts P t out_old out_new
+does_halts t new out_old out_new does = record {
+  front = t.lines;
+  rest = [];
+  whole = sym (append-nil t.lines);
+  begun = length t.calls;
+  ended = length t.calls;
+  most = omega arith;
+  last = (omega arith, omega arith);
+  out = does.out ∙ λ i. record {
+    lines = out_old.lines ++ t.lines;
+    count = counted out_old.count (length t.calls);
+    log = logged out_old.log (sym (take-length t.calls) i);
+  };
 }
 
 -- nothing was written

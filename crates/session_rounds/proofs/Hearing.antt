@@ -1,7 +1,7 @@
 -- Notices are handed out one at a time.
-use Rattle.std.proofs.Common.{◌≡◌, ℕ, List, [], ◌∷◌, refl, sym, ap, subst, ◌∙◌}
+use Rattle.std.proofs.Common.{◌≡◌, ℕ, List, [], ◌∷◌, ◌++◌, refl, sym, ap, subst, ◌∙◌}
 use Rattle.session_model.specs.Standing.{Standing}
-use Rattle.session_model.specs.Course.{Running, Course, quiet, and_then, notice, noticed, heard, all_handed_out}
+use Rattle.session_model.specs.Course.{Running, Course, quiet, before, and_then, notice, noticed, heard, all_handed_out}
 use Rattle.session_rounds.specs.Goes.{Output, Does, Halts, Goes}
 use Rattle.session_rounds.proofs.Going.{goes_on, goes_halt, goes_end}
 
@@ -59,3 +59,16 @@ pub heard_ends : {P : Type 0} → (total : Course P) (r : Running P) (out_old ou
     → Goes P total (heard r) out_old out_new → r.standing.state.noticed ≡ [] → Does P total r out_old out_new
 heard_ends {P} total r out_old out_new goes is =
     goes_end total r out_old out_new (subst (λ (t : Course P). Goes P total t out_old out_new) (heard_none r is) goes)
+
+pub no_front : (first second : List ℕ) → first ++ second ≡ [] → (first ≡ []) × (second ≡ [])
+no_front [] second is = (refl, is)
+no_front (byte ∷ first) second is = absurd (cc)
+
+-- where no line is written in all, a notice on the way writes none
+pub silent_notice : {P : Type 0} → (total : Course P) (r q : Running P) (w : ℕ) (rest : List ℕ) (out_old out_now : Output)
+    → Goes P total (heard r) out_old out_now → r.standing.state.noticed ≡ w ∷ rest → q ≡ leaving rest r → total.lines ≡ []
+    → (notice w q).lines ≡ []
+unfolding and_then
+silent_notice {P} total r q w rest out_old out_now goes is same silent =
+    let whole = sym (ap (λ (t : Course P). t.lines) (goes.whole ∙ ap (before goes.lines goes.calls) (heard_first r w rest is))) ∙ silent in
+    ap (λ (z : Running P). (notice w z).lines) same ∙ (no_front _ _ (no_front goes.lines _ whole).1).0

@@ -196,6 +196,14 @@ module _ {P : Type 0} (m : Meaning P) where
             ∙ ap (λ (o : Option ℕ). before runs.lines runs.calls (and_then (all_done m (action_of now.standing o) (begun m now)) (runs_by m (k - runs.number - 1)))) is;
       }) halts
 
+-- where nobody is due nobody runs
+pub nobody_runs : {P : Type 0} → (r : Running P) (at w : ℕ) → watcher_at at r.round ≡ Some w → r.round.due ≡ [] → ⊥
+nobody_runs r at w is none = never at (subst (λ (due : List DueWatcher). watcher_of (slice_get due at) ≡ Some w) none is)
+  where
+    never : (at : ℕ) → watcher_of (slice_get [] at) ≡ Some w → ⊥
+    never zero is = cc
+    never (suc at) is = cc
+
 -- each name has 8 runs when a round begins
 pub opened_left : {P : Type 0} → (r : Running P) → runs_left (opened r).round ≤ 8 * length r.standing.names
 unfolding opened

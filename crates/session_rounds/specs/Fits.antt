@@ -1,5 +1,5 @@
 -- What holds of a session with watchers, also while a round runs in it.
-use Rattle.std.specs.Prelude.{◌≡◌, ◌≤◌, ℕ, true, length, All}
+use Rattle.std.specs.Prelude.{◌≡◌, ◌≤◌, ◌+◌, ℕ, true, false, length, All}
 use Rattle.desk_model.specs.Market.{slot_at, is_watcher}
 use Rattle.watch_rounds.specs.Due.{AreAll}
 use Rattle.watch_rounds.specs.declared.due.DueWatcher.{DueWatcher}
@@ -17,9 +17,11 @@ IsLive p w = is_watcher (slot_at p.state.market w) ≡ true
 abbrev pub IsDueOf : Standing → DueWatcher → Type 0
 IsDueOf p entry = IsLive p entry.watcher × (entry.name ≡ name_of p entry.watcher)
 
--- Each name is counted, each object has room, who is due is a live watcher, and the actions are of the session's names.
+-- Each name is counted, each object has room, and so has one more as long as the session is not stopped; who is due is a live
+-- watcher, and the actions are of the session's names.
 pub record Fits (P : Type 0) (r : Running P) (nodes : ℕ) : Type 0 where
   pub counted : length r.round.tallies ≡ length r.standing.names
   pub room : length r.standing.of_object ≤ nodes
+  pub spare : r.standing.stopped ≡ false → length r.standing.of_object + 1 ≤ nodes
   pub due : AreAll (IsDueOf r.standing) r.round.due
   pub known : AreKnown r.standing

@@ -1,5 +1,5 @@
 // The runs of watchers.
-ghost use Rattle.std.specs.Prelude.{◌≡◌, ◌≤◌, ◌<◌, ◌+◌, ◌^◌, ◌==◌, if◌then◌else◌, ℕ, false, length, [], Some, None, OnSome, IfSome, IfNone, OnOk, OnErr, slice_get, slice_index_or};
+ghost use Rattle.std.specs.Prelude.{◌≡◌, ◌≤◌, ◌<◌, ◌+◌, ◌^◌, ◌==◌, if◌then◌else◌, ℕ, true, false, length, [], Some, None, is_ok, OnSome, IfSome, IfNone, OnOk, OnErr, slice_get, slice_index_or};
 ghost use Rattle.desk_model.specs.Sound.{IsSound};
 ghost use Rattle.watch_rounds.specs.Round.{runs_left, watcher_at, with_run};
 ghost use Rattle.session_model.specs.Standing.{IsKnown, name_of};
@@ -34,6 +34,7 @@ impl<P: Picker> WatchedSession<P> {
         ensures stays { Stays (B.calc bench.old) self.old.standing self.new.standing }
         ensures running { OnOk result (self.new.standing.stopped ≡ false) }
         ensures ends { OnOk result (HasEnded self.new.round) }
+        ensures ready { self.old.round.due ≡ [] → is_ok result ≡ true }
     {
         while let Some(watcher) = self.begin_run() {
             self.run(watcher, bench, lines)?;

@@ -1,11 +1,12 @@
 // A session with watchers, and its rounds.
-ghost use Rattle.std.specs.Prelude.{◌≡◌, ◌≤◌, false, length, is_err, IfOk, OnOk, OnErr};
+ghost use Rattle.std.specs.Prelude.{◌≡◌, ◌≤◌, true, false, length, is_err, is_ok, IfOk, OnOk, OnErr};
 ghost use Rattle.desk_terms.specs.Reading.{Calc};
 ghost use Rattle.desk_model.specs.Sound.{IsSound};
 ghost use Rattle.session_model.specs.Standing.{IsKnown};
 ghost use Rattle.session_model.specs.Course.{running, opened, round_of};
 ghost use Rattle.session_rounds.specs.Fits.{AreKnown};
 ghost use Rattle.session_rounds.specs.Goes.{Does, Halts, Stays, HasEnded};
+ghost use Rattle.session_rounds.specs.Quiet.{IsQuiet};
 
 use crate::telling::drain;
 use desk_terms::Bench;
@@ -43,7 +44,7 @@ impl<P: Picker + Drop> WatchedSession<P> {
         ensures begins { IfOk result (λ watched. watched ≡ running picker session) }
     {
         let mut rounds = Rounds::new(alloc);
-        rounds.grow(session.names().len(), session.numbers())?;
+        rounds.grow(session.names().len(), session.numbers() + 1)?;
         Ok(WatchedSession {
             session,
             rounds,
@@ -81,6 +82,10 @@ impl<P: Picker> WatchedSession<P> {
         ensures halts { OnErr result (Halts P (round_of (record { calc = B.calc bench.old; at = P.at; after = P.after }) self.old command.now)
             (record { lines = lines.old.items; count = B.count bench.old; log = B.log bench.old })
             (record { lines = lines.new.items; count = B.count bench.new; log = B.log bench.new })) }
+        // A command that takes no memory and is not refused, that makes no watcher due and calls for no `over` line, is done
+        // though memory is short.
+        ensures ready { IsQuiet P (record { calc = B.calc bench.old; at = P.at; after = P.after }) (opened self.old) command.now
+            → is_ok result ≡ true }
         // The round ends: nobody is left to run, and no name ran more than eight times.
         ensures ends { OnOk result (HasEnded self.new.round) }
         ensures stays { Stays (B.calc bench.old) self.old.standing self.new.standing }
@@ -110,6 +115,8 @@ impl<P: Picker> WatchedSession<P> {
         ensures err { OnErr result (Halts P (round_of (record { calc = B.calc bench.old; at = P.at; after = P.after }) self.old command.now)
             (record { lines = lines.old.items; count = B.count bench.old; log = B.log bench.old })
             (record { lines = lines.new.items; count = B.count bench.new; log = B.log bench.new })) }
+        ensures ready { IsQuiet P (record { calc = B.calc bench.old; at = P.at; after = P.after }) (opened self.old) command.now
+            → is_ok result ≡ true }
         ensures stays { Stays (B.calc bench.old) self.old.standing self.new.standing }
         ensures running { OnOk result (self.new.standing.stopped ≡ false) }
         ensures ends { OnOk result (HasEnded self.new.round) }

@@ -1,5 +1,5 @@
 // Notices are handed out.
-ghost use Rattle.std.specs.Prelude.{◌≡◌, ◌++◌, ℕ, [], OnOk, OnErr};
+ghost use Rattle.std.specs.Prelude.{◌≡◌, ◌++◌, ℕ, true, [], is_ok, OnOk, OnErr};
 ghost use Rattle.desk_terms.specs.Reading.{Calc};
 ghost use Rattle.desk_model.specs.Sound.{IsSound};
 ghost use Rattle.session_model.specs.Standing.{name_of};
@@ -19,6 +19,7 @@ impl<P: Picker> WatchedSession<P> {
     pub(crate) fn hear(&mut self, lines: &mut Vec<u8>) -> Result<(), AllocError>
         ensures ok { OnOk result (Does P (heard self.old) self.new (lines_alone lines.old.items) (lines_alone lines.new.items)) }
         ensures err { OnErr result (Halts P (heard self.old) (lines_alone lines.old.items) (lines_alone lines.new.items)) }
+        ensures ready { (heard self.old).lines ≡ [] → is_ok result ≡ true }
         ensures names { self.new.standing.names ≡ self.old.standing.names }
         ensures actions { self.new.standing.actions ≡ self.old.standing.actions }
         ensures stopped { self.new.standing.stopped ≡ self.old.standing.stopped }
@@ -35,6 +36,7 @@ impl<P: Picker> WatchedSession<P> {
         requires { IsAWatcher self.old.standing watcher }
         ensures ok { OnOk result (Does P (notice watcher self.old) self.new (lines_alone lines.old.items) (lines_alone lines.new.items)) }
         ensures err { OnErr result (Halts P (notice watcher self.old) (lines_alone lines.old.items) (lines_alone lines.new.items)) }
+        ensures ready { (notice watcher self.old).lines ≡ [] → is_ok result ≡ true }
         ensures standing { self.new.standing ≡ self.old.standing }
     {
         let name = self.session.name_of(watcher);
@@ -47,6 +49,7 @@ impl<P: Picker> WatchedSession<P> {
     fn say(&self, notice: Notice, name: NameId, lines: &mut Vec<u8>) -> Result<(), AllocError>
         ensures ok { OnOk result (lines.new.items ≡ lines.old.items ++ over_lines self.now.standing.names name notice) }
         ensures err { OnErr result (lines.new.items ≡ lines.old.items) }
+        ensures ready { over_lines self.now.standing.names name notice ≡ [] → is_ok result ≡ true }
     {
         match notice {
             Notice::Due => Ok(()),

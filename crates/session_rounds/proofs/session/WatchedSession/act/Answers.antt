@@ -1,33 +1,46 @@
-use Rattle.std.proofs.Common.{◌≡◌, ◌≤◌, ℕ, sym, subst, arith}
-use Rattle.std.specs.Prelude.{max}
-use Rattle.std.proofs.Math.Nat.{le-max_right}
-use Rattle.std.proofs.lemmas.Result.{err_from_is_err_and}
+use Rattle.std.proofs.Common.{◌≡◌, ◌∙◌, length, sym, ap, subst, arith}
+use Rattle.std.specs.Prelude.{true}
+use Rattle.std.proofs.lemmas.Result.{on_err_weaker}
 use Rattle.watch_rounds.specs.Round.{Round, RoundsView}
+use Rattle.session_core.specs.Steps.{is_without_memory}
+use Rattle.session_model.specs.Standing.{Standing}
+use Rattle.session_model.specs.Resolve.{resolve}
 use Rattle.session_model.specs.Turn.{turn}
-use Rattle.session_model.specs.Course.{Running, undue}
+use Rattle.session_model.specs.Course.{Running, taken}
 use Rattle.session_rounds.specs.Fits.{Fits}
-use Rattle.session_rounds.proofs.Going.{halts_at_once}
-use Rattle.session_rounds.proofs.Fitting.{grown_same}
-use Rattle.session_rounds.proofs.Taken.{halts_taken, fits_acted}
+use Rattle.session_rounds.proofs.Going.{does_halts}
+use Rattle.session_rounds.proofs.Live.{acted_long}
+use Rattle.session_rounds.proofs.Taken.{does_taken, halts_taken, fits_acted, stopped_or_same, quiet_numbers}
 use Rattle.session_rounds.proofs.session.WatchedSession.act.Goals as goal
 
-pub returns-in_err-grow-clause-err : goal.returns-in_err-grow-clause-err
-returns-in_err-grow-clause-err g c =
-    let e = err_from_is_err_and c.from_residual.result c.from_residual.ensures.1 in rw e.1 (halts_at_once _ _)
+pub make_room-requires-clause-few : goal.make_room-requires-clause-few
+make_room-requires-clause-few g c =
+    let long = acted_long (g.B.Bench.calc c.args.bench.now) c.self.inside.session c.args.command.now in
+    let same = ap (λ (p : Standing). length p.of_object) c.in-Ok.ensures.acts.next in
+    let given = c.numbers-given.ensures.numbers in omega arith
 
-pub invariant_of-self-in-Ok : goal.invariant_of-self-in-Ok
-invariant_of-self-in-Ok g c =
+pub invariant_of-self : goal.invariant_of-self
+invariant_of-self g c =
     let r : Running g.row.P.Denot = record { standing = c.self.inside.session; round = c.self.inside.rounds.round; picker = c.self.inside.picker } in
-    let room = grown_same c.self.inside.rounds.round c.self.inside.rounds.nodes _ c.grow.new.self c.in_ok-grow.ensures.ok in
-    let more = most_of _ _ _ room.1 in
-    let objects = c.numbers.ensures.numbers in
-    let fits = fits_acted (g.B.Bench.calc c.args.bench.now) r c.args.command.now c.act.new.self c.self.inside.rounds.nodes c.grow.new.self.nodes
-    c.self.invariant c.watchers.ensures c.in-Ok.ensures.acts.next c.act.ensures.names c.act.ensures.actions (omega arith) in
-    subst (λ (v : RoundsView). Fits g.row.P.Denot (record r { standing = c.act.new.self; round = v.round }) v.nodes) (sym c.forget_idle.ensures)
-    (subst (λ (z : Round). Fits g.row.P.Denot (record r { standing = c.act.new.self; round = undue c.act.new.self.state z }) c.grow.new.self.nodes) (sym room.0) fits)
-  where
-    most_of : (a b n : ℕ) → n ≡ max a b → b ≤ n
-    most_of a b n is = subst (λ (m : ℕ). b ≤ m) (sym is) (le-max_right a b)
+    let kept = stopped_or_same c.make_room.result c.act.new.self c.make_room.new.session c.make_room.ensures.ok c.make_room.ensures.err in
+    let fits = fits_acted (g.B.Bench.calc c.args.bench.now) r c.args.command.now c.act.new.self c.make_room.new.session c.self.inside.rounds.nodes
+    c.make_room.new.rounds.nodes c.self.invariant c.watchers.ensures c.in-Ok.ensures.acts.next c.act.ensures.names c.act.ensures.actions kept
+    c.make_room.ensures.room c.make_room.ensures.spare in
+    subst (λ (z : Round). Fits g.row.P.Denot (record r { standing = c.make_room.new.session; round = z }) c.make_room.new.rounds.nodes)
+    (sym (c.make_room.ensures.round ∙ ap (λ (v : RoundsView). v.round) c.forget_idle.ensures)) fits
+
+pub returns-in-Ok-clause-err : goal.returns-in-Ok-clause-err
+returns-in-Ok-clause-err g c =
+    let r : Running g.row.P.Denot = record { standing = c.self.inside.session; round = c.self.inside.rounds.round; picker = c.self.inside.picker } in
+    let t = turn (g.B.Bench.calc c.args.bench.now) c.self.inside.session c.args.command.now in
+    rw (← c.self.view_is) (on_err_weaker c.make_room.result (λ stopped. does_halts (taken t r) _ _ _
+    (does_taken t r _ _ _ _ _ _ c.act.new.self c.in-Ok.ensures.acts)) c.make_room.ensures.err)
+
+pub returns-in-Ok-clause-ready : goal.returns-in-Ok-clause-ready
+returns-in-Ok-clause-ready g c = λ free.
+    let here = subst (λ (z : Running g.row.P.Denot). is_without_memory (resolve z.standing c.args.command.now) ≡ true) (sym c.self.view_is) free in
+    c.make_room.ensures.ready (ap (λ (p : Standing). length p.of_object) c.in-Ok.ensures.acts.next
+    ∙ ap length (quiet_numbers (g.B.Bench.calc c.args.bench.now) c.self.inside.session c.args.command.now here) ∙ sym c.numbers-given.ensures.numbers)
 
 pub returns-in-Err-clause-err : goal.returns-in-Err-clause-err
 returns-in-Err-clause-err g c =

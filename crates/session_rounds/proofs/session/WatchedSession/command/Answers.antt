@@ -1,9 +1,12 @@
-use Rattle.std.proofs.Common.{◌∙◌}
+use Rattle.std.proofs.Common.{◌≡◌, ◌∙◌, List, [], sym, ap, subst}
+use Rattle.std.specs.Prelude.{is_ok}
+use Rattle.std.proofs.lemmas.Bool.{false≢true}
 use Rattle.std.proofs.lemmas.Result.{err_from_is_err_and, on_ok_weaker, on_err_weaker}
 use Rattle.session_model.specs.Turn.{turn}
-use Rattle.session_model.specs.Course.{taken, heard, done}
+use Rattle.session_model.specs.Course.{Running, taken, heard, and_then, done}
 use Rattle.session_rounds.proofs.Going.{does_both, halts_first, halts_second, does_priced, halts_priced}
 use Rattle.session_model.proofs.Moments.{heard_calls}
+use Rattle.session_rounds.proofs.Hearing.{no_front}
 use Rattle.session_rounds.proofs.session.WatchedSession.command.Goals as goal
 
 pub returns-in_err-act-clause-err : goal.returns-in_err-act-clause-err
@@ -44,3 +47,12 @@ returns-clause-stays g c = record {
   actions = c.hear.ensures.actions ∙ c.act.ensures.stays.actions;
   sound = c.hear.ensures.sound (g.B.Bench.calc c.args.bench.now) c.act.ensures.stays.sound;
 }
+
+pub returns-in_err-act-clause-ready : goal.returns-in_err-act-clause-ready
+returns-in_err-act-clause-ready g c = λ free silent. absurd (false≢true (sym (ap is_ok c.in_err-act.was) ∙ c.act.ensures.ready free))
+
+pub returns-clause-ready : goal.returns-clause-ready
+unfolding done and_then
+returns-clause-ready g c = λ free silent.
+    c.hear.ensures.ready (ap (λ (r : Running g.row.P.Denot). (heard r).lines) c.in_ok-act.ensures.ok.next
+    ∙ (no_front (turn (g.B.Bench.calc c.args.bench.now) c.args.self.now.standing c.args.command.now).lines _ silent).1)

@@ -1,11 +1,13 @@
 use Rattle.std.proofs.Common.{◌∙◌, refl, sym, ap, subst}
+use Rattle.std.specs.Prelude.{is_ok}
+use Rattle.std.proofs.lemmas.Bool.{false≢true}
 use Rattle.std.proofs.lemmas.Result.{err_from_is_err_and}
 use Rattle.desk_model.specs.Sound.{IsSound}
 use Rattle.session_model.specs.Standing.{Standing}
 use Rattle.session_model.specs.Course.{Running, heard}
 use Rattle.session_rounds.specs.Goes.{Goes, lines_alone}
 use Rattle.session_rounds.proofs.Going.{goes_start}
-use Rattle.session_rounds.proofs.Hearing.{heard_more, heard_halts, heard_ends}
+use Rattle.session_rounds.proofs.Hearing.{heard_more, heard_halts, heard_ends, silent_notice}
 use Rattle.session_rounds.proofs.Fitting.{fits_leaving}
 use Rattle.session_rounds.proofs.session.WatchedSession.hear.Goals as goal
 
@@ -70,3 +72,14 @@ returns-clause-ok g c =
 pub returns-clause-sound : goal.returns-clause-sound
 returns-clause-sound g c = λ calc is. c.next_told.ensures.sound calc (subst (λ (z : Running g.row.P.Denot). IsSound calc z.standing.state)
     (sym c.self.view_is) (c.loop-watcher.invariant.sound calc is))
+
+pub returns-in_err-notice-clause-ready : goal.returns-in_err-notice-clause-ready
+returns-in_err-notice-clause-ready g c = λ silent.
+    let r : Running g.row.P.Denot = record { standing = c.self.inside.session; round = c.self.inside.rounds.round; picker = c.self.inside.picker } in
+    let so_far = subst (λ (z : Running g.row.P.Denot). Goes g.row.P.Denot (heard c.args.self.now) (heard z)
+    (lines_alone c.args.lines.now.items) (lines_alone c.loop-watcher.lines.items)) (sym c.self.view_is) c.loop-watcher.invariant.goes in
+    let q : Running g.row.P.Denot = record { standing = c.next_told.new.self; round = c.self.inside.rounds.round; picker = c.self.inside.picker } in
+    let left = ap (λ (p : Standing). let z : Running g.row.P.Denot = record r { standing = p } in z) c.in-Some.ensures.some.1 in
+    let none = silent_notice (heard c.args.self.now) r q c.in-Some.watcher c.next_told.new.self.state.noticed
+    (lines_alone c.args.lines.now.items) (lines_alone c.loop-watcher.lines.items) so_far c.in-Some.ensures.some.0 left silent in
+    absurd (false≢true (sym (ap is_ok c.in_err-notice.was) ∙ c.notice.ensures.ready none))

@@ -6,7 +6,7 @@ use Rattle.session_rounds.proofs.session.WatchedSession.open.Goals as goal
 
 pub invariant_of-self : goal.invariant_of-self
 invariant_of-self g c = rw (c.drain.ensures.drained, c.begin.ensures)
-    (fits_opened _ c.self.inside.rounds.nodes _ c.self.invariant refl refl c.self.invariant.known)
+    (fits_opened _ c.self.inside.rounds.nodes _ c.self.invariant refl refl (λ is. is) c.self.invariant.known)
 
 pub returns-clause-opens : goal.returns-clause-opens
 unfolding opened

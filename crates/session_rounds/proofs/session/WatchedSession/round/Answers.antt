@@ -1,4 +1,6 @@
-use Rattle.std.proofs.Common.{◌∙◌, sym, ap, subst, arith}
+use Rattle.std.proofs.Common.{◌≡◌, ◌∙◌, [], sym, ap, subst, arith}
+use Rattle.std.specs.Prelude.{is_ok}
+use Rattle.std.proofs.lemmas.Bool.{false≢true}
 use Rattle.std.proofs.lemmas.Result.{err_from_is_err_and, on_ok_weaker, on_err_weaker}
 use Rattle.desk_terms.specs.Reading.{Calc}
 use Rattle.watch_rounds.specs.Round.{runs_left}
@@ -6,6 +8,7 @@ use Rattle.session_model.specs.Standing.{IsKnown}
 use Rattle.session_model.specs.Course.{Running, Meaning, done, runs_by, most_runs, opened, round_of}
 use Rattle.session_model.proofs.Ends.{done_left}
 use Rattle.session_rounds.specs.Goes.{Does, Halts, Stays}
+use Rattle.session_rounds.specs.Quiet.{IsQuiet}
 use Rattle.session_rounds.proofs.Going.{does_both, halts_first, halts_second}
 use Rattle.session_rounds.proofs.Plays.{opened_left}
 use Rattle.session_rounds.proofs.session.WatchedSession.round.Goals as goal
@@ -81,3 +84,15 @@ returns-clause-stays g c =
       actions = stays.actions ∙ c.command.ensures.stays.actions ∙ ap (λ (r : Running g.row.P.Denot). r.standing.actions) c.open.ensures.opens;
       sound = stays.sound;
     }
+
+pub returns-in_err-command-clause-ready : goal.returns-in_err-command-clause-ready
+returns-in_err-command-clause-ready g c = λ quiet.
+    let m : Meaning g.row.P.Denot = record { calc = g.B.Bench.calc c.args.bench.now; at = g.P.Picker.at; after = g.P.Picker.after } in
+    let here = subst (λ (r : Running g.row.P.Denot). IsQuiet g.row.P.Denot m r c.args.command.now) (sym c.open.ensures.opens) quiet in
+    absurd (false≢true (sym (ap is_ok c.in_err-command.was) ∙ c.command.ensures.ready here.free here.silent))
+
+pub returns-clause-ready : goal.returns-clause-ready
+returns-clause-ready g c = λ quiet.
+    let m : Meaning g.row.P.Denot = record { calc = g.B.Bench.calc c.args.bench.now; at = g.P.Picker.at; after = g.P.Picker.after } in
+    let here = subst (λ (r : Running g.row.P.Denot). IsQuiet g.row.P.Denot m r c.args.command.now) (sym c.open.ensures.opens) quiet in
+    c.run_all.ensures.ready (ap (λ (r : Running g.row.P.Denot). r.round.due) c.in_ok-command.ensures.ok.next ∙ here.idle)

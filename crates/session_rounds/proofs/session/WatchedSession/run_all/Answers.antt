@@ -5,7 +5,7 @@ use Rattle.watch_rounds.specs.Round.{runs_left}
 use Rattle.session_model.specs.Course.{Running, Meaning, all_done, begun, action_of, runs_by}
 use Rattle.session_model.proofs.Ends.{all_done_left}
 use Rattle.session_rounds.specs.Goes.{Does, Halts, Stays}
-use Rattle.session_rounds.proofs.Plays.{begun_is, nobody_is, runs_start, runs_on, runs_end, runs_halt}
+use Rattle.session_rounds.proofs.Plays.{begun_is, nobody_is, nobody_runs, runs_start, runs_on, runs_end, runs_halt}
 use Rattle.session_rounds.proofs.session.WatchedSession.run_all.Goals as goal
 
 pub loop-watcher-init : goal.loop-watcher-init
@@ -15,6 +15,7 @@ loop-watcher-init g c =
       same = refl;
       stays = record { names = refl; actions = refl; sound = c.requires.sound };
       running = c.requires.running;
+      idle = λ none. none;
       runs = runs_start m c.args.self.now _;
     }
 
@@ -47,6 +48,7 @@ loop-watcher-preserved g c =
         sound = stays.sound;
       };
       running = c.in_ok-run.ensures.running;
+      idle = λ none. absurd (nobody_runs c.loop-watcher.self _ c.in-Some.watcher b.0 (c.loop-watcher.invariant.idle none));
       runs = runs_on m c.args.self.now c.loop-watcher.self c.run.new.self c.in-Some.watcher _ _ _ c.loop-watcher.invariant.runs b.0 falls does;
     }
 
@@ -65,6 +67,12 @@ returns-in_err-run-clause-err g c =
     c.loop-watcher.invariant.same c.in_err-run.ensures.err) in
     let e = err_from_is_err_and c.from_residual.result c.from_residual.ensures.1 in
     rw e.1 (runs_halt m c.args.self.now c.loop-watcher.self c.in-Some.watcher _ _ _ c.loop-watcher.invariant.runs b.0 falls halts)
+
+pub returns-in_err-run-clause-ready : goal.returns-in_err-run-clause-ready
+returns-in_err-run-clause-ready g c = λ none.
+    let m : Meaning g.row.P.Denot = record { calc = g.B.Bench.calc c.args.bench.now; at = g.P.Picker.at; after = g.P.Picker.after } in
+    let b = begun_is m c.loop-watcher.self c.begin_run.new.self c.in-Some.watcher c.begin_run.result c.in-Some.is c.begin_run.ensures.due c.begin_run.ensures.begun in
+    absurd (nobody_runs c.loop-watcher.self _ c.in-Some.watcher b.0 (c.loop-watcher.invariant.idle none))
 
 pub returns-clause-ok : goal.returns-clause-ok
 returns-clause-ok g c =

@@ -2,7 +2,7 @@
 ghost use Rattle.std.specs.Prelude.{◌≡◌, Option, option_map, map};
 ghost use Rattle.toml.specs.View.{view, table_view};
 ghost use Rattle.toml.specs.Data.{as_str};
-ghost use Rattle.market_tables.specs.Given.{Gives};
+ghost use Rattle.market_tables.specs.Given.{Gives, Says};
 ghost use Rattle.market_tables.specs.Table.{kind_at, kind_in, entry_of};
 
 use crate::table::{are_listed, fields_of, value_at};
@@ -12,7 +12,7 @@ use toml::{Table, Value};
 
 // The kind that a value names.
 fn kind_at<R: Kinds>(value: Option<&Value>) -> Result<R::Kind, TableFault>
-    ensures { Gives (λ k. k) result (kind_at R.kind_of (option_map (λ v. view v.now) value.entry)) }
+    ensures { Says (λ k. k) result (kind_at R.kind_of (option_map (λ v. view v.now) value.entry)) }
 {
     match value {
         Some(value) => match value.as_str() {
@@ -28,7 +28,7 @@ fn kind_at<R: Kinds>(value: Option<&Value>) -> Result<R::Kind, TableFault>
 
 // The kind of a table.
 fn kind_in<R: Kinds>(table: &Table) -> Result<R::Kind, TableFault>
-    ensures { Gives (λ k. k) result (kind_in R.kind_of (table_view table.now)) }
+    ensures { Says (λ k. k) result (kind_in R.kind_of (table_view table.now)) }
 {
     kind_at::<R>(value_at(table, "kind"))
 }

@@ -11,7 +11,7 @@ pub trait Places {
     ghost use Rattle.toml.specs.Data.{Data, Members};
     ghost use Rattle.toml.specs.View.{view, table_view};
     ghost use Rattle.market_tables.specs.declared.fault.MarketKind.{MarketKind};
-    ghost use Rattle.market_tables.specs.Given.{Gives};
+    ghost use Rattle.market_tables.specs.Given.{Gives, Says};
 
     /// When a key must stand in its table.
     type Presence: Copy + 'static;
@@ -28,7 +28,7 @@ pub trait Places {
 
     /// Whether a key must stand in the table, or the fault that the table's structure has there.
     fn must_stand(&self, presence: Self::Presence, table: &Table) -> Result<bool, TableFault>
-        ensures { Gives (λ must. must) result (required self.now presence (table_view table.now)) };
+        ensures { Says (λ must. must) result (required self.now presence (table_view table.now)) };
 
     /// The field of the value in a place, or its fault.
     fn field(&self, place: Self::Place, value: &Value) -> Result<Self::Field, TableFault>

@@ -1,8 +1,7 @@
 // What values of TOML and texts of decimals say, with the fault of each.
 ghost use Rattle.std.specs.Prelude.{◌≡◌, ◌≤◌, unsigned_abs, IfOk};
 ghost use Rattle.toml.specs.View.{view, items_view, table_view};
-ghost use Rattle.market_tables.specs.Given.{Gives};
-ghost use Rattle.market_tables.specs.Refusals.{TakesNone};
+ghost use Rattle.market_tables.specs.Given.{Says};
 ghost use Rattle.market_tables.specs.Values.{text_in, integer_in, integer_of, day_in, day_of, items_in, table_in, are_tables, tables_in, decimal_of};
 
 use crate::{MarketKind, TableFault};
@@ -12,7 +11,7 @@ use toml::{Table, Value};
 
 /// The text of a string, or `Key`.
 pub fn text_in(value: &Value) -> Result<&str, TableFault>
-    ensures { Gives (λ text. text.now) result (text_in (view value.now)) }
+    ensures { Says (λ text. text.now) result (text_in (view value.now)) }
 {
     match value.as_str() {
         Some(text) => Ok(text),
@@ -22,7 +21,7 @@ pub fn text_in(value: &Value) -> Result<&str, TableFault>
 
 // A number from the least to the most, or `Number`.
 fn integer_of(number: i64, least: i64, most: i64) -> Result<i64, TableFault>
-    ensures { Gives (λ n. n) result (integer_of least most number) }
+    ensures { Says (λ n. n) result (integer_of least most number) }
 {
     if least <= number && number <= most {
         return Ok(number);
@@ -32,7 +31,7 @@ fn integer_of(number: i64, least: i64, most: i64) -> Result<i64, TableFault>
 
 /// An integer from the least to the most: `Key` where the value is no integer, `Number` where it is another.
 pub fn integer_in(value: &Value, least: i64, most: i64) -> Result<i64, TableFault>
-    ensures { Gives (λ n. n) result (integer_in least most (view value.now)) }
+    ensures { Says (λ n. n) result (integer_in least most (view value.now)) }
 {
     match value.as_integer() {
         Some(number) => integer_of(number, least, most),
@@ -42,7 +41,7 @@ pub fn integer_in(value: &Value, least: i64, most: i64) -> Result<i64, TableFaul
 
 // The day of a text `YYYY-MM-DD`, or `Date`.
 fn day_of(text: &[u8]) -> Result<Day, TableFault>
-    ensures { Gives (λ day. day) result (day_of text.now) }
+    ensures { Says (λ day. day) result (day_of text.now) }
 {
     match read_day(text) {
         Some(day) => Ok(day),
@@ -52,14 +51,14 @@ fn day_of(text: &[u8]) -> Result<Day, TableFault>
 
 /// The day of a string: `Key` where the value is no string, `Date` where its text is no day.
 pub fn day_in(value: &Value) -> Result<Day, TableFault>
-    ensures { Gives (λ day. day) result (day_in (view value.now)) }
+    ensures { Says (λ day. day) result (day_in (view value.now)) }
 {
     day_of(text_in(value)?.as_bytes())
 }
 
 /// The items of an array, or `Key`.
 pub fn items_in(value: &Value) -> Result<&[Value], TableFault>
-    ensures { Gives (λ items. items_view items.now) result (items_in (view value.now)) }
+    ensures { Says (λ items. items_view items.now) result (items_in (view value.now)) }
 {
     match value.as_array() {
         Some(items) => Ok(items.as_slice()),
@@ -69,7 +68,7 @@ pub fn items_in(value: &Value) -> Result<&[Value], TableFault>
 
 /// The table that a value is, or `Key`.
 pub fn table_in(value: &Value) -> Result<&Table, TableFault>
-    ensures { Gives (λ table. table_view table.now) result (table_in (view value.now)) }
+    ensures { Says (λ table. table_view table.now) result (table_in (view value.now)) }
 {
     match value.as_table() {
         Some(table) => Ok(table),
@@ -91,7 +90,7 @@ fn are_tables(items: &[Value]) -> bool
 
 /// The tables of an array of tables, or `Key`.
 pub fn tables_in(value: &Value) -> Result<&[Value], TableFault>
-    ensures { Gives (λ items. items_view items.now) result (tables_in (view value.now)) }
+    ensures { Says (λ items. items_view items.now) result (tables_in (view value.now)) }
 {
     let items = items_in(value)?;
     if are_tables(items) {
@@ -103,8 +102,7 @@ pub fn tables_in(value: &Value) -> Result<&[Value], TableFault>
 /// The units of a decimal with at most so many places, up to the most units either way, or `Number`.
 pub fn decimal_of(text: &[u8], places: u8, most: u64) -> Result<i64, TableFault>
     requires { places ≤ 18 }
-    ensures value { Gives (λ units. units) result (decimal_of places most text.now) }
-    ensures memory { TakesNone result }
+    ensures value { Says (λ units. units) result (decimal_of places most text.now) }
     ensures bound { IfOk result (λ units. unsigned_abs units ≤ most) }
 {
     match read_decimal(text, places) {

@@ -1,7 +1,9 @@
 -- The records of a table, taken one by one.
-use Rattle.std.specs.Prelude.{ℕ, zero, suc, Bool, if◌then◌else◌, List, [], ◌∷◌, Result, Ok, Err}
+use Rattle.std.specs.Prelude.{◌≡◌, ℕ, zero, suc, Bool, if◌then◌else◌, List, [], ◌∷◌, Result, Ok, Err, IfErr}
 use Rattle.market_tables.specs.declared.fault.MarketKind.{MarketKind}
 use Rattle.market_tables.specs.declared.fault.MarketKind.TheVariants as fault
+use Rattle.market_tables.specs.declared.entries.EntryFault.{EntryFault}
+use Rattle.market_tables.specs.declared.entries.EntryFault.TheVariants as entries
 use Rattle.market_tables.specs.Given.{◌>>=◌}
 use Rattle.market_tables.specs.Entries.{at_entry, next_entry}
 
@@ -20,3 +22,7 @@ abbrev pub behind_records : {S : Type 0} → (List (List ℕ) → Bool) → (S �
 behind_records header behind s n [] = unless_headless s n
 behind_records header behind s n (row ∷ rows) =
     record_step header behind s n row >>= (λ t. behind_records header behind t (next_entry n) rows)
+
+-- a fault that the definition gives is what was returned, whatever the memory
+abbrev pub RefusesAt : {X Y : Type 0} → Result X EntryFault → Result Y (ℕ × MarketKind) → Type 0
+RefusesAt result told = IfErr told (λ e. result ≡ Err (entries.At e.0 e.1))

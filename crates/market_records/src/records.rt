@@ -3,7 +3,7 @@ ghost use Rattle.std.specs.Prelude.{◌≡◌};
 ghost use Rattle.csv.specs.Reading.{default_config, strip_bom, records};
 ghost use Rattle.csv.specs.Records.{fields_of};
 ghost use Rattle.market_tables.specs.Entries.{GivesAt};
-ghost use Rattle.market_records.specs.Records.{record_step, behind_records};
+ghost use Rattle.market_records.specs.Records.{record_step, behind_records, RefusesAt};
 
 use csv::{ByteRecord, ReaderBuilder};
 use market_tables::{EntryFault, MarketKind, TableFault, fault_at, next_entry};
@@ -15,6 +15,7 @@ pub trait TakesRecords {
     ghost use Rattle.csv.specs.Records.{fields_of};
     ghost use Rattle.market_tables.specs.declared.fault.MarketKind.{MarketKind};
     ghost use Rattle.market_tables.specs.Given.{Gives};
+    ghost use Rattle.market_tables.specs.Refusals.{Refuses};
 
     /// Whether a record is the stated first one.
     ghost header: { List (List ℕ) → Bool };
@@ -26,18 +27,21 @@ pub trait TakesRecords {
     fn is_header(row: &ByteRecord) -> bool
         ensures { result ≡ header (fields_of row.now) };
 
-    /// Makes what a record after the first says, or tells its first fault.
+    /// Makes what a record after the first says, or tells its first fault, whatever the memory.
     fn take(&mut self, row: &ByteRecord) -> Result<(), TableFault>
-        ensures { Gives (λ _. self.new) result (behind self.old (fields_of row.now)) };
+        ensures made { Gives (λ _. self.new) result (behind self.old (fields_of row.now)) }
+        ensures told { Refuses result (behind self.old (fields_of row.now)) };
 }
 
-// Takes the record with this number: the first, number 0, must be the stated one.
+// Takes the record with this number: the first, number 0, must be the stated one. A record that is refused is refused
+// whatever the memory.
 fn take_record<T: TakesRecords>(
     taker: &mut T,
     number: u32,
     row: &ByteRecord,
 ) -> Result<(), EntryFault>
-    ensures { GivesAt (λ _. taker.new) result (record_step T.header T.behind taker.old number (fields_of row.now)) }
+    ensures made { GivesAt (λ _. taker.new) result (record_step T.header T.behind taker.old number (fields_of row.now)) }
+    ensures told { RefusesAt result (record_step T.header T.behind taker.old number (fields_of row.now)) }
 {
     if number == 0 {
         if T::is_header(row) {

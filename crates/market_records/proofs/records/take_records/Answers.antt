@@ -43,7 +43,7 @@ loop-row-preserved g c =
       m.1,
       more.rest,
       more.all,
-      rw c.next_entry-number.ensures (goes_on g.T.TakesRecords.header g.T.TakesRecords.behind c.loop-row.taker c.take_record.new.taker c.loop-row.number row inv.6 more.rest _ more.first c.in-Ok-take_record.ensures inv.8),
+      rw c.next_entry-number.ensures (goes_on g.T.TakesRecords.header g.T.TakesRecords.behind c.loop-row.taker c.take_record.new.taker c.loop-row.number row inv.6 more.rest _ more.first c.in-Ok-take_record.ensures.made inv.8),
     )
 
 pub returns-in-Err-take_record : goal.returns-in-Err-take_record
@@ -56,7 +56,7 @@ returns-in-Err-take_record g c =
     let s = rw (c.in-Some.is, c.in-Ok.is) at ((c.next.ensures.steps inv.2 inv.0).0 inv.1) in
     let m = rows-more (λ (s : Bor (List ℕ)). Some s.now) a b row default_config a.state inv.4 inv.4 [] inv.3 inv.5 (refl, refl) s.0 in
     let more = one_more default_config a.state b.state inv.4 m.0 row inv.6 inv.7 m.2 in
-    stops g.T.TakesRecords.header g.T.TakesRecords.behind c.loop-row.taker c.loop-row.number row inv.6 more.rest _ c.in-Err-take_record.fault more.first c.in-Err-take_record.ensures inv.8
+    stops g.T.TakesRecords.header g.T.TakesRecords.behind c.loop-row.taker c.loop-row.number row inv.6 more.rest _ c.in-Err-take_record.fault more.first c.in-Err-take_record.ensures.made inv.8
 
 pub returns-then-number-eq0 : goal.returns-then-number-eq0
 returns-then-number-eq0 g c =

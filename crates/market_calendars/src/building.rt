@@ -1,6 +1,6 @@
 // Calendars as terms hold them.
 ghost use Rattle.std.specs.Prelude.{◌≡◌, option_copied};
-ghost use Rattle.market_tables.specs.Given.{Gives};
+ghost use Rattle.market_tables.specs.Given.{Gives, Says};
 ghost use Rattle.market_calendars.specs.Building.{base_of, bases_of, joined, built, calendar_named};
 
 use crate::places::MOST_PARTS;
@@ -35,7 +35,7 @@ fn bases_of(calendars: &Calendars, names: &[NameText]) -> Result<BaseList, Table
 
 // A joint calendar of one to eight parts.
 fn joined(rule: JointRule, bases: BaseList) -> Result<Calendar, TableFault>
-    ensures { Gives (λ calendar. calendar) result (joined rule bases) }
+    ensures { Says (λ calendar. calendar) result (joined rule bases) }
 {
     if bases.len() == 0 || bases.len() > MOST_PARTS {
         return Err(TableFault::Kind(MarketKind::Parts));

@@ -1,7 +1,7 @@
 // What the fields of a calendar's table make.
 ghost use Rattle.std.specs.Prelude.{◌≡◌, Option, false};
 ghost use Rattle.std.specs.List.{list_all};
-ghost use Rattle.market_tables.specs.Given.{Gives};
+ghost use Rattle.market_tables.specs.Given.{Gives, Says};
 ghost use Rattle.market_calendars.specs.Making.{name_in, weekend_in, days_in, rule_in, parts_in, bespoke_of, joint_of, calendar_of, entry_made};
 
 use crate::keys::CalendarKind;
@@ -16,7 +16,7 @@ use std::alloc::Global;
 const NO_FIELD: TableFault = TableFault::Kind(MarketKind::Key);
 
 fn name_in(field: Option<Field>) -> Result<NameText, TableFault>
-    ensures { Gives (λ name. name) result (name_in field) }
+    ensures { Says (λ name. name) result (name_in field) }
 {
     match field {
         Some(Field::Name(name)) => Ok(name),
@@ -25,7 +25,7 @@ fn name_in(field: Option<Field>) -> Result<NameText, TableFault>
 }
 
 fn weekend_in(field: Option<Field>) -> Result<Weekend, TableFault>
-    ensures { Gives (λ weekend. weekend) result (weekend_in field) }
+    ensures { Says (λ weekend. weekend) result (weekend_in field) }
 {
     match &field {
         Some(Field::Weekend(weekend)) => Ok(*weekend),
@@ -34,7 +34,7 @@ fn weekend_in(field: Option<Field>) -> Result<Weekend, TableFault>
 }
 
 fn days_in(field: Option<Field>) -> Result<DayList, TableFault>
-    ensures { Gives (λ days. days) result (days_in field) }
+    ensures { Says (λ days. days) result (days_in field) }
 {
     match field {
         Some(Field::Holidays(days)) => Ok(days),
@@ -43,7 +43,7 @@ fn days_in(field: Option<Field>) -> Result<DayList, TableFault>
 }
 
 fn rule_in(field: Option<Field>) -> Result<JointRule, TableFault>
-    ensures { Gives (λ rule. rule) result (rule_in field) }
+    ensures { Says (λ rule. rule) result (rule_in field) }
 {
     match field {
         Some(Field::Rule(rule)) => Ok(rule),
@@ -52,7 +52,7 @@ fn rule_in(field: Option<Field>) -> Result<JointRule, TableFault>
 }
 
 fn parts_in(field: Option<Field>) -> Result<PartNames, TableFault>
-    ensures { Gives (λ parts. parts) result (parts_in field) }
+    ensures { Says (λ parts. parts) result (parts_in field) }
 {
     match field {
         Some(Field::Parts(parts)) => Ok(parts),
@@ -77,7 +77,7 @@ fn bespoke_of(
 }
 
 fn joint_of(rule: Option<Field>, parts: Option<Field>) -> Result<NamedCalendar, TableFault>
-    ensures { Gives (λ calendar. calendar) result (joint_of rule parts) }
+    ensures { Says (λ calendar. calendar) result (joint_of rule parts) }
 {
     let rule = rule_in(rule)?;
     let parts = parts_in(parts)?;

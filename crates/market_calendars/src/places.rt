@@ -1,8 +1,9 @@
 // What the places of calendars take.
 ghost use Rattle.std.specs.Prelude.{◌≡◌, Option};
 ghost use Rattle.toml.specs.View.{view, items_view};
-ghost use Rattle.market_tables.specs.Given.{Gives};
-ghost use Rattle.market_calendars.specs.Places.{weekend_field, holidays_field, rule_field, part_count, parts_field, name_field, place_field};
+ghost use Rattle.market_tables.specs.Given.{Gives, Says};
+ghost use Rattle.market_tables.specs.Values.{day_in};
+ghost use Rattle.market_calendars.specs.Places.{text_pass, form_pass, known_pass, single_pass, weekend_field, holidays_field, rule_field, part_count, parts_field, name_field, place_field};
 
 use crate::keys::CalendarPlace;
 use crate::weekend::WeekdayElement;
@@ -38,7 +39,9 @@ impl Element for TextElement {
 
     ghost made = { λ _. text_pass };
 
-    fn element(&self, value: &Value) -> Result<(), TableFault> {
+    fn element(&self, value: &Value) -> Result<(), TableFault>
+        ensures { Says (λ _. tt) result (text_pass (view value.now)) }
+    {
         text_in(value)?;
         Ok(())
     }
@@ -55,7 +58,9 @@ impl Element for DayElement {
 
     ghost made = { λ _. day_in };
 
-    fn element(&self, value: &Value) -> Result<Day, TableFault> {
+    fn element(&self, value: &Value) -> Result<Day, TableFault>
+        ensures { Says (λ day. day) result (day_in (view value.now)) }
+    {
         day_in(value)
     }
 }
@@ -71,11 +76,34 @@ impl Element for FormElement {
 
     ghost made = { λ _. form_pass };
 
-    fn element(&self, value: &Value) -> Result<(), TableFault> {
+    fn element(&self, value: &Value) -> Result<(), TableFault>
+        ensures { Says (λ _. tt) result (form_pass (view value.now)) }
+    {
         if is_name(text_in(value)?.as_bytes()) {
             return Ok(());
         }
         Err(TableFault::Kind(MarketKind::Name))
+    }
+}
+
+// Refuses a name of no calendar.
+fn test_known(earlier: &Calendars, value: &Value) -> Result<(), TableFault>
+    ensures { Says (λ _. tt) result (known_pass earlier.now (view value.now)) }
+{
+    match earlier.named(text_in(value)?.as_bytes()) {
+        Some(_) => Ok(()),
+        None => Err(TableFault::Kind(MarketKind::Unknown)),
+    }
+}
+
+// Refuses a name of a joint calendar.
+fn test_single(earlier: &Calendars, value: &Value) -> Result<(), TableFault>
+    ensures { Says (λ _. tt) result (single_pass earlier.now (view value.now)) }
+{
+    match earlier.named(text_in(value)?.as_bytes()) {
+        Some(NamedCalendar::One(_)) => Ok(()),
+        Some(NamedCalendar::Joint { .. }) => Err(TableFault::Kind(MarketKind::Kind)),
+        None => Err(TableFault::Kind(MarketKind::Unknown)),
     }
 }
 
@@ -93,10 +121,7 @@ impl<'a> Element for KnownElement<'a> {
     ghost made = { λ e. known_pass e.earlier.now };
 
     fn element(&self, value: &Value) -> Result<(), TableFault> {
-        match self.earlier.named(text_in(value)?.as_bytes()) {
-            Some(_) => Ok(()),
-            None => Err(TableFault::Kind(MarketKind::Unknown)),
-        }
+        test_known(self.earlier, value)
     }
 }
 
@@ -114,11 +139,7 @@ impl<'a> Element for SingleElement<'a> {
     ghost made = { λ e. single_pass e.earlier.now };
 
     fn element(&self, value: &Value) -> Result<(), TableFault> {
-        match self.earlier.named(text_in(value)?.as_bytes()) {
-            Some(NamedCalendar::One(_)) => Ok(()),
-            Some(NamedCalendar::Joint { .. }) => Err(TableFault::Kind(MarketKind::Kind)),
-            None => Err(TableFault::Kind(MarketKind::Unknown)),
-        }
+        test_single(self.earlier, value)
     }
 }
 
@@ -158,7 +179,7 @@ fn holidays_field(alloc: Global, value: &Value) -> Result<Field, TableFault>
 }
 
 fn rule_field(value: &Value) -> Result<Field, TableFault>
-    ensures { Gives (λ f. f) result (rule_field (view value.now)) }
+    ensures { Says (λ f. f) result (rule_field (view value.now)) }
 {
     match text_in(value)? {
         "holidays" => Ok(Field::Rule(JointRule::Holidays)),
@@ -170,7 +191,7 @@ fn rule_field(value: &Value) -> Result<Field, TableFault>
 // Refuses an array of no parts or of too many.
 #[tactic(auto, using(crate::proofs::Counts::counted))]
 fn part_count(items: &[Value]) -> Result<(), TableFault>
-    ensures { Gives (λ _. items_view items.now) result (part_count (items_view items.now)) }
+    ensures { Says (λ _. items_view items.now) result (part_count (items_view items.now)) }
 {
     if items.is_empty() || items.len() > MOST_PARTS {
         return Err(TableFault::Kind(MarketKind::Parts));

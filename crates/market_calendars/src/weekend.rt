@@ -2,7 +2,7 @@
 ghost use Rattle.std.specs.Prelude.{◌≡◌, Option, false};
 ghost use Rattle.std.specs.List.{list_all};
 ghost use Rattle.toml.specs.View.{view};
-ghost use Rattle.market_tables.specs.Given.{Gives};
+ghost use Rattle.market_tables.specs.Given.{Says};
 ghost use Rattle.market_calendars.specs.Weekend.{weekday_of, weekday_in, has_weekday, flags_of, weekend_of};
 
 use market_tables::{Element, MarketKind, TableFault, text_in};
@@ -55,7 +55,9 @@ impl Element for WeekdayElement {
 
     ghost made = { λ _. weekday_in };
 
-    fn element(&self, value: &Value) -> Result<u8, TableFault> {
+    fn element(&self, value: &Value) -> Result<u8, TableFault>
+        ensures { Says (λ day. day) result (weekday_in (view value.now)) }
+    {
         match weekday_of(text_in(value)?) {
             Some(day) => Ok(day),
             None => Err(TableFault::Kind(MarketKind::Choice)),
@@ -92,7 +94,7 @@ fn all_named(flags: &[bool]) -> bool
 impl Weekend {
     /// The weekdays of a list, or the fault `Weekend` where these are all seven.
     pub(crate) fn of(days: &[u8]) -> Result<Weekend, TableFault>
-        ensures { Gives (λ w. w) result (weekend_of (flags_of days.now)) }
+        ensures { Says (λ w. w) result (weekend_of (flags_of days.now)) }
     {
         let named = flags_of(days);
         if all_named(&named) {

@@ -7,3 +7,4 @@ pub mod Table
 pub mod Fields
 pub mod Arrays
 pub mod Entries
+pub mod Faulty

@@ -1,7 +1,6 @@
 -- Each field of a helper and of a part is that of its key: rows, where a table says at each word what it says.
 use Rattle.std.proofs.Common.{◌≡◌, refl, map, ℕ, List, Option, Some, None, Ok, false}
 use Rattle.std.specs.Prelude.{codes, unwrap_or}
-use Rattle.day_number.specs.declared.tenors.Tenor.{Tenor}
 use Rattle.market_tables.specs.Given.{◌>>=◌}
 use Rattle.market_tables.specs.Table.{Key}
 use Rattle.market_fields.specs.declared.field.Field.{Field}

@@ -1,5 +1,5 @@
 -- What a field of one sort says, where it is there; one that another place gave is the fault Key.
-use Rattle.std.specs.Prelude.{ℕ, ℤ, Bool, List, [], Option, Some, None, Result, Ok, Err}
+use Rattle.std.specs.Prelude.{ℕ, ℤ, Bool, List, Option, Some, None, Result, Ok, Err}
 use Rattle.day_number.specs.declared.tenors.Tenor as tenors
 use Rattle.day_number.specs.declared.conventions.Convention as conventions
 use Rattle.year_parts.specs.declared.counters.Counter as counters
@@ -10,7 +10,6 @@ use Rattle.desk_terms.specs.declared.terms.HandleKind.{HandleKind}
 use Rattle.desk_terms.specs.declared.terms.Part.{Part}
 use Rattle.market_tables.specs.declared.fault.MarketKind.{MarketKind}
 use Rattle.market_tables.specs.declared.fault.MarketKind.TheVariants as fault
-use Rattle.market_tables.specs.Fields.{field_in}
 use Rattle.market_tables.specs.Given.{◌>>=◌}
 use Rattle.market_tables.specs.Values.{or_fault}
 use Rattle.market_fields.specs.declared.earlier.Named as earlier

@@ -1,5 +1,5 @@
 -- What the places of objects take that hold no tables (this project's profile).
-use Rattle.std.specs.Prelude.{ℕ, ℤ, pos, negsuc, unsigned_abs, ◌&&◌, int_le, if◌then◌else◌, List, Result, Ok, Err}
+use Rattle.std.specs.Prelude.{ℕ, ℤ, pos, negsuc, unsigned_abs, ◌&&◌, int_le, if◌then◌else◌, Result, Ok, Err}
 use Rattle.std.specs.Ordering.{int_eq}
 use Rattle.toml.specs.Data.{Data, as_integer, as_bool}
 use Rattle.desk_terms.specs.declared.kind.Wanted.{Wanted}

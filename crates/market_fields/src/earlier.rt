@@ -1,8 +1,9 @@
 // What stands earlier in a market.
-ghost use Rattle.std.specs.Prelude.{◌≡◌};
-ghost use Rattle.market_tables.specs.Given.{Gives};
-ghost use Rattle.market_tables.specs.Refusals.{TakesNone};
-ghost use Rattle.market_fields.specs.Earlier.{seen, named_object, untaken, new_name, served, calendar_of, index_in, index_terms};
+ghost use Rattle.std.specs.Prelude.{◌≡◌, IfOk};
+ghost use Rattle.desk_names.specs.Name.{IsName};
+ghost use Rattle.market_tables.specs.Given.{Gives, Says};
+ghost use Rattle.market_tables.specs.Refusals.{Refuses};
+ghost use Rattle.market_fields.specs.Earlier.{seen, named_object, new_name, served, calendar_of, index_in, index_terms};
 
 use desk_names::{NameId, Names, ObjId, is_name};
 use desk_terms::{IndexTerms, Kind, Terms, Wanted};
@@ -31,8 +32,7 @@ pub struct Earlier<'a> {
 impl<'a> Earlier<'a> {
     /// The object that a text names: `Name` where the text is no name, `Unknown` where it names nothing.
     pub fn named_object(&self, text: &[u8]) -> Result<Named, TableFault>
-        ensures object { Gives (λ n. n) result (named_object (seen self.now) text.now) }
-        ensures memory { TakesNone result }
+        ensures object { Says (λ n. n) result (named_object (seen self.now) text.now) }
     {
         if !is_name(text) {
             return Err(TableFault::Kind(MarketKind::Name));
@@ -49,21 +49,27 @@ impl<'a> Earlier<'a> {
         }
     }
 
-    /// The name, where no object has it, or `Taken`.
-    pub fn untaken(&self, name: NameText) -> Result<NameText, TableFault>
-        ensures { Gives (λ name. name) result (untaken (seen self.now) name) }
+    /// Tests a text for a new name: `Name` where it is no name, `Taken` where it names an object.
+    pub fn test_new(&self, text: &[u8]) -> Result<(), TableFault>
+        ensures name { Says (λ _. text.now) result (new_name (seen self.now) text.now) }
+        ensures form { IfOk result (λ _. IsName text.now) }
     {
-        if self.names.find(name.text()).is_some() {
+        if !is_name(text) {
+            return Err(TableFault::Kind(MarketKind::Name));
+        }
+        if self.names.find(text).is_some() {
             return Err(TableFault::Kind(MarketKind::Taken));
         }
-        Ok(name)
+        Ok(())
     }
 
-    /// The text as a new name: `Name` where it is no name, `Taken` where it names an object.
+    /// The text as a new name: `Name` where it is no name, `Taken` where it names an object, whatever the memory.
     pub(crate) fn new_name(&self, alloc: Global, text: &[u8]) -> Result<NameText, TableFault>
-        ensures { Gives (λ name. name) result (new_name (seen self.now) text.now) }
+        ensures name { Gives (λ name. name) result (new_name (seen self.now) text.now) }
+        ensures told { Refuses result (new_name (seen self.now) text.now) }
     {
-        self.untaken(NameText::read(alloc, text)?)
+        self.test_new(text)?;
+        NameText::read(alloc, text)
     }
 
     /// The calendar that a text names, in a copy: `Name` where the text is no name, `Unknown` where it names nothing.
@@ -75,7 +81,7 @@ impl<'a> Earlier<'a> {
 
     /// The terms of an object that is an index, or `Kind`.
     pub fn index_terms(&self, index: ObjId) -> Result<&IndexTerms, TableFault>
-        ensures { Gives (λ terms. terms.now) result (index_terms (seen self.now) index) }
+        ensures { Says (λ terms. terms.now) result (index_terms (seen self.now) index) }
     {
         match self.made.get(index.place().saturating_sub(1)) {
             Some((_, terms)) => index_in(terms),
@@ -86,7 +92,7 @@ impl<'a> Earlier<'a> {
 
 // The terms of an index among terms of any kind, or `Kind`.
 fn index_in(terms: &Terms) -> Result<&IndexTerms, TableFault>
-    ensures { Gives (λ terms. terms.now) result (index_in terms.now) }
+    ensures { Says (λ terms. terms.now) result (index_in terms.now) }
 {
     match terms {
         Terms::Index(terms, _) => Ok(terms),
@@ -104,8 +110,7 @@ fn index_in(terms: &Terms) -> Result<&IndexTerms, TableFault>
 
 /// The object, where it is what is wanted, or `Kind`.
 pub fn served(named: Named, wanted: Wanted) -> Result<ObjId, TableFault>
-    ensures object { Gives (λ object. object) result (served wanted named) }
-    ensures memory { TakesNone result }
+    ensures object { Says (λ object. object) result (served wanted named) }
 {
     if named.kind.serves(wanted) {
         return Ok(named.object);

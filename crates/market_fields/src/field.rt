@@ -1,7 +1,7 @@
 // What the keys of an object give, and the fields that are read in place.
 ghost use Rattle.std.specs.Prelude.{◌≡◌, Option, option_copied};
 ghost use Rattle.market_tables.specs.Fields.{field_in};
-ghost use Rattle.market_tables.specs.Given.{Gives};
+ghost use Rattle.market_tables.specs.Given.{Says};
 ghost use Rattle.market_tables.specs.Values.{or_fault};
 ghost use Rattle.market_tables.specs.declared.fault.MarketKind.TheVariants.{Key};
 ghost use Rattle.market_fields.specs.Field.{object_in, named_in, target_in, day_in, weight_in, count_in, tenor_in, rule_in, convention_in, flag_in, counter_in, notional_in, rate_in, sign_in, calendar_in};
@@ -55,7 +55,7 @@ fn field_at(fields: &[Option<Field>], at: usize) -> Option<&Field>
 
 /// What must be there, or `Key`.
 pub fn must<X: Drop>(value: Option<X>) -> Result<X, TableFault>
-    ensures { Gives (λ x. x) result (or_fault Key value) }
+    ensures { Says (λ x. x) result (or_fault Key value) }
 {
     match value {
         Some(x) => Ok(x),
@@ -65,7 +65,7 @@ pub fn must<X: Drop>(value: Option<X>) -> Result<X, TableFault>
 
 /// The calendar at a position, where the table has one.
 pub fn calendar_at(fields: &[Option<Field>], at: usize) -> Result<Option<&Calendar>, TableFault>
-    ensures { Gives option_copied result (calendar_in (field_in fields.now at)) }
+    ensures { Says option_copied result (calendar_in (field_in fields.now at)) }
 {
     match field_at(fields, at) {
         Some(Field::Calendar(calendar)) => Ok(Some(calendar)),
@@ -76,7 +76,7 @@ pub fn calendar_at(fields: &[Option<Field>], at: usize) -> Result<Option<&Calend
 
 /// The object at a position, where the table has one.
 pub fn object_at(fields: &[Option<Field>], at: usize) -> Result<Option<ObjId>, TableFault>
-    ensures { Gives (λ found. found) result (object_in (field_in fields.now at)) }
+    ensures { Says (λ found. found) result (object_in (field_in fields.now at)) }
 {
     match field_at(fields, at) {
         Some(Field::Object(object)) => Ok(Some(*object)),
@@ -87,7 +87,7 @@ pub fn object_at(fields: &[Option<Field>], at: usize) -> Result<Option<ObjId>, T
 
 /// The object with its kind at a position, where the table has one.
 pub fn named_at(fields: &[Option<Field>], at: usize) -> Result<Option<Named>, TableFault>
-    ensures { Gives (λ found. found) result (named_in (field_in fields.now at)) }
+    ensures { Says (λ found. found) result (named_in (field_in fields.now at)) }
 {
     match field_at(fields, at) {
         Some(Field::Named(named)) => Ok(Some(*named)),
@@ -98,7 +98,7 @@ pub fn named_at(fields: &[Option<Field>], at: usize) -> Result<Option<Named>, Ta
 
 /// The kind of target at a position, where the table has one.
 pub fn target_at(fields: &[Option<Field>], at: usize) -> Result<Option<HandleKind>, TableFault>
-    ensures { Gives (λ found. found) result (target_in (field_in fields.now at)) }
+    ensures { Says (λ found. found) result (target_in (field_in fields.now at)) }
 {
     match field_at(fields, at) {
         Some(Field::Target(target)) => Ok(Some(*target)),
@@ -109,7 +109,7 @@ pub fn target_at(fields: &[Option<Field>], at: usize) -> Result<Option<HandleKin
 
 /// The day at a position, where the table has one.
 pub fn day_at(fields: &[Option<Field>], at: usize) -> Result<Option<Day>, TableFault>
-    ensures { Gives (λ found. found) result (day_in (field_in fields.now at)) }
+    ensures { Says (λ found. found) result (day_in (field_in fields.now at)) }
 {
     match field_at(fields, at) {
         Some(Field::Day(day)) => Ok(Some(*day)),
@@ -120,7 +120,7 @@ pub fn day_at(fields: &[Option<Field>], at: usize) -> Result<Option<Day>, TableF
 
 /// The weight at a position, where the table has one.
 pub fn weight_at(fields: &[Option<Field>], at: usize) -> Result<Option<i64>, TableFault>
-    ensures { Gives (λ found. found) result (weight_in (field_in fields.now at)) }
+    ensures { Says (λ found. found) result (weight_in (field_in fields.now at)) }
 {
     match field_at(fields, at) {
         Some(Field::Weight(weight)) => Ok(Some(*weight)),
@@ -131,7 +131,7 @@ pub fn weight_at(fields: &[Option<Field>], at: usize) -> Result<Option<i64>, Tab
 
 /// The number of days at a position, where the table has one.
 pub fn count_at(fields: &[Option<Field>], at: usize) -> Result<Option<u8>, TableFault>
-    ensures { Gives (λ found. found) result (count_in (field_in fields.now at)) }
+    ensures { Says (λ found. found) result (count_in (field_in fields.now at)) }
 {
     match field_at(fields, at) {
         Some(Field::Count(count)) => Ok(Some(*count)),
@@ -142,7 +142,7 @@ pub fn count_at(fields: &[Option<Field>], at: usize) -> Result<Option<u8>, Table
 
 /// The tenor at a position, where the table has one.
 pub fn tenor_at(fields: &[Option<Field>], at: usize) -> Result<Option<Tenor>, TableFault>
-    ensures { Gives (λ found. found) result (tenor_in (field_in fields.now at)) }
+    ensures { Says (λ found. found) result (tenor_in (field_in fields.now at)) }
 {
     match field_at(fields, at) {
         Some(Field::Tenor(tenor)) => Ok(Some(*tenor)),
@@ -153,7 +153,7 @@ pub fn tenor_at(fields: &[Option<Field>], at: usize) -> Result<Option<Tenor>, Ta
 
 /// The rule at a position, where the table has one.
 pub fn rule_at(fields: &[Option<Field>], at: usize) -> Result<Option<Rule>, TableFault>
-    ensures { Gives (λ found. found) result (rule_in (field_in fields.now at)) }
+    ensures { Says (λ found. found) result (rule_in (field_in fields.now at)) }
 {
     match field_at(fields, at) {
         Some(Field::Rule(rule)) => Ok(Some(*rule)),
@@ -164,7 +164,7 @@ pub fn rule_at(fields: &[Option<Field>], at: usize) -> Result<Option<Rule>, Tabl
 
 /// The convention at a position, where the table has one.
 pub fn convention_at(fields: &[Option<Field>], at: usize) -> Result<Option<Convention>, TableFault>
-    ensures { Gives (λ found. found) result (convention_in (field_in fields.now at)) }
+    ensures { Says (λ found. found) result (convention_in (field_in fields.now at)) }
 {
     match field_at(fields, at) {
         Some(Field::Convention(convention)) => Ok(Some(*convention)),
@@ -175,7 +175,7 @@ pub fn convention_at(fields: &[Option<Field>], at: usize) -> Result<Option<Conve
 
 /// The flag at a position, where the table has one.
 pub fn flag_at(fields: &[Option<Field>], at: usize) -> Result<Option<bool>, TableFault>
-    ensures { Gives (λ found. found) result (flag_in (field_in fields.now at)) }
+    ensures { Says (λ found. found) result (flag_in (field_in fields.now at)) }
 {
     match field_at(fields, at) {
         Some(Field::Flag(flag)) => Ok(Some(*flag)),
@@ -186,7 +186,7 @@ pub fn flag_at(fields: &[Option<Field>], at: usize) -> Result<Option<bool>, Tabl
 
 /// The day counter at a position, where the table has one.
 pub fn counter_at(fields: &[Option<Field>], at: usize) -> Result<Option<Counter>, TableFault>
-    ensures { Gives (λ found. found) result (counter_in (field_in fields.now at)) }
+    ensures { Says (λ found. found) result (counter_in (field_in fields.now at)) }
 {
     match field_at(fields, at) {
         Some(Field::Counter(counter)) => Ok(Some(*counter)),
@@ -197,7 +197,7 @@ pub fn counter_at(fields: &[Option<Field>], at: usize) -> Result<Option<Counter>
 
 /// The notional at a position, where the table has one.
 pub fn notional_at(fields: &[Option<Field>], at: usize) -> Result<Option<Notional>, TableFault>
-    ensures { Gives (λ found. found) result (notional_in (field_in fields.now at)) }
+    ensures { Says (λ found. found) result (notional_in (field_in fields.now at)) }
 {
     match field_at(fields, at) {
         Some(Field::Notional(notional)) => Ok(Some(*notional)),
@@ -208,7 +208,7 @@ pub fn notional_at(fields: &[Option<Field>], at: usize) -> Result<Option<Notiona
 
 /// The rate at a position, where the table has one.
 pub fn rate_at(fields: &[Option<Field>], at: usize) -> Result<Option<TermRate>, TableFault>
-    ensures { Gives (λ found. found) result (rate_in (field_in fields.now at)) }
+    ensures { Says (λ found. found) result (rate_in (field_in fields.now at)) }
 {
     match field_at(fields, at) {
         Some(Field::Rate(rate)) => Ok(Some(*rate)),
@@ -219,7 +219,7 @@ pub fn rate_at(fields: &[Option<Field>], at: usize) -> Result<Option<TermRate>, 
 
 /// The sign at a position, where the table has one.
 pub fn sign_at(fields: &[Option<Field>], at: usize) -> Result<Option<Sign>, TableFault>
-    ensures { Gives (λ found. found) result (sign_in (field_in fields.now at)) }
+    ensures { Says (λ found. found) result (sign_in (field_in fields.now at)) }
 {
     match field_at(fields, at) {
         Some(Field::Sign(sign)) => Ok(Some(*sign)),

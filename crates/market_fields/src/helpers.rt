@@ -1,7 +1,7 @@
 // The helpers of a curve, and what every place says.
 ghost use Rattle.std.specs.Prelude.{◌≡◌, ◌≤◌, Option, map, false};
 ghost use Rattle.toml.specs.View.{view};
-ghost use Rattle.market_tables.specs.Given.{Gives};
+ghost use Rattle.market_tables.specs.Given.{Gives, Says};
 ghost use Rattle.market_tables.specs.Table.{listed};
 ghost use Rattle.market_fields.specs.Earlier.{seen};
 ghost use Rattle.market_fields.specs.Keys.{helper_kind_of, helper_keys_of};
@@ -58,7 +58,7 @@ fn helper_of(
     at: usize,
 ) -> Result<Helper, TableFault>
     requires { at ≤ 3 }
-    ensures { Gives (λ helper. helper) result (helper_of fields.now every at) }
+    ensures { Says (λ helper. helper) result (helper_of fields.now every at) }
 {
     let quote = must(object_at(fields, 0)?)?;
     let tenor = must(tenor_at(fields, 1)?)?;
@@ -77,7 +77,7 @@ fn helper_of(
 
 // A helper of a kind from its fields.
 fn helper_made(kind: HelperKind, fields: &[Option<Field>]) -> Result<Helper, TableFault>
-    ensures { Gives (λ helper. helper) result (helper_made kind fields.now) }
+    ensures { Says (λ helper. helper) result (helper_made kind fields.now) }
 {
     match kind {
         HelperKind::Deposit => helper_of(fields, None, 2),
@@ -104,7 +104,7 @@ impl<'a> Element for HelperElement<'a> {
 
 // Refuses no helpers, or too many.
 fn counted(helpers: HelperList) -> Result<HelperList, TableFault>
-    ensures { Gives (λ helpers. helpers) result (counted helpers) }
+    ensures { Says (λ helpers. helpers) result (counted helpers) }
 {
     if helpers.len() == 0 || helpers.len() > MOST_HELPERS {
         return Err(TableFault::Kind(MarketKind::Parts));

@@ -2,7 +2,7 @@
 ghost use Rattle.std.specs.Prelude.{◌≡◌};
 ghost use Rattle.flow_terms.specs.Fixings.{IsRate};
 ghost use Rattle.flow_terms.specs.Ranges.{IsNotional};
-ghost use Rattle.market_tables.specs.Given.{Gives};
+ghost use Rattle.market_tables.specs.Given.{Says};
 ghost use Rattle.market_fields.specs.Limited.{signed, notional_of, rate_of};
 
 use fixed_amount::{Amount, Rate};
@@ -58,12 +58,12 @@ impl Model for Notional {
 impl Notional {
     ghost use Rattle.std.specs.Prelude.{◌≡◌};
     ghost use Rattle.flow_terms.specs.Ranges.{IsNotional};
-    ghost use Rattle.market_tables.specs.Given.{Gives};
+    ghost use Rattle.market_tables.specs.Given.{Says};
     ghost use Rattle.market_fields.specs.Limited.{signed, notional_of};
 
     /// The notional of a decimal with at most 6 places, above 0 and up to 10^18 units, or `Number`.
     pub(crate) fn read(text: &[u8]) -> Result<Notional, TableFault>
-        ensures { Gives (λ notional. notional) result (notional_of text.now) }
+        ensures { Says (λ notional. notional) result (notional_of text.now) }
     {
         let units = decimal_of(text, 6, MOST_NOTIONAL)?;
         if units < 1 {
@@ -107,14 +107,12 @@ impl Model for TermRate {
 impl TermRate {
     ghost use Rattle.std.specs.Prelude.{◌≡◌, pos};
     ghost use Rattle.flow_terms.specs.Fixings.{IsRate};
-    ghost use Rattle.market_tables.specs.Given.{Gives};
-    ghost use Rattle.market_tables.specs.Refusals.{TakesNone};
+    ghost use Rattle.market_tables.specs.Given.{Says};
     ghost use Rattle.market_fields.specs.Limited.{rate_of};
 
     /// The rate of a decimal with at most 9 places, up to 10 either way, or `Number`.
     pub fn read(text: &[u8]) -> Result<TermRate, TableFault>
-        ensures rate { Gives (λ rate. rate) result (rate_of text.now) }
-        ensures memory { TakesNone result }
+        ensures { Says (λ rate. rate) result (rate_of text.now) }
     {
         let units = decimal_of(text, 9, MOST_RATE)?;
         Ok(TermRate { units })

@@ -1,7 +1,7 @@
 // The tables within an object's table: the parts of a composite.
 ghost use Rattle.std.specs.Prelude.{◌≡◌, Option};
 ghost use Rattle.toml.specs.View.{view};
-ghost use Rattle.market_tables.specs.Given.{Gives};
+ghost use Rattle.market_tables.specs.Given.{Gives, Says};
 ghost use Rattle.market_fields.specs.Earlier.{seen};
 ghost use Rattle.market_fields.specs.Parts.{part_made, parts_field};
 
@@ -54,7 +54,7 @@ struct PartElement<'a> {
 
 // A part from its fields.
 fn part_made(fields: &[Option<Field>]) -> Result<Part, TableFault>
-    ensures { Gives (λ part. part) result (part_made fields.now) }
+    ensures { Says (λ part. part) result (part_made fields.now) }
 {
     let member = must(object_at(fields, 0)?)?;
     let weight = must(weight_at(fields, 1)?)?;

@@ -1,7 +1,7 @@
 // When the keys of objects must stand.
 ghost use Rattle.std.specs.Prelude.{◌≡◌};
 ghost use Rattle.toml.specs.View.{table_view};
-ghost use Rattle.market_tables.specs.Given.{Gives};
+ghost use Rattle.market_tables.specs.Given.{Says};
 ghost use Rattle.market_fields.specs.Presence.{has, has_coupon_key, structure, required};
 
 use market_tables::{MarketKind, TableFault, value_at};
@@ -42,7 +42,7 @@ fn has_coupon_key(table: &Table) -> bool
 
 // Refuses a bond with `coupon` and `index`, with keys of coupons and neither, or with `coupon` and `spread`.
 fn structure(table: &Table) -> Result<bool, TableFault>
-    ensures { Gives (λ must. must) result (structure (table_view table.now)) }
+    ensures { Says (λ must. must) result (structure (table_view table.now)) }
 {
     let coupon = has(table, "coupon");
     let index = has(table, "index");
@@ -58,7 +58,7 @@ fn structure(table: &Table) -> Result<bool, TableFault>
 impl KeyPresence {
     /// Whether the key must stand in the table, or the fault `Key` that the table's structure has there.
     pub fn required(self, table: &Table) -> Result<bool, TableFault>
-        ensures { Gives (λ must. must) result (required self (table_view table.now)) }
+        ensures { Says (λ must. must) result (required self (table_view table.now)) }
     {
         match self {
             KeyPresence::Always => Ok(true),

@@ -1,6 +1,6 @@
 // The fields that are taken out.
 ghost use Rattle.std.specs.Prelude.{◌≡◌, Option};
-ghost use Rattle.market_tables.specs.Given.{Gives};
+ghost use Rattle.market_tables.specs.Given.{Says};
 ghost use Rattle.market_fields.specs.Field.{name_in, parts_in, calendar_in, helpers_in};
 
 use crate::Field;
@@ -11,7 +11,7 @@ use market_tables::{NameText, TableFault};
 
 /// The name of a field, where there is one.
 pub fn name_in(field: Option<Field>) -> Result<Option<NameText>, TableFault>
-    ensures { Gives (λ found. found) result (name_in field) }
+    ensures { Says (λ found. found) result (name_in field) }
 {
     match field {
         Some(Field::Name(name)) => Ok(Some(name)),
@@ -22,7 +22,7 @@ pub fn name_in(field: Option<Field>) -> Result<Option<NameText>, TableFault>
 
 /// The parts of a field, where there is one.
 pub fn parts_in(field: Option<Field>) -> Result<Option<PartList>, TableFault>
-    ensures { Gives (λ found. found) result (parts_in field) }
+    ensures { Says (λ found. found) result (parts_in field) }
 {
     match field {
         Some(Field::Parts(parts)) => Ok(Some(parts)),
@@ -33,7 +33,7 @@ pub fn parts_in(field: Option<Field>) -> Result<Option<PartList>, TableFault>
 
 /// The calendar of a field, where there is one.
 pub fn calendar_in(field: Option<Field>) -> Result<Option<Calendar>, TableFault>
-    ensures { Gives (λ found. found) result (calendar_in field) }
+    ensures { Says (λ found. found) result (calendar_in field) }
 {
     match field {
         Some(Field::Calendar(calendar)) => Ok(Some(calendar)),
@@ -44,7 +44,7 @@ pub fn calendar_in(field: Option<Field>) -> Result<Option<Calendar>, TableFault>
 
 /// The helpers of a field, where there is one.
 pub fn helpers_in(field: Option<Field>) -> Result<Option<HelperList>, TableFault>
-    ensures { Gives (λ found. found) result (helpers_in field) }
+    ensures { Says (λ found. found) result (helpers_in field) }
 {
     match field {
         Some(Field::Helpers(helpers)) => Ok(Some(helpers)),

@@ -1,6 +1,6 @@
 // The words of conventions, counters, rules, targets and sides.
 ghost use Rattle.std.specs.Prelude.{◌≡◌};
-ghost use Rattle.market_tables.specs.Given.{Gives};
+ghost use Rattle.market_tables.specs.Given.{Says};
 ghost use Rattle.market_fields.specs.Words.{convention_of, counter_of, rule_of, target_of, leg_of, position_of};
 
 use crate::Sign;
@@ -15,7 +15,7 @@ const NO_CHOICE: TableFault = TableFault::Kind(MarketKind::Choice);
 
 // The business-day convention.
 pub(crate) fn convention_of(word: &str) -> Result<Convention, TableFault>
-    ensures { Gives (λ said. said) result (convention_of word.now) }
+    ensures { Says (λ said. said) result (convention_of word.now) }
 {
     match word {
         "unadjusted" => Ok(Convention::Unadjusted),
@@ -31,7 +31,7 @@ pub(crate) fn convention_of(word: &str) -> Result<Convention, TableFault>
 
 // The day counter.
 pub(crate) fn counter_of(word: &str) -> Result<Counter, TableFault>
-    ensures { Gives (λ said. said) result (counter_of word.now) }
+    ensures { Says (λ said. said) result (counter_of word.now) }
 {
     match word {
         "act360" => Ok(Counter::Act360),
@@ -45,7 +45,7 @@ pub(crate) fn counter_of(word: &str) -> Result<Counter, TableFault>
 
 // The rule of schedules.
 pub(crate) fn rule_of(word: &str) -> Result<Rule, TableFault>
-    ensures { Gives (λ said. said) result (rule_of word.now) }
+    ensures { Says (λ said. said) result (rule_of word.now) }
 {
     match word {
         "backward" => Ok(Rule::Backward),
@@ -57,7 +57,7 @@ pub(crate) fn rule_of(word: &str) -> Result<Rule, TableFault>
 
 // The kind of a handle's target.
 pub(crate) fn target_of(word: &str) -> Result<HandleKind, TableFault>
-    ensures { Gives (λ said. said) result (target_of word.now) }
+    ensures { Says (λ said. said) result (target_of word.now) }
 {
     match word {
         "quote" => Ok(HandleKind::Quote),
@@ -68,7 +68,7 @@ pub(crate) fn target_of(word: &str) -> Result<HandleKind, TableFault>
 
 // The sign of a swap's fixed leg: what is paid is negative.
 pub(crate) fn leg_of(word: &str) -> Result<Sign, TableFault>
-    ensures { Gives (λ said. said) result (leg_of word.now) }
+    ensures { Says (λ said. said) result (leg_of word.now) }
 {
     match word {
         "pay" => Ok(Sign::Minus),
@@ -79,7 +79,7 @@ pub(crate) fn leg_of(word: &str) -> Result<Sign, TableFault>
 
 // The sign of a forward rate agreement: the short one is negative.
 pub(crate) fn position_of(word: &str) -> Result<Sign, TableFault>
-    ensures { Gives (λ said. said) result (position_of word.now) }
+    ensures { Says (λ said. said) result (position_of word.now) }
 {
     match word {
         "long" => Ok(Sign::Plus),

@@ -25,6 +25,11 @@ pub refused : (flow : Option FlowTerm) (old : List FlowTerm) (r : Result (Unit {
 refused None old r is = ap ranged is
 refused (Some flow) old r is = tt
 
+pub refused_leg : (due : Option (List FlowTerm)) (old : List FlowTerm) (r : Result (Unit {0}) LegFault)
+    → IfNone due (r ≡ Err DateRange) → Refuses (ranged r) (behind old due)
+refused_leg None old r is = ap ranged is
+refused_leg (Some flows) old r is = tt
+
 -- with an index named, flows on it may come
 pub stay_on : {old new : List FlowTerm} → AddsInRange old new → (object : ℕ) → StayWithin (Some object) old new
 stay_on adds object were = record { limits = adds were.limits; named = tt }

@@ -31,7 +31,7 @@ fn ranged(appended: Result<(), LegFault>) -> Result<(), TableFault>
     }
 }
 
-// Appends fixed interest, or `Range`.
+// Appends fixed interest, or `Range`, whatever the memory.
 pub(crate) fn push_fixed(
     schedule: &Schedule,
     cal: &Calendar,
@@ -43,12 +43,13 @@ pub(crate) fn push_fixed(
     requires notional { IsNotional notional }
     requires rate { IsRate rate }
     ensures flows { Gives (λ _. out.new) result (fixed_behind out.old cal.now notional rate counter schedule.now) }
+    ensures told { Refuses result (fixed_behind out.old cal.now notional rate counter schedule.now) }
     ensures range { (index : Option ℕ) → StayWithin index out.old out.new }
 {
     ranged(fixed_leg(schedule, cal, notional, rate, counter, out))
 }
 
-// Appends interest at an index's rate, or `Range`.
+// Appends interest at an index's rate, or `Range`, whatever the memory.
 pub(crate) fn push_float(
     schedule: &Schedule,
     cal: &Calendar,
@@ -61,12 +62,13 @@ pub(crate) fn push_float(
     requires notional { IsNotional notional }
     requires spread { IsRate spread }
     ensures flows { Gives (λ _. out.new) result (float_behind out.old cal.now notional spread counter index.now schedule.now) }
+    ensures told { Refuses result (float_behind out.old cal.now notional spread counter index.now schedule.now) }
     ensures range { (object : ℕ) → StayWithin (Some object) out.old out.new }
 {
     ranged(float_leg(schedule, cal, notional, spread, counter, index, out))
 }
 
-// Appends a redemption, or `Range`.
+// Appends a redemption, or `Range`, whatever the memory.
 pub(crate) fn push_redemption(
     cal: &Calendar,
     end: Day,
@@ -81,7 +83,7 @@ pub(crate) fn push_redemption(
     ranged(redemption(cal, end, notional, out))
 }
 
-// Appends a settlement, or `Range`.
+// Appends a settlement, or `Range`, whatever the memory.
 pub(crate) fn push_settlement(
     index: &IndexTerms,
     start: Day,

@@ -3,8 +3,7 @@ ghost use Rattle.std.specs.Prelude.{◌≡◌, ℕ, Option, Some, [], IfOk};
 ghost use Rattle.flow_terms.specs.Ranges.{IsNotional};
 ghost use Rattle.flow_terms.specs.Fixings.{IsRate};
 ghost use Rattle.desk_terms.specs.Reading.{AreInRange};
-ghost use Rattle.market_tables.specs.Given.{Gives};
-ghost use Rattle.market_tables.specs.Refusals.{TakesNone};
+ghost use Rattle.market_tables.specs.Given.{Gives, Says};
 ghost use Rattle.market_fields.specs.Earlier.{seen};
 ghost use Rattle.market_instruments.specs.Schedules.{span_seen};
 ghost use Rattle.market_instruments.specs.Appended.{StayWithin};
@@ -92,8 +91,7 @@ fn float_coupons(
 
 // Refuses a bond without coupons whose start is not before its end.
 fn no_coupons(span: &Span<'_>, out: &FlowTermList) -> Result<(), TableFault>
-    ensures flows { Gives (λ _. out.now) result (no_coupons (span_seen span.now) out.now) }
-    ensures memory { TakesNone result }
+    ensures flows { Says (λ _. out.now) result (no_coupons (span_seen span.now) out.now) }
 {
     if span.start < span.end {
         return Ok(());

@@ -2,6 +2,7 @@
 ghost use Rattle.std.specs.Prelude.{◌≡◌, Option, Some, [], IfOk};
 ghost use Rattle.desk_terms.specs.Reading.{AreInRange};
 ghost use Rattle.market_tables.specs.Given.{Gives};
+ghost use Rattle.market_tables.specs.Refusals.{Refuses};
 ghost use Rattle.market_fields.specs.Earlier.{seen};
 ghost use Rattle.market_instruments.specs.Appended.{StayWithin};
 ghost use Rattle.market_instruments.specs.Forwards.{settlement_of, forward_of};
@@ -14,7 +15,7 @@ use market_fields::{Earlier, Field, day_at, must, notional_at, object_at, rate_a
 use market_tables::TableFault;
 use std::alloc::Global;
 
-// Appends the settlement on an index, negative where the agreement is short.
+// Appends the settlement on an index, negative where the agreement is short; refused whatever the memory.
 fn push_agreed(
     earlier: Earlier<'_>,
     fields: &[Option<Field>],
@@ -22,6 +23,7 @@ fn push_agreed(
     out: &mut FlowTermList,
 ) -> Result<(), TableFault>
     ensures flows { Gives (λ _. out.new) result (settlement_of (seen earlier.entry) fields.now index out.old) }
+    ensures told { Refuses result (settlement_of (seen earlier.entry) fields.now index out.old) }
     ensures range { StayWithin (Some index) out.old out.new }
 {
     let notional = must(notional_at(fields, 1)?)?;

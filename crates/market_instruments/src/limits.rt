@@ -1,7 +1,7 @@
 // Instruments of flows within the limits of terms.
 ghost use Rattle.std.specs.Prelude.{◌≡◌, IfOk};
 ghost use Rattle.desk_terms.specs.Reading.{AreInRange};
-ghost use Rattle.market_tables.specs.Given.{Gives};
+ghost use Rattle.market_tables.specs.Given.{Says};
 ghost use Rattle.market_instruments.specs.Appended.{AreWithin};
 ghost use Rattle.market_instruments.specs.Limits.{limit_kind, instrument_of};
 
@@ -28,7 +28,7 @@ pub(crate) fn instrument_of(
     engine: Option<ObjId>,
 ) -> Result<Terms, TableFault>
     requires { AreWithin index flows }
-    ensures terms { Gives (λ terms. terms) result (instrument_of flows index engine) }
+    ensures terms { Says (λ terms. terms) result (instrument_of flows index engine) }
     ensures range { IfOk result AreInRange }
 {
     match flows_terms(flows, index, engine) {

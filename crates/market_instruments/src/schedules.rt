@@ -1,6 +1,6 @@
 // The schedules of bonds and swaps.
 ghost use Rattle.std.specs.Prelude.{◌≡◌, ◌≤◌, Option, Some, None, Result};
-ghost use Rattle.market_tables.specs.Given.{Gives};
+ghost use Rattle.market_tables.specs.Given.{Gives, Says};
 ghost use Rattle.market_instruments.specs.Schedules.{span_seen, span_of, rules_of, plan_fault, dates_of};
 
 use day_number::{Convention, Day, Tenor};
@@ -30,7 +30,7 @@ pub struct Rules {
 // The start, the end and the calendar, at a position and behind it.
 pub(crate) fn span_of(fields: &[Option<Field>], at: usize) -> Result<Span<'_>, TableFault>
     requires { at ≤ 3 }
-    ensures { Gives span_seen result (span_of fields.now at) }
+    ensures { Says span_seen result (span_of fields.now at) }
 {
     let start = must(day_at(fields, at)?)?;
     let end = must(day_at(fields, at + 1)?)?;
@@ -41,7 +41,7 @@ pub(crate) fn span_of(fields: &[Option<Field>], at: usize) -> Result<Span<'_>, T
 // The rules at a position and behind it, each with its default.
 pub(crate) fn rules_of(fields: &[Option<Field>], at: usize) -> Result<Rules, TableFault>
     requires { at ≤ 10 }
-    ensures { Gives (λ rules. rules) result (rules_of fields.now at) }
+    ensures { Says (λ rules. rules) result (rules_of fields.now at) }
 {
     let rule = rule_at(fields, at)?.unwrap_or(Rule::Backward);
     let conv = convention_at(fields, at + 1)?.unwrap_or(Convention::ModifiedFollowing);

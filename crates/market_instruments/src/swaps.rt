@@ -2,6 +2,7 @@
 ghost use Rattle.std.specs.Prelude.{◌≡◌, ℕ, Option, [], IfOk};
 ghost use Rattle.desk_terms.specs.Reading.{AreInRange};
 ghost use Rattle.market_tables.specs.Given.{Gives};
+ghost use Rattle.market_tables.specs.Refusals.{Refuses};
 ghost use Rattle.market_fields.specs.Earlier.{seen};
 ghost use Rattle.market_instruments.specs.Appended.{StayWithin};
 ghost use Rattle.market_instruments.specs.Swaps.{fixed_side, float_side, swap_of};
@@ -19,7 +20,7 @@ use market_tables::TableFault;
 use schedule_rules::Schedule;
 use std::alloc::Global;
 
-// Appends the fixed leg of a swap, negative where it is paid.
+// Appends the fixed leg of a swap, negative where it is paid; refused whatever the memory.
 fn push_fixed_side(
     fields: &[Option<Field>],
     cal: &Calendar,
@@ -27,6 +28,7 @@ fn push_fixed_side(
     out: &mut FlowTermList,
 ) -> Result<(), TableFault>
     ensures flows { Gives (λ _. out.new) result (fixed_side fields.now cal.now schedule.now out.old) }
+    ensures told { Refuses result (fixed_side fields.now cal.now schedule.now out.old) }
     ensures range { (index : Option ℕ) → StayWithin index out.old out.new }
 {
     let notional = must(notional_at(fields, 1)?)?;
@@ -37,7 +39,7 @@ fn push_fixed_side(
     push_fixed(schedule, cal, notional, rate.rate(), counter, out)
 }
 
-// Appends the floating leg of a swap, negative where the fixed one is received.
+// Appends the floating leg of a swap, negative where the fixed one is received; refused whatever the memory.
 fn push_float_side(
     earlier: Earlier<'_>,
     fields: &[Option<Field>],
@@ -47,6 +49,7 @@ fn push_float_side(
     out: &mut FlowTermList,
 ) -> Result<(), TableFault>
     ensures flows { Gives (λ _. out.new) result (float_side (seen earlier.entry) fields.now cal.now schedule.now index out.old) }
+    ensures told { Refuses result (float_side (seen earlier.entry) fields.now cal.now schedule.now index out.old) }
     ensures range { StayWithin index out.old out.new }
 {
     let notional = must(notional_at(fields, 1)?)?;

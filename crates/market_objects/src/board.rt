@@ -12,7 +12,7 @@ use desk_terms::{Kind, Terms};
 use fixed_amount::Rate;
 use market_calendars::Calendars;
 use market_fields::Earlier;
-use market_tables::{MarketKind, NameText, TableFault};
+use market_tables::{MarketKind, TableFault};
 use std::alloc::Global;
 use std::marker::Model;
 
@@ -64,6 +64,7 @@ fn number_of(names: &mut Names, text: &[u8]) -> Result<NameId, TableFault>
 
 impl Board {
     ghost use Rattle.std.specs.Prelude.{◌≡◌, Ok};
+    ghost use Rattle.desk_names.specs.Name.{IsName};
     ghost use Rattle.market_tables.specs.Given.{Gives};
     ghost use Rattle.market_tables.specs.Refusals.{Refuses};
     ghost use Rattle.market_fields.specs.Earlier.{seen};
@@ -106,10 +107,11 @@ impl Board {
         }
     }
 
-    /// Puts an object behind the others, or refuses it with `Limit` where there are as many as there may be, whatever the
-    /// memory.
-    pub(crate) fn add(&mut self, name: &NameText, terms: Terms) -> Result<(), TableFault>
-        requires { HasFlowsInRange terms }
+    /// Puts an object of a name behind the others, or refuses it with `Limit` where there are as many as there may be,
+    /// whatever the memory.
+    pub(crate) fn add(&mut self, name: &[u8], terms: Terms) -> Result<(), TableFault>
+        requires named { IsName name.now }
+        requires ranged { HasFlowsInRange terms }
         ensures board { Gives (λ _. self.new) result (added self.old name.now terms) }
         ensures told { Refuses result (added self.old name.now terms) }
     {
@@ -117,7 +119,7 @@ impl Board {
             return Err(TableFault::Kind(MarketKind::Limit));
         }
         self.kinds.push(terms.kind())?;
-        let number = number_of(&mut self.names, name.text())?;
+        let number = number_of(&mut self.names, name)?;
         self.made.push((number, terms))?;
         Ok(())
     }

@@ -2,8 +2,8 @@
 ghost use Rattle.std.specs.Prelude.{◌≡◌, false, slice_get};
 ghost use Rattle.csv.specs.Records.{fields_of};
 ghost use Rattle.csv.specs.Reading.{default_config, strip_bom, records};
-ghost use Rattle.market_tables.specs.Given.{Gives};
-ghost use Rattle.market_tables.specs.Refusals.{TakesNone, Refuses};
+ghost use Rattle.market_tables.specs.Given.{Gives, Says};
+ghost use Rattle.market_tables.specs.Refusals.{Refuses};
 ghost use Rattle.market_tables.specs.Entries.{GivesAt};
 ghost use Rattle.market_tables.specs.Values.{day_of};
 ghost use Rattle.market_records.specs.Records.{behind_records};
@@ -35,8 +35,7 @@ fn is_header(row: &ByteRecord) -> bool
 
 // The day of a text, or `Date`.
 fn day_of(text: &[u8]) -> Result<Day, TableFault>
-    ensures day { Gives (λ day. day) result (day_of text.now) }
-    ensures memory { TakesNone result }
+    ensures { Says (λ day. day) result (day_of text.now) }
 {
     match read_day(text) {
         Some(day) => Ok(day),

@@ -1,7 +1,6 @@
 // What the fields of an object's table make.
 ghost use Rattle.std.specs.Prelude.{◌≡◌, Option, IfOk};
-ghost use Rattle.market_tables.specs.Given.{Gives};
-ghost use Rattle.market_tables.specs.Refusals.{TakesNone};
+ghost use Rattle.market_tables.specs.Given.{Gives, Says};
 ghost use Rattle.market_fields.specs.Earlier.{seen};
 ghost use Rattle.market_objects.specs.Board.{HasFlowsInRange};
 ghost use Rattle.market_objects.specs.Making.{derived_of, target_wanted, linked, handle_of, curve_of, implied_of, index_of, engine_of, stock_of, composite_of, parts_of, terms_of, entry_made};
@@ -21,7 +20,7 @@ const MOST_PARTS: usize = 4095;
 
 // A sum or a difference.
 fn derived_of(minus: bool, fields: &[Option<Field>]) -> Result<Terms, TableFault>
-    ensures terms { Gives (λ terms. terms) result (derived_of minus fields.now) }
+    ensures terms { Says (λ terms. terms) result (derived_of minus fields.now) }
     ensures range { IfOk result HasFlowsInRange }
 {
     let first = must(object_at(fields, 1)?)?;
@@ -45,7 +44,7 @@ fn target_wanted(target_kind: HandleKind) -> Wanted
 
 // A handle with its target, or without one.
 fn linked(target_kind: HandleKind, to: Option<Named>) -> Result<Terms, TableFault>
-    ensures terms { Gives (λ terms. terms) result (linked target_kind to) }
+    ensures terms { Says (λ terms. terms) result (linked target_kind to) }
     ensures range { IfOk result HasFlowsInRange }
 {
     match to {
@@ -64,7 +63,7 @@ fn linked(target_kind: HandleKind, to: Option<Named>) -> Result<Terms, TableFaul
 }
 
 fn handle_of(fields: &[Option<Field>]) -> Result<Terms, TableFault>
-    ensures terms { Gives (λ terms. terms) result (handle_of fields.now) }
+    ensures terms { Says (λ terms. terms) result (handle_of fields.now) }
     ensures range { IfOk result HasFlowsInRange }
 {
     let target_kind = must(target_at(fields, 1)?)?;
@@ -74,7 +73,7 @@ fn handle_of(fields: &[Option<Field>]) -> Result<Terms, TableFault>
 // A curve; it takes its calendar and its helpers out of the fields.
 #[tactic(auto, using(market_tables::proofs::FieldPlaces::other))]
 fn curve_of(fields: &mut Vec<Option<Field>>) -> Result<Terms, TableFault>
-    ensures terms { Gives (λ terms. terms) result (curve_of fields.old.items) }
+    ensures terms { Says (λ terms. terms) result (curve_of fields.old.items) }
     ensures range { IfOk result HasFlowsInRange }
 {
     let settlement = must(count_at(fields, 2)?)?;
@@ -88,7 +87,7 @@ fn curve_of(fields: &mut Vec<Option<Field>>) -> Result<Terms, TableFault>
 }
 
 fn implied_of(fields: &[Option<Field>]) -> Result<Terms, TableFault>
-    ensures terms { Gives (λ terms. terms) result (implied_of fields.now) }
+    ensures terms { Says (λ terms. terms) result (implied_of fields.now) }
     ensures range { IfOk result HasFlowsInRange }
 {
     let curve = must(object_at(fields, 1)?)?;
@@ -98,7 +97,7 @@ fn implied_of(fields: &[Option<Field>]) -> Result<Terms, TableFault>
 
 // An index without stored rates; it takes its calendar out of the fields.
 fn index_of(alloc: Global, fields: &mut Vec<Option<Field>>) -> Result<Terms, TableFault>
-    ensures terms { Gives (λ terms. terms) result (index_of fields.old.items) }
+    ensures terms { Says (λ terms. terms) result (index_of fields.old.items) }
     ensures range { IfOk result HasFlowsInRange }
 {
     let fixing_days = must(count_at(fields, 2)?)?;
@@ -121,7 +120,7 @@ fn index_of(alloc: Global, fields: &mut Vec<Option<Field>>) -> Result<Terms, Tab
 }
 
 fn engine_of(fields: &[Option<Field>]) -> Result<Terms, TableFault>
-    ensures terms { Gives (λ terms. terms) result (engine_of fields.now) }
+    ensures terms { Says (λ terms. terms) result (engine_of fields.now) }
     ensures range { IfOk result HasFlowsInRange }
 {
     let curve = must(object_at(fields, 1)?)?;
@@ -129,7 +128,7 @@ fn engine_of(fields: &[Option<Field>]) -> Result<Terms, TableFault>
 }
 
 fn stock_of(fields: &[Option<Field>]) -> Result<Terms, TableFault>
-    ensures terms { Gives (λ terms. terms) result (stock_of fields.now) }
+    ensures terms { Says (λ terms. terms) result (stock_of fields.now) }
     ensures range { IfOk result HasFlowsInRange }
 {
     let quote = must(object_at(fields, 1)?)?;
@@ -138,8 +137,7 @@ fn stock_of(fields: &[Option<Field>]) -> Result<Terms, TableFault>
 
 // A composite, which names no member twice. One of more parts than there may be objects names one twice.
 fn composite_of(parts: PartList) -> Result<Terms, TableFault>
-    ensures terms { Gives (λ terms. terms) result (composite_of parts) }
-    ensures memory { TakesNone result }
+    ensures terms { Says (λ terms. terms) result (composite_of parts) }
     ensures range { IfOk result HasFlowsInRange }
 {
     if parts.len() > MOST_PARTS {
@@ -153,7 +151,7 @@ fn composite_of(parts: PartList) -> Result<Terms, TableFault>
 
 // The composite of a key that may be missing, which says no parts.
 fn parts_of(alloc: Global, field: Option<Field>) -> Result<Terms, TableFault>
-    ensures terms { Gives (λ terms. terms) result (parts_of field) }
+    ensures terms { Says (λ terms. terms) result (parts_of field) }
     ensures range { IfOk result HasFlowsInRange }
 {
     match parts_in(field)? {

@@ -2,7 +2,8 @@
 ghost use Rattle.std.specs.Prelude.{◌≡◌, false};
 ghost use Rattle.csv.specs.Records.{fields_of};
 ghost use Rattle.csv.specs.Reading.{default_config, strip_bom, records};
-ghost use Rattle.market_tables.specs.Given.{Gives};
+ghost use Rattle.market_tables.specs.Given.{Gives, Says};
+ghost use Rattle.market_tables.specs.Refusals.{Refuses};
 ghost use Rattle.market_tables.specs.Entries.{GivesAt};
 ghost use Rattle.market_records.specs.Records.{behind_records};
 ghost use Rattle.market_objects.specs.Quotes.{is_header, value_of, behind};
@@ -12,7 +13,7 @@ use csv::ByteRecord;
 use desk_terms::Terms;
 use fixed_amount::Rate;
 use market_records::{TakesRecords, field, take_records};
-use market_tables::{EntryFault, MarketKind, NameText, TableFault, decimal_of};
+use market_tables::{EntryFault, MarketKind, TableFault, decimal_of};
 use std::alloc::Global;
 use std::marker::Model;
 
@@ -28,7 +29,7 @@ fn is_header(row: &ByteRecord) -> bool
 
 // A quote's value, or none where the field is empty.
 fn value_of(text: &[u8]) -> Result<Option<Rate>, TableFault>
-    ensures { Gives (λ value. value) result (value_of text.now) }
+    ensures { Says (λ value. value) result (value_of text.now) }
 {
     if text.is_empty() {
         return Ok(None);
@@ -37,17 +38,19 @@ fn value_of(text: &[u8]) -> Result<Option<Rate>, TableFault>
     Ok(Some(Rate(units)))
 }
 
-// Makes the quote that a record says: its name is tested, which is new, and then its value.
+// Makes the quote that a record says: its name is tested, which is new, and then its value. A record that is refused is
+// refused whatever the memory.
 fn take_quote(board: &mut Board, row: &ByteRecord) -> Result<(), TableFault>
-    ensures { Gives (λ _. board.new) result (behind board.old (fields_of row.now)) }
+    ensures board { Gives (λ _. board.new) result (behind board.old (fields_of row.now)) }
+    ensures told { Refuses result (behind board.old (fields_of row.now)) }
 {
     if row.len() != 2 {
         return Err(TableFault::Kind(MarketKind::Record));
     }
-    let name = NameText::read(board.alloc(), field(row, 0))?;
-    let name = board.earlier().untaken(name)?;
+    let name = field(row, 0);
+    board.earlier().test_new(name)?;
     let value = value_of(field(row, 1))?;
-    board.add(&name, Terms::Quote(value))
+    board.add(name, Terms::Quote(value))
 }
 
 // A board that takes the records of quotes.

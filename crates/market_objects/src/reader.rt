@@ -94,7 +94,7 @@ impl TakesTables for Board {
 
     fn take(&mut self, value: &Value) -> Result<(), TableFault> {
         let (name, terms) = entry_in(self.alloc(), self.earlier(), value)?;
-        self.add(&name, terms)
+        self.add(name.text(), terms)
     }
 }
 

@@ -2,11 +2,12 @@
 //! order, to a sink. A shelf or a sink in memory tells its bytes to contracts; those over real files
 //! and writers tell none.
 //! It offers `Shelf`, `Sink`, `Failed`, `read_whole`, `ReadFault`, `MOST`, `write_whole`,
-//! `MemoryFile`, `FileList`, `CallList`, `MemoryShelf`, `MemorySink`, `FileShelf` and `OutSink`.
+//! `MemoryFile`, `FileList`, `CallList`, `MemoryShelf`, `MemorySink`, `EndlessShelf`, `FileShelf` and `OutSink`.
 #![tactic(auto)]
 
 mod begun;
 mod count;
+mod endless_shelf;
 mod file_shelf;
 mod lists;
 mod memory_shelf;
@@ -17,6 +18,7 @@ mod shelf;
 mod sink;
 mod writing;
 
+pub use endless_shelf::EndlessShelf;
 pub use file_shelf::FileShelf;
 pub use lists::{CallList, FileList, MemoryFile};
 pub use memory_shelf::MemoryShelf;

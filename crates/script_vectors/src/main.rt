@@ -8,7 +8,7 @@ mod calls;
 mod wholes;
 
 use desk_bench::DeskBench;
-use desk_edge::{CallList, FileList, MemoryFile, MemoryShelf, MemorySink};
+use desk_edge::{CallList, FileList, MemoryFile, MemoryShelf, MemorySink, Shelf};
 use desk_top::{Status, run};
 use std::alloc::{AllocError, Global};
 use std::{fs, io};
@@ -45,13 +45,17 @@ fn main(rt: HostRuntime) -> io::Result<()> {
     calls::compare(&rt)
 }
 
-// Compares the cases of a file and prints how many agree. A line `==` stands between two cases.
+// Compares the cases of a file and prints how many agree. A line `==` stands between two cases. One that begins with a
+// file gives its files to the cases behind it.
 fn compare(rt: &HostRuntime, file: &str) -> io::Result<()> {
     let text = fs::read_to_string(rt, file)?;
+    let mut common = "";
     let mut agree = 0u32;
     let mut differ = 0u32;
     for case in text.split("==\n") {
-        if agrees(rt.alloc(), case)? {
+        if let Some(files) = case.strip_prefix("-- ") {
+            common = files;
+        } else if agrees(rt.alloc(), common, case)? {
             agree = agree.saturating_add(1);
         } else {
             differ = differ.saturating_add(1);
@@ -63,11 +67,9 @@ fn compare(rt: &HostRuntime, file: &str) -> io::Result<()> {
 
 // Whether the run that a case asks for shows the case's text. What is given stands before a line `-- shown`, or else is
 // a script over the two-line market, and stands before `--` and a newline: so the script may lack its last newline.
-fn agrees(alloc: Global, case: &str) -> Result<bool, AllocError> {
-    if let Some((given, text)) = case.split_once("-- shown\n") {
-        let mut shelf = wholes::shelf(alloc, given)?;
-        let words = wholes::words(alloc, given)?;
-        return Ok(shown(alloc, &words, &mut shelf)?.as_slice() == text.as_bytes());
+fn agrees(alloc: Global, common: &str, case: &str) -> Result<bool, AllocError> {
+    if let Some((given, answers)) = case.split_once("-- shown") {
+        return wholes::agree(alloc, common, given, answers);
     }
     match case.split_once("--\n") {
         Some((script, text)) => {
@@ -80,7 +82,11 @@ fn agrees(alloc: Global, case: &str) -> Result<bool, AllocError> {
 }
 
 // What a terminal shows of a run of the words: its output, and the line of a status that is not Done.
-fn shown(alloc: Global, words: &[String], shelf: &mut MemoryShelf) -> Result<Vec<u8>, AllocError> {
+pub(crate) fn shown<H: Shelf>(
+    alloc: Global,
+    words: &[String],
+    shelf: &mut H,
+) -> Result<Vec<u8>, AllocError> {
     let mut out = MemorySink::new(alloc, ROOM, 4096, CallList::new(alloc))?;
     let status = run(alloc, words, shelf, &mut out, &mut DeskBench::new());
     let mut text = out.bytes().to_vec(alloc)?;

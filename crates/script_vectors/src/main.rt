@@ -16,7 +16,7 @@ use std::{fs, io};
 pub(crate) const MARKET: &[u8] = b"version = 1\ntoday = \"2024-01-02\"\n";
 
 // The most bytes that a case may write.
-const ROOM: usize = 100_000;
+const ROOM: usize = 250_000;
 
 // `scripts` has scripts of which no command is refused, `refused` those with refused commands or a fault, `faults`
 // those that have a fault, `unset` those that take values away from quotes, `graphs` those of composites and derived
@@ -26,6 +26,9 @@ const ROOM: usize = 100_000;
 // and words. `freezing` has scripts with freezing, recalculation and notices that are held back, `deferral` those that
 // relink and drop under deferral, and `frozen_markets` the same over markets. `month_ends` has markets whose curves
 // start at a month's end, with spreads, ends on holidays and end conventions, that ask for every object on two days.
+// `words` has lists of words, `rounds` rows of rounds, some of which write a line in each run, `watchers` a thousand
+// scripts with watchers and `watched_markets` the same over markets, each of these in five orders, `hostile` sessions that
+// work against themselves, and `large` sessions at their limits.
 fn main(rt: HostRuntime) -> io::Result<()> {
     compare(&rt, "scripts")?;
     compare(&rt, "refused")?;
@@ -42,6 +45,12 @@ fn main(rt: HostRuntime) -> io::Result<()> {
     compare(&rt, "deferral")?;
     compare(&rt, "frozen_markets")?;
     compare(&rt, "month_ends")?;
+    compare(&rt, "words")?;
+    compare(&rt, "rounds")?;
+    compare(&rt, "watchers")?;
+    compare(&rt, "watched_markets")?;
+    compare(&rt, "hostile")?;
+    compare(&rt, "large")?;
     calls::compare(&rt)
 }
 

@@ -26,10 +26,20 @@ const COMPOSITE: Play = Play {
     lines: b"k 2.500000 fresh 3\nk 3.500000 fresh 2\n",
 };
 
+// Two watchers of one quote, of which one moves it: the second round has ten lines.
+const WATCHED: Play = Play {
+    script: b"quote q 1\nstock s q\nstock t q\naction a\nask s\nset q 7\nset q 8\nend\naction b\nask t\nend\n\
+        watch v a\nwatch w b\nregister v q\nregister w q\nask s\nset q 2\nask t\n",
+    lines: b"s 1.000000 fresh 1\ns 2.000000 fresh 1\ns 8.000000 fresh 1\ns 8.000000 fresh 1\n\
+        s 8.000000 fresh 1\ns 8.000000 fresh 1\ns 8.000000 fresh 1\ns 8.000000 fresh 1\n\
+        s 8.000000 fresh 1\nover v\nt 8.000000 fresh 1\nt 8.000000 fresh 0\n",
+};
+
 // Compares the rows of each script and prints how many agree.
 pub(crate) fn compare(rt: &HostRuntime) -> io::Result<()> {
     compare_rows(rt, "calls", STOCK)?;
-    compare_rows(rt, "composite_calls", COMPOSITE)
+    compare_rows(rt, "composite_calls", COMPOSITE)?;
+    compare_rows(rt, "watched_calls", WATCHED)
 }
 
 // Compares the rows of a file.

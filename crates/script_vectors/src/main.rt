@@ -5,6 +5,8 @@
 #![tactic(auto)]
 
 mod calls;
+mod cuts;
+mod endless;
 mod wholes;
 
 use desk_bench::DeskBench;
@@ -28,7 +30,7 @@ const ROOM: usize = 250_000;
 // start at a month's end, with spreads, ends on holidays and end conventions, that ask for every object on two days.
 // `words` has lists of words, `rounds` rows of rounds, some of which write a line in each run, `watchers` a thousand
 // scripts with watchers and `watched_markets` the same over markets, each of these in five orders, `hostile` sessions that
-// work against themselves, and `large` sessions at their limits.
+// work against themselves, `hostile_files` tables that are taken apart, and `large` sessions at their limits.
 fn main(rt: HostRuntime) -> io::Result<()> {
     compare(&rt, "scripts")?;
     compare(&rt, "refused")?;
@@ -50,7 +52,10 @@ fn main(rt: HostRuntime) -> io::Result<()> {
     compare(&rt, "watchers")?;
     compare(&rt, "watched_markets")?;
     compare(&rt, "hostile")?;
+    compare(&rt, "hostile_files")?;
     compare(&rt, "large")?;
+    cuts::compare(&rt)?;
+    endless::compare(&rt)?;
     calls::compare(&rt)
 }
 

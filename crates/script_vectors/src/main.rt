@@ -28,7 +28,7 @@ const ROOM: usize = 250_000;
 // and words. `freezing` has scripts with freezing, recalculation and notices that are held back, `deferral` those that
 // relink and drop under deferral, and `frozen_markets` the same over markets. `month_ends` has markets whose curves
 // start at a month's end, with spreads, ends on holidays and end conventions, that ask for every object on two days.
-// `words` has lists of words, `rounds` rows of rounds, some of which write a line in each run, `watchers` a thousand
+// `words` has lists of words, `loads` loads and words that are none, `rounds` rows of rounds, some of which write a line in each run, `watchers` a thousand
 // scripts with watchers and `watched_markets` the same over markets, each of these in five orders, `hostile` sessions that
 // work against themselves, `hostile_files` tables that are taken apart, and `large` sessions at their limits.
 fn main(rt: HostRuntime) -> io::Result<()> {
@@ -48,6 +48,7 @@ fn main(rt: HostRuntime) -> io::Result<()> {
     compare(&rt, "frozen_markets")?;
     compare(&rt, "month_ends")?;
     compare(&rt, "words")?;
+    compare(&rt, "loads")?;
     compare(&rt, "rounds")?;
     compare(&rt, "watchers")?;
     compare(&rt, "watched_markets")?;

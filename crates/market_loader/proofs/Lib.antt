@@ -1,0 +1,4 @@
+pub mod Calls
+pub mod FileEnds
+pub mod Opening
+pub mod Steps

@@ -1,0 +1,13 @@
+use Rattle.std.proofs.Common.{Err, ap}
+use Rattle.desk_edge.specs.declared.reading.ReadFault.{ReadFault}
+use Rattle.market_loader.proofs.FileEnds.{file_failed}
+use Rattle.market_loader.proofs.file.load_file.Goals as goal
+
+pub returns-in-Err : goal.returns-in-Err
+returns-in-Err g c =
+    let r = c.in-Err.ensures in
+    rw c.file_fault.ensures (file_failed (λ text. text.items) c.args.path.now c.in-Err.fault
+    (g.H.Shelf.contents c.args.shelf.now) (g.H.Shelf.contents c.read_whole.new.shelf) c.read_whole.new.out.items
+    (g.H.Shelf.faults c.args.shelf.now) (g.H.Shelf.faults c.read_whole.new.shelf) (g.H.Shelf.misses c.args.shelf.now)
+    (g.H.Shelf.misses c.read_whole.new.shelf) (g.H.Shelf.calls c.args.shelf.now) (g.H.Shelf.calls c.read_whole.new.shelf)
+    r.files r.reads r.calls r.most r.absent (λ is. r.failed (ap (λ (f : ReadFault). Err f) is)) r.counted r.faults r.misses)

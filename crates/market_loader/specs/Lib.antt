@@ -1,0 +1,5 @@
+pub mod Ends
+pub mod Faults
+pub mod Files
+pub mod Market
+pub mod Reads

@@ -1,0 +1,25 @@
+// The whole of a file.
+ghost use Rattle.std.specs.Prelude.{◌≡◌};
+ghost use Rattle.market_loader.specs.Ends.{file_end};
+ghost use Rattle.market_loader.specs.Files.{file_of, file_calls};
+ghost use Rattle.market_loader.specs.Reads.{Reads, seen};
+
+use crate::FileFault;
+use crate::faults::file_fault;
+use desk_edge::{Shelf, read_whole};
+use std::alloc::Global;
+
+/// The bytes of the file at a path, or why it was not read whole: there is no such file, it has more than
+/// `desk_edge::MOST` bytes, a call of the shelf failed, or memory ran out. The shelf's counts say which calls were made.
+pub fn load_file<H: Shelf>(alloc: Global, path: &str, shelf: &mut H) -> Result<Vec<u8>, FileFault>
+    ensures { Reads file_end (λ text. text.items) (file_of path.now) (file_calls path.now)
+        (seen (H.contents shelf.old) (H.faults shelf.old) (H.misses shelf.old) (H.calls shelf.old))
+        (seen (H.contents shelf.new) (H.faults shelf.new) (H.misses shelf.new) (H.calls shelf.new)) result }
+{
+    let mut text = Vec::new(alloc);
+    match read_whole(shelf, path, &mut text) {
+        Ok(true) => Ok(text),
+        Ok(false) => Err(FileFault::Absent),
+        Err(fault) => Err(file_fault(fault)),
+    }
+}

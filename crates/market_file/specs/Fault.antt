@@ -1,5 +1,5 @@
 -- The faults of a market, by section, entry and kind (this project's profile).
-use Rattle.std.specs.Prelude.{◌≡◌, ℕ, List, codes, Result, Ok, Err}
+use Rattle.std.specs.Prelude.{◌≡◌, ℕ, List, codes, Result, Ok, Err, IfErr}
 use Rattle.market_tables.specs.declared.fault.MarketKind.{MarketKind}
 use Rattle.market_tables.specs.declared.fault.TableFault.{TableFault}
 use Rattle.market_tables.specs.declared.fault.TableFault.TheVariants as table
@@ -49,3 +49,13 @@ FailsWith (market.At s n k) told = told ≡ Err (s, n, k)
 abbrev pub Answers : {X Y : Type 0} → (X → Y) → Result X MarketFault → Result Y Fault → Type 0
 Answers view (Ok x) told = told ≡ Ok (view x)
 Answers view (Err e) told = FailsWith e told
+
+-- what was returned, seen by view, is what the definition gives, and no want of memory
+abbrev pub States : {X Y : Type 0} → (X → Y) → Result X MarketFault → Result Y Fault → Type 0
+States view (Ok x) told = told ≡ Ok (view x)
+States view (Err market.NoMemory) told = ⊥
+States view (Err (market.At s n k)) told = told ≡ Err (s, n, k)
+
+-- a fault that the definition gives is what was returned, whatever the memory
+abbrev pub Refuses : {X Y : Type 0} → Result X MarketFault → Result Y Fault → Type 0
+Refuses result told = IfErr told (λ e. result ≡ Err (market.At e.0 e.1 e.2))

@@ -4,7 +4,7 @@ ghost use Rattle.std.specs.List.{All};
 ghost use Rattle.toml.specs.View.{view, table_view, items_view};
 ghost use Rattle.market_tables.specs.Given.{Gives};
 ghost use Rattle.market_calendars.specs.Reader.{calendars_in};
-ghost use Rattle.market_file.specs.Fault.{Answers, at_entry, in_section};
+ghost use Rattle.market_file.specs.Fault.{Answers, States, Refuses, at_entry, in_section};
 ghost use Rattle.market_file.specs.Document.{document_of};
 ghost use Rattle.market_file.specs.Top.{top_of};
 ghost use Rattle.market_file.specs.Market.{items_of, tables_at, sized, table_sized, quotes_onto, objects_onto, fixings_onto, objects_of, board_of, read_market};
@@ -57,7 +57,7 @@ fn tables_at<'a>(table: &'a Table, word: &str) -> &'a [Value]
 
 // Refuses a file of a section that is too long.
 fn sized(section: Section, file: &[u8]) -> Result<(), MarketFault>
-    ensures { Answers (λ _. file.now) result (sized section file.now) }
+    ensures { States (λ _. file.now) result (sized section file.now) }
 {
     if file.len() > MOST_BYTES {
         return Err(MarketFault::At {
@@ -150,7 +150,7 @@ fn fixings_onto(
 
 // Refuses a table beside the market that is named and too long.
 fn table_sized(section: Section, named: bool, file: &[u8]) -> Result<(), MarketFault>
-    ensures { Answers (λ _. file.now) result (table_sized section named file.now) }
+    ensures { States (λ _. file.now) result (table_sized section named file.now) }
 {
     if named {
         return sized(section, file);
@@ -186,7 +186,8 @@ fn board_of(
     quotes: &[u8],
     fixings: &[u8],
 ) -> Result<(Day, Board), MarketFault>
-    ensures { Answers (λ m. (m.0, m.1)) result (board_of text.now quotes.now fixings.now) }
+    ensures board { Answers (λ m. (m.0, m.1)) result (board_of text.now quotes.now fixings.now) }
+    ensures long { Refuses result (sized section.Top text.now) }
 {
     sized(Section::Top, text)?;
     let table = document(alloc, text)?;
@@ -196,6 +197,7 @@ fn board_of(
 }
 
 /// The market of a text and of the tables that it names, or its first fault; a table that it does not name is not read.
+/// A text that is too long is refused whatever the memory.
 /// `names` becomes the names of the market's objects, `today` first, and stays as it was where the market is refused;
 /// the names of calendars are not among them. The terms of curves, indexes and instruments and the parts of composites are
 /// within their limits, and each object rests on objects before it that are of the kinds that it wants.
@@ -208,6 +210,7 @@ pub fn read_market(
 ) -> Result<Market, MarketFault>
     ensures market { Answers (λ market. record { today = market.today; made = market.made.items; names = names.new })
         result (read_market text.now quotes.now fixings.now) }
+    ensures long { Refuses result (sized section.Top text.now) }
     ensures ready { IfOk result (λ market. IsReady names.new market.made.items) }
     ensures ranged { IfOk result (λ market. All (λ entry. AreInRange entry.1) market.made.items) }
     ensures limited { IfOk result (λ market. All (λ entry. AreLimited entry.1) market.made.items) }

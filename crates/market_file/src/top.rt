@@ -1,7 +1,7 @@
 // The top table of a market.
 ghost use Rattle.std.specs.Prelude.{◌≡◌, Option, map};
 ghost use Rattle.toml.specs.View.{view, table_view};
-ghost use Rattle.market_tables.specs.Given.{Gives};
+ghost use Rattle.market_tables.specs.Given.{Gives, Says};
 ghost use Rattle.market_tables.specs.Table.{listed};
 ghost use Rattle.market_file.specs.Top.{top_keys, version_field, day_field, path_field, tables_field, today_in, path_in, top_made, top_of};
 
@@ -59,14 +59,14 @@ fn top_keys() -> &'static [Key<Presence, TopPlace>]
 }
 
 fn version_field(value: &Value) -> Result<TopField, TableFault>
-    ensures { Gives (λ f. f) result (version_field (view value.now)) }
+    ensures { Says (λ f. f) result (version_field (view value.now)) }
 {
     integer_in(value, 1, 1)?;
     Ok(TopField::Version)
 }
 
 fn day_field(value: &Value) -> Result<TopField, TableFault>
-    ensures { Gives (λ f. f) result (day_field (view value.now)) }
+    ensures { Says (λ f. f) result (day_field (view value.now)) }
 {
     Ok(TopField::Day(day_in(value)?))
 }
@@ -79,7 +79,7 @@ fn path_field(alloc: Global, value: &Value) -> Result<TopField, TableFault>
 }
 
 fn tables_field(value: &Value) -> Result<TopField, TableFault>
-    ensures { Gives (λ f. f) result (tables_field (view value.now)) }
+    ensures { Says (λ f. f) result (tables_field (view value.now)) }
 {
     tables_in(value)?;
     Ok(TopField::Tables)
@@ -124,7 +124,7 @@ impl Places for TopReader {
 const NO_FIELD: TableFault = TableFault::Kind(MarketKind::Key);
 
 fn today_in(field: Option<TopField>) -> Result<Day, TableFault>
-    ensures { Gives (λ day. day) result (today_in field) }
+    ensures { Says (λ day. day) result (today_in field) }
 {
     match &field {
         Some(TopField::Day(day)) => Ok(*day),
@@ -133,7 +133,7 @@ fn today_in(field: Option<TopField>) -> Result<Day, TableFault>
 }
 
 fn path_in(field: Option<TopField>) -> Result<Option<PathText>, TableFault>
-    ensures { Gives (λ path. path) result (path_in field) }
+    ensures { Says (λ path. path) result (path_in field) }
 {
     match field {
         Some(TopField::Path(path)) => Ok(Some(path)),
@@ -145,7 +145,7 @@ fn path_in(field: Option<TopField>) -> Result<Option<PathText>, TableFault>
 // What the fields of a top table say.
 #[tactic(auto, using(market_tables::proofs::FieldPlaces::other))]
 fn top_made(fields: Vec<Option<TopField>>) -> Result<TopTable, TableFault>
-    ensures { Gives (λ top. top) result (top_made fields.items) }
+    ensures { Says (λ top. top) result (top_made fields.items) }
 {
     let mut fields = fields;
     let today = today_in(take_field(&mut fields, 1))?;

@@ -11,7 +11,7 @@ returns-clause-ready c =
     let flows : HaveFlowsInRange c.in_ok-today.board.made = subst HaveFlowsInRange found.made found.range in
     subst (λ (names : List (List ℕ)). IsReady names c.into_parts-found.result.1.items) (sym c.into_parts-found.ensures.names)
     (subst (λ (made : List (ℕ × Terms)). IsReady c.in_ok-today.board.names made) (sym c.into_parts-found.ensures.made)
-    (ready c.args.text.now c.args.quotes.now c.args.fixings.now c.in_ok-today.today c.in_ok-today.board c.in_ok-today.ensures flows))
+    (ready c.args.text.now c.args.quotes.now c.args.fixings.now c.in_ok-today.today c.in_ok-today.board c.in_ok-today.ensures.board flows))
 
 pub returns-clause-ranged : goal.returns-clause-ranged
 returns-clause-ranged c = ranged _ _ (returns-clause-ready c).order

@@ -1,11 +1,9 @@
 -- Each field of the top table is that of its key: a row, where a table says at each word what it says.
-use Rattle.std.proofs.Common.{◌≡◌, refl, map, ℕ, List, Option, Result, Ok}
+use Rattle.std.proofs.Common.{◌≡◌, refl, map, ℕ, List, Option, Ok}
 use Rattle.std.specs.Prelude.{codes}
-use Rattle.market_tables.specs.declared.fault.MarketKind.{MarketKind}
 use Rattle.market_tables.specs.Given.{◌>>=◌}
 use Rattle.market_tables.specs.Table.{Key}
 use Rattle.market_file.specs.declared.top.TopField.{TopField}
-use Rattle.market_file.specs.declared.top.TopTable.{TopTable}
 use Rattle.market_file.specs.Top.{top_keys, today_in, path_in, top_made}
 
 -- the fields of a table by what is said at the words of its keys

@@ -4,3 +4,4 @@ mod Composed
 mod Served
 pub mod Built
 mod KeyRows
+mod FirstFault

@@ -4,3 +4,4 @@ pub mod Top
 pub mod Paths
 pub mod Market
 pub mod Standing
+pub mod FirstFault

@@ -5,6 +5,7 @@ ghost use Rattle.toml.specs.View.{view, table_view, items_view};
 ghost use Rattle.market_tables.specs.Given.{Gives};
 ghost use Rattle.market_calendars.specs.Reader.{calendars_in};
 ghost use Rattle.market_file.specs.Fault.{Answers, States, Refuses, at_entry, in_section};
+ghost use Rattle.market_file.specs.FirstFault.{ToldFirst};
 ghost use Rattle.market_file.specs.Document.{document_of};
 ghost use Rattle.market_file.specs.Top.{top_of};
 ghost use Rattle.market_file.specs.Market.{items_of, tables_at, sized, table_sized, quotes_onto, objects_onto, fixings_onto, objects_of, board_of, read_market};
@@ -210,6 +211,7 @@ pub fn read_market(
 ) -> Result<Market, MarketFault>
     ensures market { Answers (λ market. record { today = market.today; made = market.made.items; names = names.new })
         result (read_market text.now quotes.now fixings.now) }
+    ensures first { ToldFirst text.now quotes.now fixings.now result }
     ensures long { Refuses result (sized section.Top text.now) }
     ensures ready { IfOk result (λ market. IsReady names.new market.made.items) }
     ensures ranged { IfOk result (λ market. All (λ entry. AreInRange entry.1) market.made.items) }

@@ -1,8 +1,10 @@
-use Rattle.std.proofs.Common.{List, ℕ, sym, subst}
+use Rattle.std.proofs.Common.{List, ℕ, refl, sym, subst}
+use Rattle.std.proofs.lemmas.Result.{err_from_is_err_and}
 use Rattle.desk_terms.specs.declared.terms.Terms.{Terms}
 use Rattle.market_objects.specs.Board.{HaveFlowsInRange}
 use Rattle.market_file.specs.Standing.{IsReady}
 use Rattle.market_file.proofs.Built.{ready, ranged, limited}
+use Rattle.market_file.proofs.FirstFault.{told_first}
 use Rattle.market_file.proofs.read.read_market.Goals as goal
 
 pub returns-clause-ready : goal.returns-clause-ready
@@ -18,3 +20,8 @@ returns-clause-ranged c = ranged _ _ (returns-clause-ready c).order
 
 pub returns-clause-limited : goal.returns-clause-limited
 returns-clause-limited c = limited _ _ (returns-clause-ready c).order
+
+pub returns-in_err-today-clause-first : goal.returns-in_err-today-clause-first
+returns-in_err-today-clause-first c =
+    let p = err_from_is_err_and c.from_residual.result c.from_residual.ensures.1 in
+    told_first _ _ _ _ c.in_err-today.field-0.0 (rw (p.1, p.2) refl) c.in_err-today.ensures.board

@@ -1,8 +1,11 @@
 #!/usr/bin/env bash
-# Counts the instructions of the built program, or of the one that is given, in a folder of its own: a stock on a quote of its own is
-# moved and asked 20,000 times, alone, and among 4,000 watchers that are registered with another quote, which nobody moves. Then that
-# quote is moved once, and all of them run. The instructions of making the objects are counted apart, and taken off. It checks no
-# figure.
+# Counts the instructions of the built program, or of the one that is given, in a folder of its own. It checks no figure.
+#
+#   alone    a stock on a quote of its own is moved and asked 20,000 times
+#   among    the same among 4,000 watchers that are registered with another quote, which nobody moves
+#   told     that quote is moved once, and all of them run
+#
+# The instructions of making the objects are counted apart, and taken off.
 #
 #   cd crates/desk && rt run -- run data/market.toml data/script     # builds the program
 #   benchmarks/idle_watchers.sh

@@ -1,8 +1,8 @@
 #!/usr/bin/env bash
-# Makes 2,000 markets, some with their tables, and 1,000 scripts from the examples by mutation, the same each time, and runs the built
-# program, or the one that is given, on each: `check` or `run` for a market, `run` in some order for a script. Prints how many ended with
-# each status, by the kind of the last mutation, and what took longest and most memory. It fails where one ended otherwise than by a status of the table with
-# its line, took over 10 seconds, or over 500 MB. All runs have 128 KiB of stack.
+# Makes 2,000 markets, some with their tables, and 1,000 scripts from the examples by mutation, the same each time, and runs the
+# built program, or the one that is given, on each: `check` or `run` for a market, `run` in some order for a script. Prints how many
+# ended with each status, by the kind of the last mutation, and what took longest and most memory. It fails where a run ended otherwise
+# than by a status and its line, took over 10 seconds, or over 500 MB. All runs have 128 KiB of stack.
 #
 #   cd crates/desk && rt run -- run data/market.toml data/script     # builds the program
 #   benchmarks/mutated_files.sh

@@ -60,8 +60,11 @@ def lines(text):
     return "".join(line + "\n" for line in text.split(" / "))
 
 
-chain = "quote q 1\nstock s q\ncomposite c1\nmember c1 s 1\n" + "".join(
-    f"composite c{k}\nmember c{k} c{k - 1} 1\n" for k in range(2, 4001)) + "ask c4000\nset q 2\nask c4000\n"
+def chain(n):
+    made = "".join(f"composite c{k}\nmember c{k} c{k - 1} 1\n" for k in range(2, n + 1))
+    return f"quote q 1\nstock s q\ncomposite c1\nmember c1 s 1\n{made}ask c{n}\nset q 2\nask c{n}\n"
+
+
 doublings = "quote q 0\nsum d1 q q\n" + "".join(f"sum d{k} d{k - 1} d{k - 1}\n" for k in range(2, 61)) + "stock s d60\nask s\n"
 CASES = [
     ("two asks of a composite", "two", lines("quote a 1.5 / quote b 0.5 / stock s a / stock t b / composite k / member k s 2 / member k t -1 / ask k / set a 2 / ask k")),
@@ -72,7 +75,8 @@ CASES = [
     ("a watcher that makes itself again", "two", lines("quote q 0 / action a / drop w / watch w a / register w q / set q 1 / set q 2 / end / watch w a / register w q / set q 5")),
     ("actions that ask and recalculate", "two", lines("quote q 1 / stock s q / composite k / member k s 1 / action a / ask k / recalc s / ask k / end / action b / df k 2024-01-02 / set q 7 / end / watch v a / watch w b / register v q / register w k / ask k / set q 2 / ask k")),
     ("sixty doublings of a quote", "two", doublings),
-    ("a chain of 4,000 composites", "two", chain),
+    ("a chain of 400 composites", "two", chain(400)),
+    ("a chain of 4,000 composites", "two", chain(4000)),
 ]
 
 

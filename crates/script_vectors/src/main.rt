@@ -28,9 +28,10 @@ const ROOM: usize = 250_000;
 // and words. `freezing` has scripts with freezing, recalculation and notices that are held back, `deferral` those that
 // relink and drop under deferral, and `frozen_markets` the same over markets. `month_ends` has markets whose curves
 // start at a month's end, with spreads, ends on holidays and end conventions, that ask for every object on two days.
-// `words` has lists of words, `loads` loads and words that are none, `rounds` rows of rounds, some of which write a line in each run, `watchers` a thousand
-// scripts with watchers and `watched_markets` the same over markets, each of these in five orders, `hostile` sessions that
-// work against themselves, `hostile_files` tables that are taken apart, and `large` sessions at their limits.
+// `words` has lists of words, `loads` loads and words that are none, `rounds` rows of rounds, some of which write a line
+// in each run, `watchers` a thousand scripts with watchers and `watched_markets` the same over markets, each of these in
+// five orders, `hostile` sessions that work against themselves, `hostile_files` tables that are taken apart, and `large`
+// sessions at their limits.
 fn main(rt: HostRuntime) -> io::Result<()> {
     compare(&rt, "scripts")?;
     compare(&rt, "refused")?;

@@ -51,6 +51,10 @@ try 'a word that is no UTF-8' 2 'desk: usage' '' run two $'s\xff'
 try 'a run' 0 '' "$line" run two script
 try 'a check' 0 '' 'market ok objects 0 fixings 0' check two
 try 'a check with a script' 2 'desk: usage' '' check two script
+try 'a run in an order' 0 '' "$line" run two --order=last script
+try 'an order that is none' 2 'desk: usage' '' run two script --order 01
+try 'an order that is too large' 2 'desk: usage' '' run two script --order 18446744073709551616
+try 'two orders' 2 'desk: usage' '' run --order first two script --order=last
 
 try 'no market' 8 'desk: no file market' '' run none script
 try 'a market that is a folder' 5 'desk: read fault' '' run folder script
@@ -100,6 +104,8 @@ try 'a script that is too long' 4 'desk: script 0 toolong' '' run two long
 try 'a faulty script' 4 'desk: script 1 word' '' run two most
 
 OUT=/dev/full try 'a run, and a full device' 6 'desk: write fault' '' run two script
+printf 'quote q 1\nstock s q\naction a\nask s\nset q 2\nset q 3\nend\nwatch w a\nregister w q\nset q 4\n' > watched
+OUT=/dev/full try 'a round of many lines, and a full device' 6 'desk: write fault' '' run two watched
 OUT=/dev/full try 'a check, and a full device' 6 'desk: write fault' '' check two
 OUT=/dev/full try 'a script that writes nothing, and a full device' 0 '' '' run two nothing
 OUT=/dev/full try 'a faulty script, and a full device' 4 'desk: script 1 word' '' run two most

@@ -56,6 +56,11 @@ try 'an order that is none' 2 'desk: usage' '' run two script --order 01
 try 'an order that is too large' 2 'desk: usage' '' run two script --order 18446744073709551616
 try 'two orders' 2 'desk: usage' '' run --order first two script --order=last
 
+try 'a load' 0 '' 'load 2 lines 2 bytes 40
+c2 7.000000 fresh 3' load 2
+try 'a load of nothing' 2 'desk: usage' '' load 0
+try 'a load that is too large' 2 'desk: usage' '' load 1001
+
 try 'no market' 8 'desk: no file market' '' run none script
 try 'a market that is a folder' 5 'desk: read fault' '' run folder script
 try 'a market through a file' 5 'desk: read fault' '' run two/market script
@@ -106,6 +111,7 @@ try 'a faulty script' 4 'desk: script 1 word' '' run two most
 OUT=/dev/full try 'a run, and a full device' 6 'desk: write fault' '' run two script
 printf 'quote q 1\nstock s q\naction a\nask s\nset q 2\nset q 3\nend\nwatch w a\nregister w q\nset q 4\n' > watched
 OUT=/dev/full try 'a round of many lines, and a full device' 6 'desk: write fault' '' run two watched
+OUT=/dev/full try 'a load, and a full device' 6 'desk: write fault' '' load 2
 OUT=/dev/full try 'a check, and a full device' 6 'desk: write fault' '' check two
 OUT=/dev/full try 'a script that writes nothing, and a full device' 0 '' '' run two nothing
 OUT=/dev/full try 'a faulty script, and a full device' 4 'desk: script 1 word' '' run two most

@@ -316,8 +316,21 @@ module _ (watch : ℕ → Type 0) (items numbers first : List ℕ) (at told : �
     ],
   )
 
+  pub noted_step : (numbers2 : List ℕ) → (watch told × (numbers2 ≡ with_number told numbers)) ⊎ ((watch told → ⊥) × (numbers2 ≡ numbers))
+      → (v : ℕ) → Among v numbers2 ↔ (Among v first ⊎ (watch v × Among v (take (at + 1) items)))
+  noted_step numbers2 (inl now) = subst (λ (l : List ℕ). (v : ℕ) → Among v l ↔ (Among v first ⊎ (watch v × Among v (take (at + 1) items))))
+      (sym now.1) (noted_in now.0)
+  noted_step numbers2 (inr never) = subst (λ (l : List ℕ). (v : ℕ) → Among v l ↔ (Among v first ⊎ (watch v × Among v (take (at + 1) items))))
+      (sym never.1) (noted_out never.0)
+
 pub any_of : (numbers : List ℕ) (b : Bool) → b ≡ (length numbers == 0) → IsTrue (not b) ↔ ((x : ℕ) × Among x numbers)
 any_of [] true is = (λ never. absurd (cc), λ some. absurd some.1)
 any_of [] false is = absurd (cc)
 any_of (first ∷ rest) true is = let none = eqb-true (length (first ∷ rest)) 0 (sym is) in absurd (omega arith)
 any_of (first ∷ rest) false is = (λ yes. (first, inl refl), λ some. refl)
+
+pub noticed_step : (W : Type 0) (numbers numbers2 : List ℕ) (w n : ℕ) → w < n
+    → (W × (numbers2 ≡ with_number w numbers)) ⊎ ((W → ⊥) × (numbers2 ≡ numbers)) → AreNoticed numbers n → AreNoticed numbers2 n
+noticed_step W numbers numbers2 w n low (inl now) noticed = subst (λ (l : List ℕ). AreNoticed l n) (sym now.1)
+    (noticed_with numbers w n low noticed)
+noticed_step W numbers numbers2 w n low (inr never) noticed = subst (λ (l : List ℕ). AreNoticed l n) (sym never.1) noticed

@@ -135,3 +135,23 @@ module _ (subjects : List (List ℕ)) (from through : ℕ → Bool) where
       complete o (next {x = x} a here) = s.start o x a here
       complete o (beyond {x = x} a passes below) = s.closed o x a (subst (Among x) (sym (take_all at items past))
           (complete x below)) passes
+
+-- one that is told is looked at: its observers are told, or were told before, or it passes nothing on
+pub spread_step : (subjects : List (List ℕ)) (from through : ℕ → Bool) (wave wave2 : SetView) (at i : ℕ)
+    → at < length wave.items → i ≡ slice_index_or wave.items at i → Among i wave.items
+    → ((through i ≡ true) × Extends wave wave2 (λ o. Among i (list_at subjects o)))
+    ⊎ ((through i ≡ true → from i ≡ true) × (wave2 ≡ wave))
+    → Spreads subjects from through wave.items at
+    → (length wave2.marks ≡ length wave.marks) × (take (at + 1) wave2.items ≡ take (at + 1) wave.items)
+    × Spreads subjects from through wave2.items (at + 1)
+spread_step subjects from through wave wave2 at i low is here (inl on) s = (
+  on.1.room,
+  ap (take (at + 1)) on.1.end.1 ∙ take-append-le (at + 1) wave.items on.1.end.0 (omega arith),
+  spreads_on subjects from through wave wave2 at i low is here on.0 on.1 s,
+)
+spread_step subjects from through wave wave2 at i low is here (inr past) s = (
+  ap (λ (v : SetView). length v.marks) past.1,
+  ap (λ (v : SetView). take (at + 1) v.items) past.1,
+  subst (λ (v : SetView). Spreads subjects from through v.items (at + 1)) (sym past.1)
+      (spreads_past subjects from through wave.items at i low is past.0 s),
+)

@@ -13,7 +13,7 @@ use crate::node::{Flags, Node, Role};
 use crate::node_set::NodeSet;
 use crate::pairs::Pairs;
 use crate::rising::{first_out, reserve_for, take_out};
-use crate::walk::{notice_all, tell_all, unsettle, unsettle_one};
+use crate::walk::{tell_all, unsettle_one};
 use desk_names::ObjId;
 use std::alloc::{AllocError, Global};
 use std::marker::Model;
@@ -320,9 +320,13 @@ impl Graph {
     pub fn tell(&mut self)
         ensures { Tells self.old self.new }
     {
-        tell_all(&self.pairs, &self.nodes, &self.sources, &mut self.wave);
-        notice_all(&self.nodes, &self.wave, &mut self.noticed);
-        unsettle(&mut self.nodes, &self.wave);
+        tell_all(
+            &self.pairs,
+            &mut self.nodes,
+            &self.sources,
+            &mut self.wave,
+            &mut self.noticed,
+        );
         self.wave.clear();
         self.sources.clear();
     }

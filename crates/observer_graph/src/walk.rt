@@ -1,10 +1,10 @@
-// Whom a notice reaches: a set that grows until it is closed.
-ghost use Rattle.std.specs.Prelude.{◌≡◌, ◌↔◌, ◌⊎◌, ◌<◌, ◌≤◌, ℕ, vec_capacity, [], length, IsTrue, None, slice_index_or};
+// Whom a notice reaches: a set that grows until it is closed, and what becomes of them.
+ghost use Rattle.std.specs.Prelude.{◌≡◌, ◌↔◌, ◌⊎◌, ◌<◌, ◌≤◌, ℕ, vec_capacity, [], length, true, None, slice_index_or};
 ghost use Rattle.walks.specs.Walk.{Among};
-ghost use Rattle.observer_graph.specs.Lists.{is_marked};
+ghost use Rattle.observer_graph.specs.Lists.{is_marked, list_at, Extends};
 ghost use Rattle.observer_graph.specs.Notice.{IsTold, passes_of, unsettled};
 ghost use Rattle.observer_graph.specs.GraphView.{IsWatcher};
-ghost use Rattle.observer_graph.specs.Noticed.{AreNoticed};
+ghost use Rattle.observer_graph.specs.Noticed.{AreNoticed, IsRising, with_number};
 ghost use Rattle.observer_graph.specs.Walks.{IsFirst, IsWithin, graph_of};
 
 use crate::node::{Node, Role, is_watcher};
@@ -13,20 +13,37 @@ use crate::pairs::Pairs;
 use crate::rising::put_in;
 use desk_names::ObjId;
 
-/// Puts those whom a notice from the sources reaches into an empty set. Each of them is looked at once, and each
-/// pair of a source, or of one that passes the notice on, once.
-pub fn tell_all(pairs: &Pairs, nodes: &[Option<Node>], sources: &NodeSet, wave: &mut NodeSet)
-    requires within { IsWithin pairs.now.subjects (length nodes.now) }
-    requires pairs { length pairs.now.subjects ≡ length nodes.now }
-    requires sources { length sources.now.marks ≡ length nodes.now }
-    requires wave { length wave.old.marks ≡ length nodes.now }
+/// A notice from the sources: those whom it reaches are put into an empty set and are no longer current, and the watchers
+/// among them are remembered. Each of them is looked at once, and each pair of a source, or of one that passes the notice
+/// on, once.
+pub fn tell_all(
+    pairs: &Pairs,
+    nodes: &mut [Option<Node>],
+    sources: &NodeSet,
+    wave: &mut NodeSet,
+    noticed: &mut Vec<ObjId>,
+)
+    requires within { IsWithin pairs.now.subjects (length nodes.old) }
+    requires pairs { length pairs.now.subjects ≡ length nodes.old }
+    requires sources { length sources.now.marks ≡ length nodes.old }
+    requires wave { length wave.old.marks ≡ length nodes.old }
     requires empty { wave.old.items ≡ [] }
+    requires noticed { AreNoticed noticed.old.items (length nodes.old) }
+    requires room { length nodes.old ≤ vec_capacity noticed.old }
     ensures told { (o : ℕ) → Among o wave.new.items
-        ↔ IsTold (graph_of nodes.now pairs.now.subjects sources.now.marks) o }
+        ↔ IsTold (graph_of nodes.old pairs.now.subjects sources.now.marks) o }
     ensures room { length wave.new.marks ≡ length wave.old.marks }
+    ensures settled { (o : ℕ) → Among o wave.new.items
+        → slice_index_or nodes.new o None ≡ unsettled (slice_index_or nodes.old o None) }
+    ensures others { (o : ℕ) → (Among o wave.new.items → ⊥)
+        → slice_index_or nodes.new o None ≡ slice_index_or nodes.old o None }
+    ensures watchers { (w : ℕ) → Among w noticed.new.items
+        ↔ (Among w noticed.old.items ⊎ (IsWatcher (slice_index_or nodes.old w None) × Among w wave.new.items)) }
+    ensures noticed { AreNoticed noticed.new.items (length nodes.old) }
+    ensures capacity { vec_capacity noticed.old ≤ vec_capacity noticed.new }
 {
     tell_observers(pairs, sources, wave);
-    pass_on(pairs, nodes, sources, wave);
+    pass_on(pairs, nodes, sources, wave, noticed);
 }
 
 // The observers of each source are told.
@@ -43,24 +60,74 @@ fn tell_observers(pairs: &Pairs, sources: &NodeSet, wave: &mut NodeSet)
     }
 }
 
-// The observers of each that is told and passes the notice on are told. Those of a source were told before.
-fn pass_on(pairs: &Pairs, nodes: &[Option<Node>], sources: &NodeSet, wave: &mut NodeSet)
-    requires within { IsWithin pairs.now.subjects (length nodes.now) }
-    requires pairs { length pairs.now.subjects ≡ length nodes.now }
-    requires sources { length sources.now.marks ≡ length nodes.now }
-    requires wave { length wave.old.marks ≡ length nodes.now }
+// The observers of each that is told and passes the notice on are told, and it is no longer current. Those of a source
+// were told before.
+fn pass_on(
+    pairs: &Pairs,
+    nodes: &mut [Option<Node>],
+    sources: &NodeSet,
+    wave: &mut NodeSet,
+    noticed: &mut Vec<ObjId>,
+)
+    requires within { IsWithin pairs.now.subjects (length nodes.old) }
+    requires pairs { length pairs.now.subjects ≡ length nodes.old }
+    requires sources { length sources.now.marks ≡ length nodes.old }
+    requires wave { length wave.old.marks ≡ length nodes.old }
     requires first { (o : ℕ) → Among o wave.old.items ↔ IsFirst pairs.now.subjects sources.now.marks o }
+    requires noticed { AreNoticed noticed.old.items (length nodes.old) }
+    requires room { length nodes.old ≤ vec_capacity noticed.old }
     ensures told { (o : ℕ) → Among o wave.new.items
-        ↔ IsTold (graph_of nodes.now pairs.now.subjects sources.now.marks) o }
+        ↔ IsTold (graph_of nodes.old pairs.now.subjects sources.now.marks) o }
     ensures room { length wave.new.marks ≡ length wave.old.marks }
+    ensures settled { (o : ℕ) → Among o wave.new.items
+        → slice_index_or nodes.new o None ≡ unsettled (slice_index_or nodes.old o None) }
+    ensures others { (o : ℕ) → (Among o wave.new.items → ⊥)
+        → slice_index_or nodes.new o None ≡ slice_index_or nodes.old o None }
+    ensures watchers { (w : ℕ) → Among w noticed.new.items
+        ↔ (Among w noticed.old.items ⊎ (IsWatcher (slice_index_or nodes.old w None) × Among w wave.new.items)) }
+    ensures noticed { AreNoticed noticed.new.items (length nodes.old) }
+    ensures capacity { vec_capacity noticed.old ≤ vec_capacity noticed.new }
 {
     let mut at: usize = 0;
     while at < wave.len() {
         let told = wave.get(at);
-        if passes(&nodes[told.place()]) && !sources.contains(told) {
-            pairs.insert_observers(told, wave);
-        }
+        let node = &mut nodes[told.place()];
+        pass_notice(pairs, node, told, sources, wave);
+        remember(node, told, noticed);
+        unsettle_one(node);
         at += 1;
+    }
+}
+
+// The observers of a node that is told are told, if it passes the notice on and is no source.
+fn pass_notice(
+    pairs: &Pairs,
+    node: &Option<Node>,
+    told: ObjId,
+    sources: &NodeSet,
+    wave: &mut NodeSet,
+)
+    requires told { told < length sources.now.marks }
+    requires sources { length sources.now.marks ≡ length pairs.now.subjects }
+    requires room { length pairs.now.subjects ≡ length wave.old.marks }
+    ensures { ((passes_of node.now ≡ true) × Extends wave.old wave.new (λ o. Among told (list_at pairs.now.subjects o)))
+        ⊎ ((passes_of node.now ≡ true → is_marked sources.now.marks told ≡ true) × (wave.new ≡ wave.old)) }
+{
+    if passes(node) && !sources.contains(told) {
+        pairs.insert_observers(told, wave);
+    }
+}
+
+// A node that is told is remembered, if it is a watcher.
+fn remember(node: &Option<Node>, told: ObjId, noticed: &mut Vec<ObjId>)
+    requires rising { IsRising noticed.old.items }
+    requires room { length (with_number told noticed.old.items) ≤ vec_capacity noticed.old }
+    ensures watcher { (IsWatcher node.now × (noticed.new.items ≡ with_number told noticed.old.items))
+        ⊎ ((IsWatcher node.now → ⊥) × (noticed.new.items ≡ noticed.old.items)) }
+    ensures room { vec_capacity noticed.old ≤ vec_capacity noticed.new }
+{
+    if is_watcher(node) {
+        put_in(noticed, told);
     }
 }
 
@@ -76,38 +143,6 @@ fn passes(node: &Option<Node>) -> bool
             Role::Lazy => !live.flags.frozen && (live.flags.current || live.flags.forward),
             Role::Watcher => false,
         },
-    }
-}
-
-/// The watchers among those who were told are remembered, by creation.
-pub fn notice_all(nodes: &[Option<Node>], wave: &NodeSet, noticed: &mut Vec<ObjId>)
-    requires within { (o : ℕ) → Among o wave.now.items → o < length nodes.now }
-    requires noticed { AreNoticed noticed.old.items (length nodes.now) }
-    requires room { length nodes.now ≤ vec_capacity noticed.old }
-    ensures told { (w : ℕ) → Among w noticed.new.items
-        ↔ (Among w noticed.old.items ⊎ (IsWatcher (slice_index_or nodes.now w None) × Among w wave.now.items)) }
-    ensures noticed { AreNoticed noticed.new.items (length nodes.now) }
-    ensures room { vec_capacity noticed.old ≤ vec_capacity noticed.new }
-{
-    for at in 0..wave.len() {
-        let told = wave.get(at);
-        if is_watcher(&nodes[told.place()]) {
-            put_in(noticed, told);
-        }
-    }
-}
-
-/// Those who were told are no longer current.
-pub fn unsettle(nodes: &mut [Option<Node>], wave: &NodeSet)
-    requires { (o : ℕ) → Among o wave.now.items → o < length nodes.old }
-    ensures told { (o : ℕ) → Among o wave.now.items
-        → slice_index_or nodes.new o None ≡ unsettled (slice_index_or nodes.old o None) }
-    ensures others { (o : ℕ) → (Among o wave.now.items → ⊥)
-        → slice_index_or nodes.new o None ≡ slice_index_or nodes.old o None }
-{
-    for at in 0..wave.len() {
-        let told = wave.get(at);
-        unsettle_one(&mut nodes[told.place()]);
     }
 }
 

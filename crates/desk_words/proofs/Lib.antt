@@ -1,2 +1,4 @@
+pub mod Counts
+pub mod Numbers
 pub mod RunWalk
 pub mod WordsRows

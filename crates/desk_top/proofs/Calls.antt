@@ -1,6 +1,6 @@
 -- How often a shelf is called for a whole file.
 use Rattle.std.proofs.Common.{◌≡◌, ◌∙◌, ℕ, ◌+◌, ◌≤◌, Bool, true, false, List, [], length, Option, Some, None, Result, Ok, Err, unwrap_or, refl, sym, ap, arith}
-use Rattle.std.specs.Prelude.{IfSome, take, min}
+use Rattle.std.specs.Prelude.{IfSome, min}
 use Rattle.std.proofs.Math.Nat.{min-le_right, le-min}
 use Rattle.std.proofs.lemmas.List.{length-take}
 use Rattle.desk_edge.specs.Shelf.{Contents, most_bytes, file_at, bytes_at, files_of, IsFront, Reads as ReadsFile}

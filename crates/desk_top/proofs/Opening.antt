@@ -1,5 +1,5 @@
 -- The reading of a market, step by step.
-use Rattle.std.proofs.Common.{ℕ, ◌≤◌, List, Option, Result, Ok, Err, Vec, arith}
+use Rattle.std.proofs.Common.{ℕ, ◌≤◌, List, Result, Ok, Err, Vec, arith}
 use Rattle.std.specs.declared.alloc.Global.{Global}
 use Rattle.market_file.specs.declared.paths.Paths.{Paths}
 use Rattle.market_file.specs.Market.{read_market}
@@ -8,7 +8,7 @@ use Rattle.desk_top.specs.declared.plan.Opened as opened
 use Rattle.desk_top.specs.declared.status.FileRole.TheVariants as role
 use Rattle.desk_top.specs.declared.status.Status.{Status}
 use Rattle.desk_top.specs.Found.{Seen, Says, Reads, market_in}
-use Rattle.desk_top.specs.Reading.{Files, file_of, file_calls, table_of, table_calls, and_then, or_market, with_text, text_calls, with_quotes, tables_calls, with_fixings, market_of, market_calls}
+use Rattle.desk_top.specs.Reading.{file_of, file_calls, table_of, table_calls, and_then, or_market, with_text, text_calls, with_quotes, tables_calls, with_fixings, market_of, market_calls}
 use Rattle.desk_top.proofs.Steps.{reads_on, reads_text, reads_within}
 
 abbrev Text : Type 0

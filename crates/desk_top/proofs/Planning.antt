@@ -10,7 +10,9 @@ use Rattle.desk_top.specs.declared.status.Status.{Status}
 use Rattle.desk_top.specs.declared.status.Status as status
 use Rattle.desk_top.specs.Found.{Tells, plan_in}
 use Rattle.desk_top.specs.Reading.{Files}
-use Rattle.desk_top.specs.Verdict.{plan_of, plan_calls, with_request, calls_for, verdict_of, reading_calls, IsCheck}
+use Rattle.desk_top.specs.Verdict.{plan_of, plan_calls, with_request, calls_for, verdict_of, reading_calls, IsCheck, Plan, output_in, output_of}
+use Rattle.desk_terms.specs.Reading.{Calc}
+use Rattle.desk_top.specs.Run.{Writes}
 use Rattle.desk_top.proofs.Steps.{told_any, told_map}
 
 -- what words ask for, where they are a request, and where they are none
@@ -62,3 +64,10 @@ told_uncalled told words calls = told_any told (λ files. omega arith)
 -- a check is asked for by its words
 pub asked_check : (request : Request) (asked : Option Request) → asked ≡ Some request → IsCheck asked → IsCheck (Some request)
 asked_check request asked is check = subst (λ (o : Option Request). IsCheck o) is check
+
+-- what was written of a plan was written of the verdict
+pub told_written : (told : Option Files) (words : List (List ℕ)) (calc : Calc) (plan : Plan) (old new : Option (List ℕ)) (s : Status)
+    → IfSome told (λ files. verdict_of files words ≡ Ok plan) → Writes old new (output_in calc plan) s
+    → IfSome told (λ files. Writes old new (output_of calc (verdict_of files words)) s)
+told_written told words calc plan old new s is writes =
+    told_map told (λ files e. subst (λ v. Writes old new (output_of calc v) s) (sym e) writes) is

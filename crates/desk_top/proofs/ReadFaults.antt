@@ -1,6 +1,6 @@
 -- A file that was not read: what its status says of it, and of the shelf.
 use Rattle.std.proofs.Common.{◌≡◌, ◌∙◌, inl, inr, ℕ, ◌+◌, ◌<◌, ◌≤◌, Bool, List, length, Option, Some, None, Result, Ok, Err, refl, ap}
-use Rattle.std.specs.Prelude.{IfSome, nat_lt, if◌then◌else◌}
+use Rattle.std.specs.Prelude.{IfSome, if◌then◌else◌}
 use Rattle.std.proofs.lemmas.Bool.{lt-ltb}
 use Rattle.desk_edge.specs.Count.{Rose}
 use Rattle.desk_edge.specs.Shelf.{Contents, most_bytes, file_at, files_of, Reads as ReadsFile, faults_after as read_after}

@@ -6,6 +6,7 @@ use Rattle.desk_model.specs.Effect as effect
 use Rattle.session_commands.specs.declared.command.Command.{Command}
 use Rattle.session_commands.specs.Whole.{IsCommand, IsScript}
 use Rattle.session_model.specs.Standing.{Standing, with_objects, IsKnown}
+use Rattle.session_rounds.specs.Fits.{AreKnown}
 use Rattle.desk_top.specs.Verdict.{ScriptRun, first_standing}
 
 -- objects are made in a session that goes on, with its names and its actions
@@ -42,3 +43,16 @@ starts_known run session commands is are whole =
     (subst (λ (n : List (List ℕ)). All (λ c. IsCommand (length n) (length session.actions) c) run.script.commands) (sym names)
     (subst (λ (a : List (List Command)). All (λ c. IsCommand (length run.names) (length a) c) run.script.commands)
     (sym actions) whole.commands))
+
+-- and so are those of its actions
+pub starts_acting : (run : ScriptRun) (session : Standing) → session ≡ first_standing run → IsScript run.names run.script
+    → AreKnown session
+starts_acting run session is whole =
+    let names : session.names ≡ run.names = ap (λ (p : Standing). p.names) is ∙ objects_names run.made _ in
+    let actions : session.actions ≡ run.script.actions =
+    ap (λ (p : Standing). p.actions) is ∙ objects_actions run.made _ in
+    subst (λ (l : List (List Command)). All (λ block. All (IsKnown session) block) l) (sym actions)
+    (subst (λ (n : List (List ℕ)). All (λ block. All (λ c. IsCommand (length n) (length session.actions) c) block) run.script.actions)
+    (sym names)
+    (subst (λ (a : List (List Command)). All (λ block. All (λ c. IsCommand (length run.names) (length a) c) block) run.script.actions)
+    (sym actions) whole.actions))

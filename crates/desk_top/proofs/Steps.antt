@@ -168,3 +168,22 @@ late_counted (status.Market section entry why) faults late = absurd late
 late_counted (status.Script line why) faults late = absurd late
 late_counted status.ReadFault faults late = absurd late
 late_counted (status.Absent role) faults late = absurd late
+
+-- a text that is read goes on with what it gives
+pub says_on : {X Y Z W : Type 0} (view : X → Y) (other : Z → W) (first : Result Y Status) (go : Y → Result W Status) (x : X)
+    (result : Result Z Status) → Says view (Ok x) first → Says other result (go (view x)) → Says other result (first >>= go)
+says_on {X} {Y} view other first go x result is says =
+    subst (λ q. Says other result q) (sym (ap (λ (q : Result Y Status). q >>= go) is)) says
+
+-- and ends with its fault
+pub says_fails : {X Y Z W : Type 0} (view : X → Y) (other : Z → W) (first : Result Y Status) (go : Y → Result W Status)
+    (s : Status) → Says view (Err s) first → Says other (Err s) (first >>= go)
+says_fails view other first go status.NoMemory says = tt
+says_fails {X} {Y} view other first go (status.Market section entry why) says =
+    ap (λ (q : Result Y Status). q >>= go) says
+says_fails {X} {Y} view other first go (status.Script line why) says = ap (λ (q : Result Y Status). q >>= go) says
+says_fails view other first go status.Done says = absurd says
+says_fails view other first go status.Usage says = absurd says
+says_fails view other first go status.ReadFault says = absurd says
+says_fails view other first go status.WriteFault says = absurd says
+says_fails view other first go (status.Absent role) says = absurd says

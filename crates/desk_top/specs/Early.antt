@@ -2,7 +2,7 @@
 use Rattle.std.specs.Prelude.{◌≡◌, ◌+◌, ◌<◌, ◌≤◌, ℕ, Bool, List, ◌++◌, length, take, drop, Option}
 use Rattle.desk_edge.specs.Sink.{appended}
 use Rattle.desk_terms.specs.Bench.{counted, logged}
-use Rattle.session_model.specs.Turn.{Turn}
+use Rattle.session_model.specs.Course.{Course}
 use Rattle.session_model.specs.Rounds.{lines_of, calls_in}
 
 -- what is seen from outside: the bytes that the sink took, and the count and the log of the bench
@@ -15,28 +15,29 @@ abbrev pub outside : Option (List ℕ) → ℕ → Option (List (ℕ × Bool)) �
 outside bytes count log = record { bytes = bytes; count = count; log = log }
 
 -- the round after these many, alone, where there is one
-abbrev pub next_of : ℕ → List Turn → List Turn
-next_of whole turns = take 1 (drop whole turns)
+abbrev pub next_of : {P : Type 0} → ℕ → List (Course P) → List (Course P)
+next_of whole courses = take 1 (drop whole courses)
 
 -- A write failed: the lines of the whole rounds were written, and the first bytes of the next one's, fewer than all. The
 -- computations of all these rounds were made, those of the next one too.
-pub record IsCut (turns : List Turn) (old new : Outside) : Type 0 where
+pub record IsCut {P : Type 0} (courses : List (Course P)) (old new : Outside) : Type 0 where
   pub whole : ℕ
   pub part : ℕ
-  pub short : part < length (lines_of (next_of whole turns))
-  pub bytes : new.bytes ≡ appended (lines_of (take whole turns) ++ take part (lines_of (next_of whole turns))) old.bytes
-  pub count : new.count ≡ counted old.count (length (calls_in (take (whole + 1) turns)))
-  pub log : new.log ≡ logged old.log (calls_in (take (whole + 1) turns))
+  pub short : part < length (lines_of (next_of whole courses))
+  pub bytes : new.bytes ≡ appended (lines_of (take whole courses) ++ take part (lines_of (next_of whole courses))) old.bytes
+  pub count : new.count ≡ counted old.count (length (calls_in (take (whole + 1) courses)))
+  pub log : new.log ≡ logged old.log (calls_in (take (whole + 1) courses))
 
--- Memory ran out: all lines so far were written, which are those of the whole rounds: a round writes its line last, when
--- nothing wants memory any more. The computations of the whole rounds were made, and of those of the next one so many were
--- begun and so many ended.
-pub record IsHalted (turns : List Turn) (old new : Outside) : Type 0 where
+-- Memory ran out: the lines of the whole rounds were written, and a front of the next one's. The computations of the whole
+-- rounds were made, and of those of the next one so many were begun and so many ended.
+pub record IsHalted {P : Type 0} (courses : List (Course P)) (old new : Outside) : Type 0 where
   pub whole : ℕ
+  pub part : ℕ
+  pub within : part ≤ length (lines_of (next_of whole courses))
   pub begun : ℕ
   pub ended : ℕ
-  pub most : begun ≤ length (calls_in (next_of whole turns))
+  pub most : begun ≤ length (calls_in (next_of whole courses))
   pub last : (ended ≤ begun) × (begun ≤ ended + 1)
-  pub bytes : new.bytes ≡ appended (lines_of (take whole turns)) old.bytes
-  pub count : new.count ≡ counted old.count (length (calls_in (take whole turns)) + begun)
-  pub log : new.log ≡ logged old.log (calls_in (take whole turns) ++ take ended (calls_in (next_of whole turns)))
+  pub bytes : new.bytes ≡ appended (lines_of (take whole courses) ++ take part (lines_of (next_of whole courses))) old.bytes
+  pub count : new.count ≡ counted old.count (length (calls_in (take whole courses)) + begun)
+  pub log : new.log ≡ logged old.log (calls_in (take whole courses) ++ take ended (calls_in (next_of whole courses)))

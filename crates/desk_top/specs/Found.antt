@@ -1,5 +1,5 @@
 -- What the reading of words and files gives, and what it leaves of the shelf.
-use Rattle.std.specs.Prelude.{◌≡◌, ◌⊎◌, ◌≤◌, ◌+◌, ℕ, List, Option, Result, Ok, Err, IfSome, IfErr, IsErrOf}
+use Rattle.std.specs.Prelude.{◌≡◌, ◌⊎◌, ◌≤◌, ◌+◌, ℕ, Option, Result, Ok, Err, IfSome, IfErr, IsErrOf}
 use Rattle.desk_edge.specs.Count.{Rose}
 use Rattle.desk_edge.specs.Shelf.{Contents, files_of}
 use Rattle.desk_edge.specs.declared.reading.ReadFault as fault
@@ -16,7 +16,7 @@ use Rattle.desk_top.specs.declared.plan.Plan as planned
 use Rattle.desk_top.specs.declared.plan.ScriptRun as scripted
 use Rattle.desk_top.specs.Reading.{Files, too_long_of}
 use Rattle.desk_top.specs.Run.{IsReading, faults_then}
-use Rattle.desk_top.specs.Verdict.{ScriptRun, Plan, Run, Check}
+use Rattle.desk_top.specs.Verdict.{ScriptRun, Plan, Run, Load, Check}
 
 -- the status of a read that failed
 abbrev pub read_status : FileRole → fault.ReadFault → Status
@@ -103,7 +103,8 @@ run_in run =
 
 -- a plan of the code, as the definition sees it
 abbrev pub plan_in : planned.Plan → Plan
-plan_in (planned.TheVariants.Run run) = Run (run_in run)
+plan_in (planned.TheVariants.Run run order) = Run (run_in run) order
+plan_in (planned.TheVariants.Load size run) = Load size (run_in run)
 plan_in (planned.TheVariants.Check objects fixings) = Check objects fixings
 
 -- a session can be made of the objects, and the script is whole
@@ -112,7 +113,8 @@ CanRun run = IsReady run.market.names run.market.made.items × IsScript run.mark
 
 -- the same of a plan: a report needs nothing
 abbrev pub CanDo : planned.Plan → Type 0
-CanDo (planned.TheVariants.Run run) = CanRun run
+CanDo (planned.TheVariants.Run run order) = CanRun run
+CanDo (planned.TheVariants.Load size run) = CanRun run
 CanDo (planned.TheVariants.Check objects fixings) = Unit {0}
 
 -- a status that may come before the first command is done

@@ -5,4 +5,5 @@ pub mod Report
 pub mod Round
 pub mod Run
 pub mod Status
+pub mod Summary
 pub mod Verdict

@@ -3,6 +3,7 @@ use day_number::Day;
 use desk_names::Names;
 use market_file::MadeList;
 use session_commands::Script;
+use watch_rounds::Order;
 
 // A market that was read: the names of its objects, its evaluation date, and the objects in order of creation.
 #[derive(Drop)]
@@ -22,8 +23,10 @@ pub(crate) struct ScriptRun {
 // What is to be done.
 #[derive(Drop)]
 pub(crate) enum Plan {
-    // A script is to be run.
-    Run(ScriptRun),
+    // A script is to be run, and due watchers in this order.
+    Run { run: ScriptRun, order: Order },
+    // The script of a load of this size is to be run, and what it writes to be summed up.
+    Load { size: u32, run: ScriptRun },
     // A market is to be reported that has so many objects and so many stored fixings.
     Check { objects: usize, fixings: u128 },
 }

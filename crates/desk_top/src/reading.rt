@@ -122,7 +122,12 @@ fn paths_of(alloc: Global, text: &[u8]) -> Result<Paths, Status>
 }
 
 // The market of a text and of the tables that it names.
-fn opened(alloc: Global, text: &[u8], quotes: &[u8], fixings: &[u8]) -> Result<Opened, Status>
+pub(crate) fn opened(
+    alloc: Global,
+    text: &[u8],
+    quotes: &[u8],
+    fixings: &[u8],
+) -> Result<Opened, Status>
     ensures says { Says market_in result (or_market (read_market text.now quotes.now fixings.now)) }
     ensures ready { IfOk result (λ market. IsReady market.names market.made.items) }
 {
@@ -152,7 +157,7 @@ fn market_status(fault: MarketFault) -> Status
 }
 
 // The script of a text, over a market.
-fn scripted(alloc: Global, mut market: Opened, text: &[u8]) -> Result<ScriptRun, Status>
+pub(crate) fn scripted(alloc: Global, mut market: Opened, text: &[u8]) -> Result<ScriptRun, Status>
     requires ready { IsReady market.names market.made.items }
     ensures says { Says run_in result (scripted (market_in market) text.now) }
     ensures whole { IfOk result CanRun }

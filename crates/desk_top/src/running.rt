@@ -9,27 +9,33 @@ ghost use Rattle.desk_top.specs.Found.{IsBefore, CanRun, CanDo, Tells, Reads, fa
 ghost use Rattle.desk_top.specs.Early.{outside, IsCut, IsHalted};
 ghost use Rattle.desk_top.specs.Run.{IsOutside, IsEarly, IsLate, IsAccepted, IsQuiet, Writes, ended, faults_then};
 ghost use Rattle.desk_top.specs.Verdict.{Plan as Wanted, Run as RunWanted, IsCheck, IsReport, plan_of, plan_calls, reading_calls, verdict_of, status_of, output_in, output_of, computed_in, computed_by, rounds_in, rounds_of};
-ghost use Rattle.desk_words.specs.Answers.{request_in};
+ghost use Rattle.desk_words.specs.Answers.{request_in, IsSized};
 ghost use Rattle.desk_words.specs.Words.{request_of};
 
 use crate::Status;
+use crate::loading::plan_load;
 use crate::plan::{Plan, ScriptRun};
 use crate::play::play;
 use crate::reading::{open_market, open_script};
 use crate::report::{check_of, report};
+use crate::starting::begun;
+use crate::summing::sum_up;
 use desk_edge::{Shelf, Sink};
 use desk_terms::Bench;
 use desk_words::{Request, WordsFault, read_words};
-use market_session::session_of;
 use std::alloc::Global;
+use watch_rounds::Order;
 
 /// Does what the words ask for over the files of the shelf, writes the transcript to `out`, and answers how that went.
 /// The words are those behind the program's name. The prices are those of the bench.
 ///
 /// The first failure in this order is the answer: the words; the market's file and the tables' names in it; the file of
 /// the quotes, and that of the fixings, where the market names them; the market. Then a check writes its one line. A run
-/// goes on: the script's file, the script; then each command, whose lines are written before the next begins. Nothing is
-/// written before the first command. A fault outside, or want of memory, may come at any time.
+/// goes on: the script's file, the script; then the round of each command, with the runs of the watchers that it makes due
+/// in the order that the words name, whose lines are written before the next round begins. Nothing is written before the
+/// first command. A load looks at no file: the texts of its size stand for the market, its quotes and the script; it
+/// does their rounds, and writes how many lines and bytes the transcript has, and its last line. A fault outside, or
+/// want of memory, may come at any time.
 pub fn run<H: Shelf, K: Sink, B: Bench>(
     alloc: Global,
     words: &[String],
@@ -54,8 +60,8 @@ pub fn run<H: Shelf, K: Sink, B: Bench>(
     ensures accepted { IfSome (files_of (H.contents shelf.old)) (λ files.
         result ≡ Status.WriteFault → IsAccepted (verdict_of files (map string_bytes words.now))) }
 
-    // Where it ends early the lines of whole rounds were written; a failed write leaves a part of the next one's, and want
-    // of memory none. `untold` and `stopped` say the same for files told or not.
+    // Where it ends early the lines of whole rounds were written, and a part of the next one's; a load counts as one round.
+    // `untold` and `stopped` say the same for files told or not.
     ensures cut { IfSome (files_of (H.contents shelf.old)) (λ files. result ≡ Status.WriteFault
         → IsCut (rounds_of (B.calc bench.old) (verdict_of files (map string_bytes words.now)))
         (outside (K.bytes out.old) (B.count bench.old) (B.log bench.old)) (outside (K.bytes out.new) (B.count bench.new) (B.log bench.new))) }
@@ -124,6 +130,7 @@ fn plan_of<H: Shelf>(alloc: Global, words: &[String], shelf: &mut H) -> Result<P
 
 // What a request asks for, over the files.
 fn plan_for<H: Shelf>(alloc: Global, request: &Request, shelf: &mut H) -> Result<Plan, Status>
+    requires sized { IsSized request.now }
     ensures reads { Reads plan_in (plan_of (request_in request.now)) (plan_calls (request_in request.now))
         (seen (H.contents shelf.old) (H.faults shelf.old) (H.misses shelf.old) (H.calls shelf.old))
         (seen (H.contents shelf.new) (H.faults shelf.new) (H.misses shelf.new) (H.calls shelf.new)) result }
@@ -131,11 +138,16 @@ fn plan_for<H: Shelf>(alloc: Global, request: &Request, shelf: &mut H) -> Result
     ensures can { IfOk result CanDo }
 {
     match request {
-        Request::Run { market, script } => {
+        Request::Run {
+            market,
+            script,
+            order,
+        } => {
             let market = open_market(alloc, shelf, market.text())?;
             let run = open_script(alloc, shelf, market, script.text())?;
-            Ok(Plan::Run(run))
+            Ok(Plan::Run { run, order: *order })
         }
+        Request::Load(size) => plan_load(alloc, *size),
         Request::Check { market } => {
             let market = open_market(alloc, shelf, market.text())?;
             Ok(check_of(&market))
@@ -164,7 +176,8 @@ fn carry_out<K: Sink, B: Bench>(
     ensures write { IsErrOf result Status.WriteFault → Rose (K.faults out.old) (K.faults out.new) }
 {
     match plan {
-        Plan::Run(run) => play_script(alloc, run, out, bench),
+        Plan::Run { run, order } => play_script(alloc, run, order, out, bench),
+        Plan::Load { size, run } => sum_up(alloc, size, run, out, bench),
         Plan::Check { objects, fixings } => report(alloc, objects, fixings, out),
     }
 }
@@ -173,28 +186,22 @@ fn carry_out<K: Sink, B: Bench>(
 fn play_script<K: Sink, B: Bench>(
     alloc: Global,
     run: ScriptRun,
+    order: Order,
     out: &mut K,
     bench: &mut B,
 ) -> Result<(), Status>
     requires can { CanRun run }
-    ensures written { Writes (K.bytes out.old) (K.bytes out.new) (output_in (B.calc bench.old) (RunWanted (run_in run))) (ended result) }
-    ensures count { OnOk result (B.count bench.new ≡ counted (B.count bench.old) (length (computed_in (B.calc bench.old) (RunWanted (run_in run))))) }
-    ensures log { OnOk result (B.log bench.new ≡ logged (B.log bench.old) (computed_in (B.calc bench.old) (RunWanted (run_in run)))) }
-    ensures cut { IsErrOf result Status.WriteFault → IsCut (rounds_in (B.calc bench.old) (RunWanted (run_in run)))
+    ensures written { Writes (K.bytes out.old) (K.bytes out.new) (output_in (B.calc bench.old) (RunWanted (run_in run) order)) (ended result) }
+    ensures count { OnOk result (B.count bench.new ≡ counted (B.count bench.old) (length (computed_in (B.calc bench.old) (RunWanted (run_in run) order)))) }
+    ensures log { OnOk result (B.log bench.new ≡ logged (B.log bench.old) (computed_in (B.calc bench.old) (RunWanted (run_in run) order))) }
+    ensures cut { IsErrOf result Status.WriteFault → IsCut (rounds_in (B.calc bench.old) (RunWanted (run_in run) order))
         (outside (K.bytes out.old) (B.count bench.old) (B.log bench.old)) (outside (K.bytes out.new) (B.count bench.new) (B.log bench.new)) }
-    ensures halted { IsErrOf result Status.NoMemory → IsHalted (rounds_in (B.calc bench.old) (RunWanted (run_in run)))
+    ensures halted { IsErrOf result Status.NoMemory → IsHalted (rounds_in (B.calc bench.old) (RunWanted (run_in run) order))
         (outside (K.bytes out.old) (B.count bench.old) (B.log bench.old)) (outside (K.bytes out.new) (B.count bench.new) (B.log bench.new)) }
     ensures same { B.calc bench.new ≡ B.calc bench.old }
     ensures late { IfErr result IsLate }
     ensures write { IsErrOf result Status.WriteFault → Rose (K.faults out.old) (K.faults out.new) }
 {
-    let ScriptRun { market, script } = run;
-    let session = session_of(
-        alloc,
-        market.names,
-        market.today,
-        market.made,
-        script.actions,
-    )?;
-    play(alloc, session, script.commands.items(), out, bench)
+    let (session, commands) = begun(alloc, run, order)?;
+    play(alloc, session, commands.items(), out, bench)
 }

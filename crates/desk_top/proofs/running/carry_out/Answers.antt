@@ -1,11 +1,15 @@
-use Rattle.std.proofs.Common.{refl}
+use Rattle.std.proofs.Common.{refl, []}
 use Rattle.desk_top.specs.Report.{check_line}
-use Rattle.desk_top.specs.Verdict.{report_turn}
+use Rattle.desk_top.specs.Verdict.{as_round}
+use Rattle.desk_top.proofs.Progress.{logged_nothing}
 use Rattle.desk_top.proofs.Reported.{report_writes, report_cut, report_halted}
 use Rattle.desk_top.proofs.running.carry_out.Goals as goal
 
 pub returns-in-Run-clause-written : goal.returns-in-Run-clause-written
 returns-in-Run-clause-written g c = rw c.in-Run.is c.play_script.ensures.written
+
+pub returns-in-Load-clause-written : goal.returns-in-Load-clause-written
+returns-in-Load-clause-written g c = rw c.in-Load.is c.sum_up.ensures.written
 
 pub returns-in-Check-clause-written : goal.returns-in-Check-clause-written
 returns-in-Check-clause-written g c =
@@ -16,9 +20,9 @@ returns-in-Check-clause-written g c =
 pub returns-in-Check-clause-cut : goal.returns-in-Check-clause-cut
 returns-in-Check-clause-cut g c =
     rw c.in-Check.is (λ e. let front = c.report.ensures.front e in
-    report_cut (report_turn c.in-Check.objects c.in-Check.fixings) (g.K.Sink.bytes c.args.out.now)
-    (g.K.Sink.bytes c.report.new.out) (g.B.Bench.count c.args.bench.now) (g.B.Bench.log c.args.bench.now)
-    front.0 refl front.1 front.2)
+    report_cut (as_round (check_line c.in-Check.objects c.in-Check.fixings) []) (g.K.Sink.bytes c.args.out.now)
+    (g.K.Sink.bytes c.report.new.out) (g.B.Bench.count c.args.bench.now) (g.B.Bench.count c.args.bench.now)
+    (g.B.Bench.log c.args.bench.now) (g.B.Bench.log c.args.bench.now) front.0 refl (logged_nothing _) front.1 front.2)
 
 pub returns-in-Check-clause-halted : goal.returns-in-Check-clause-halted
 returns-in-Check-clause-halted g c =

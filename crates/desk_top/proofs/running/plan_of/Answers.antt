@@ -8,22 +8,22 @@ use Rattle.desk_top.proofs.running.plan_of.Goals as goal
 pub returns-in-Ok-clause-plans : goal.returns-in-Ok-clause-plans
 returns-in-Ok-clause-plans g c =
     told_request (files_of (g.H.Shelf.contents c.args.shelf.now)) (map string_bytes c.args.words.now)
-    (request_in c.in-Ok.request) c.plan_for.result (asked_some c.in-Ok.request _ c.in-Ok.ensures) c.plan_for.ensures.reads.tells
+    (request_in c.in-Ok.request) c.plan_for.result (asked_some c.in-Ok.request _ c.in-Ok.ensures.answers) c.plan_for.ensures.reads.tells
 
 pub returns-in-Err-Usage-clause-plans : goal.returns-in-Err-Usage-clause-plans
 returns-in-Err-Usage-clause-plans g c =
     told_usage (files_of (g.H.Shelf.contents c.args.shelf.now)) (map string_bytes c.args.words.now)
-    (asked_none _ (rw c.in-Err-Usage.field-0-is at c.in-Err-Usage.ensures))
+    (asked_none _ (rw c.in-Err-Usage.field-0-is at c.in-Err-Usage.ensures.answers))
 
 pub returns-in-Ok-clause-checked : goal.returns-in-Ok-clause-checked
 returns-in-Ok-clause-checked g c =
-    λ check. c.plan_for.ensures.checked (asked_check _ _ (asked_some c.in-Ok.request _ c.in-Ok.ensures) check)
+    λ check. c.plan_for.ensures.checked (asked_check _ _ (asked_some c.in-Ok.request _ c.in-Ok.ensures.answers) check)
 
 pub returns-in-Ok-clause-calls : goal.returns-in-Ok-clause-calls
 returns-in-Ok-clause-calls g c =
     told_calls (files_of (g.H.Shelf.contents c.args.shelf.now)) (map string_bytes c.args.words.now)
     (request_in c.in-Ok.request) (g.H.Shelf.calls c.args.shelf.now) (g.H.Shelf.calls c.plan_for.new.shelf)
-    (asked_some c.in-Ok.request _ c.in-Ok.ensures) c.plan_for.ensures.reads.calls
+    (asked_some c.in-Ok.request _ c.in-Ok.ensures.answers) c.plan_for.ensures.reads.calls
 
 pub returns-in-Err-Usage-clause-calls : goal.returns-in-Err-Usage-clause-calls
 returns-in-Err-Usage-clause-calls g c =

@@ -1,4 +1,8 @@
+use Rattle.std.specs.Prelude.{map}
+use Rattle.std.specs.String.{string_bytes}
 use Rattle.desk_edge.specs.Shelf.{files_of}
+use Rattle.desk_top.specs.Found.{plan_in}
+use Rattle.desk_top.proofs.Planning.{told_written}
 use Rattle.desk_top.specs.Verdict.{Check}
 use Rattle.desk_top.proofs.Progress.{halted_before}
 use Rattle.desk_top.proofs.Steps.{told_any}
@@ -11,3 +15,9 @@ returns-in-Err-clause-halted g c =
 -- want of memory before the first command is a front of any plan
 pub returns-in-Err-clause-stopped : goal.returns-in-Err-clause-stopped
 returns-in-Err-clause-stopped g c = λ _. (Check 0 0, halted_before _ _)
+
+pub returns-in-Err-carry_out-clause-written : goal.returns-in-Err-carry_out-clause-written
+returns-in-Err-carry_out-clause-written g c =
+    told_written (files_of (g.H.Shelf.contents c.args.shelf.now)) (map string_bytes c.args.words.now)
+    (g.B.Bench.calc c.args.bench.now) (plan_in c.in-Ok.plan) (g.K.Sink.bytes c.args.out.now) (g.K.Sink.bytes c.carry_out.new.out)
+    c.in-Err-carry_out.status c.in-Ok.ensures.plans c.in-Err-carry_out.ensures.written

@@ -6,7 +6,7 @@ ghost use Rattle.bond_yield.specs.declared.yields.TheConstants.{MOST_YIELD, MOST
 ghost use Rattle.bond_yield.specs.Fixed.{is_fixed};
 ghost use Rattle.bond_yield.specs.Accrued as accrual;
 ghost use Rattle.bond_yield.specs.Price as price;
-ghost use Rattle.bond_yield.specs.Yield.{asked_price, price_fault, fault_of, IsYield};
+ghost use Rattle.bond_yield.specs.Yield.{asked_price, price_fault, fault_of, yield_of, IsYield};
 
 use crate::accruals::accrued;
 use crate::fixed::is_fixed;
@@ -39,6 +39,7 @@ pub enum YieldFault {
 pub fn bond_yield(flows: &FlowTerms, settle: Day, clean: Amount) -> Result<Rate, YieldFault>
     requires count { length flows.now.flows ≤ MOST_FLOWS }
     requires clean { IsWithin MOST_CLEAN clean }
+    ensures answer { result ≡ yield_of flows.now.flows settle clean }
     ensures fault { (fault : YieldFault) → (result ≡ Err fault) ↔ (fault_of flows.now.flows settle clean ≡ Some fault) }
     ensures least { IfOk result (IsYield flows.now.flows settle (asked_price flows.now.flows settle clean)) }
 {

@@ -1,7 +1,7 @@
-//! The program `desk`: it runs a session script over a market file and writes the transcript on standard output, or
-//! checks a market file.
+//! The program `desk`: it runs a session script over a market file and writes the transcript on standard output, checks
+//! a market file, or runs a large session that a number gives.
 //!
-//! `desk run MARKET SCRIPT`, `desk check MARKET`. What it does is `desk_top::run`.
+//! `desk run MARKET SCRIPT [--order ORDER]`, `desk check MARKET`, `desk load SIZE`. What it does is `desk_top::run`.
 #![tactic(auto)]
 
 use desk_process::{Ended, run_process};

@@ -1,0 +1,29 @@
+-- What the reading of words and files gives, as the definitions see it.
+use Rattle.std.specs.Prelude.{◌≡◌, ◌⊎◌, ℕ, Result, Ok, Err}
+use Rattle.bump_run.specs.declared.status.BumpStatus.{BumpStatus}
+use Rattle.bump_run.specs.declared.wanted.Wanted as found
+use Rattle.bump_run.specs.declared.words.Request as asked
+use Rattle.bump_run.specs.Run.{IsOutside, faults_then}
+use Rattle.bump_run.specs.Verdict.{Wanted}
+use Rattle.bump_run.specs.Words.{Request}
+
+-- words of the code, as the definition sees them
+abbrev pub request_in : asked.Request → Request
+request_in request = record { market = request.market.now; name = request.name.now }
+
+-- what is wanted in the code, as the definition sees it
+abbrev pub wanted_in : found.Wanted → Wanted
+wanted_in wanted = record {
+  market = record { today = wanted.today; made = wanted.made.items; names = wanted.names };
+  name = wanted.name.now;
+}
+
+-- the answer, seen by view, is this, but for a fault outside or want of memory
+abbrev pub Tells : {X Y : Type 0} → (X → Y) → Result X BumpStatus → Result Y BumpStatus → Type 0
+Tells view (Ok x) told = told ≡ Ok (view x)
+Tells view (Err status) told = IsOutside status ⊎ (told ≡ Err status)
+
+-- the count of faults after a step of reading
+abbrev pub faults_after : {X : Type 0} → Result X BumpStatus → ℕ → ℕ
+faults_after (Ok x) faults = faults
+faults_after (Err status) faults = faults_then status faults

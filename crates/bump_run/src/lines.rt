@@ -1,0 +1,73 @@
+// The lines of a name.
+ghost use Rattle.std.specs.Prelude.{◌≡◌, ◌⊎◌, ◌++◌, true, OnOk};
+ghost use Rattle.desk_terms.specs.declared.kind.Wanted.TheVariants.{Member};
+ghost use Rattle.desk_model.specs.Market.{kind_at};
+ghost use Rattle.desk_model.specs.Links.{serves_as};
+ghost use Rattle.desk_model.specs.Sound.{IsSound};
+ghost use Rattle.desk_model.specs.Unheld.{HoldsNothing};
+ghost use Rattle.bump_run.specs.Lines.{standing, instrument_text, instrument_calls, bump_text, bump_calls, Calls, IsNamed};
+
+use crate::named::{instrument_named, quotes_of};
+use bump_ladder::ladder;
+use bump_model::LadderFault;
+use bump_report::{ladder_lines, refused_lines, unnamed_line};
+use desk_names::ObjId;
+use desk_terms::Bench;
+use lazy_objects::Desk;
+use price_report::Namer;
+use std::alloc::{AllocError, Global};
+
+// Appends the lines of a name: of the ladder over all quotes of the desk, or of what stands against it. The market stays
+// on every exit.
+pub(crate) fn bump_lines<B: Bench>(
+    alloc: Global,
+    desk: &mut Desk,
+    name: &[u8],
+    namer: &Namer<'_>,
+    bench: &mut B,
+    lines: &mut Vec<u8>,
+) -> Result<(), AllocError>
+    requires sound { IsSound (B.calc bench.old) desk.old }
+    requires unheld { HoldsNothing desk.old }
+    ensures same { B.calc bench.new ≡ B.calc bench.old }
+    ensures lines { OnOk result (lines.new.items ≡ lines.old.items
+        ++ bump_text (B.calc bench.old) (standing namer.now.names.now namer.now.of_object.now desk.old) name.now) }
+    ensures calls { Calls (bump_calls (B.calc bench.old) (standing namer.now.names.now namer.now.of_object.now desk.old) name.now)
+        result (B.count bench.old) (B.count bench.new) (B.log bench.old) (B.log bench.new) }
+    ensures alone { IsNamed (standing namer.now.names.now namer.now.of_object.now desk.old) name.now ⊎ (bench.new ≡ bench.old) }
+    ensures market { desk.new.market ≡ desk.old.market }
+{
+    match instrument_named(desk, namer.names, name) {
+        Ok(object) => instrument_lines(alloc, desk, object, namer, bench, lines),
+        Err(why) => unnamed_line(alloc, why, name, lines),
+    }
+}
+
+// Appends the lines of an instrument.
+fn instrument_lines<B: Bench>(
+    alloc: Global,
+    desk: &mut Desk,
+    object: ObjId,
+    namer: &Namer<'_>,
+    bench: &mut B,
+    lines: &mut Vec<u8>,
+) -> Result<(), AllocError>
+    requires instrument { serves_as (kind_at desk.old.market object) Member ≡ true }
+    requires sound { IsSound (B.calc bench.old) desk.old }
+    requires unheld { HoldsNothing desk.old }
+    ensures same { B.calc bench.new ≡ B.calc bench.old }
+    ensures lines { OnOk result (lines.new.items ≡ lines.old.items
+        ++ instrument_text (B.calc bench.old) (standing namer.now.names.now namer.now.of_object.now desk.old) object) }
+    ensures calls { Calls (instrument_calls (B.calc bench.old) (standing namer.now.names.now namer.now.of_object.now desk.old) object)
+        result (B.count bench.old) (B.count bench.new) (B.log bench.old) (B.log bench.new) }
+    ensures market { desk.new.market ≡ desk.old.market }
+{
+    let quotes = quotes_of(alloc, desk)?;
+    match ladder(alloc, desk, object, quotes.as_slice(), bench) {
+        Ok(ladder) => ladder_lines(alloc, object, &ladder, namer, lines),
+        Err(LadderFault::Base { cause, runs }) => {
+            refused_lines(alloc, object, &cause, runs, namer, lines)
+        }
+        Err(LadderFault::NoMemory) => Err(AllocError),
+    }
+}

@@ -4,7 +4,7 @@
 # the quotes moved. Then the ladder of one bond, and that of a stock on one of the quotes. It checks that each move's line is
 # the difference of what `desk` prices, and no other figure.
 #
-#   (cd crates/desk_bump && rt run -- data/market.toml b)
+#   (cd crates/desk_bump && rt run)
 #   (cd crates/desk && rt run -- run data/market.toml data/script)     # build the two programs
 #   benchmarks/bumps.sh
 set -euo pipefail

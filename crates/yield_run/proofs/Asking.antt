@@ -1,5 +1,5 @@
 -- What words ask for, and what is written of a fault.
-use Rattle.std.proofs.Common.{◌≡◌, ◌⊎◌, inr, ◌≤◌, ◌+◌, refl, sym, ℕ, ℤ, List, Option, Some, None, Result, Ok, Err, IfSome, codes, map, option_map, ap, ◌∙◌}
+use Rattle.std.proofs.Common.{◌≡◌, inr, ◌≤◌, ◌+◌, refl, sym, ℕ, ℤ, List, Option, Some, None, Result, Err, IfSome, codes, option_map, ap, ◌∙◌}
 use Rattle.bond_yield.specs.declared.bonds.YieldFault.{YieldFault}
 use Rattle.bond_yield.specs.declared.bonds.YieldFault.TheVariants.{Above}
 use Rattle.bond_yield.specs.Accrued.{accrued}
@@ -14,7 +14,7 @@ use Rattle.yield_run.specs.declared.words.Request as asked
 use Rattle.yield_run.specs.Found.{request_in, wanted_in, Tells}
 use Rattle.yield_run.specs.Lines.{bond_text, beyond_text}
 use Rattle.yield_run.specs.Verdict.{verdict_of, wanted_of, reading_calls}
-use Rattle.yield_run.specs.Words.{Request, request_of}
+use Rattle.yield_run.specs.Words.{request_of}
 
 -- the words were taken: the code's request is the definition's
 taken : (words : List (List ℕ)) (found : Option asked.Request) (request : asked.Request) → option_map request_in found ≡ request_of words → found ≡ Some request → request_of words ≡ Some (request_in request)

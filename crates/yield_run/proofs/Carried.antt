@@ -1,6 +1,5 @@
 -- What is written where the market was not read.
-use Rattle.std.proofs.Common.{◌≡◌, ◌⊎◌, inl, inr, refl, ℕ, pos, List, [], Option}
-use Rattle.market_file.specs.Market.{Market}
+use Rattle.std.proofs.Common.{◌⊎◌, inl, inr, refl, ℕ, pos, List, [], Option}
 use Rattle.yield_run.specs.declared.status.YieldStatus.{YieldStatus}
 use Rattle.yield_run.specs.declared.status.YieldStatus.TheVariants.{Done, Usage, Market as Refused, ReadFault, WriteFault, NoMemory, Absent}
 use Rattle.yield_run.specs.Run.{IsEarly, IsBefore, Writes}

@@ -1,5 +1,5 @@
 -- What a name stands for in a market.
-use Rattle.std.specs.Prelude.{ℕ, zero, suc, ℤ, if◌then◌else◌, List, Option, None, Some}
+use Rattle.std.specs.Prelude.{ℕ, zero, suc, ℤ, if◌then◌else◌, List}
 use Rattle.std.specs.List.{All}
 use Rattle.jiff_core.specs.Calendar.{IsWithin}
 use Rattle.desk_names.specs.Names.{has_text, place_of}

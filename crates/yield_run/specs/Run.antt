@@ -1,5 +1,5 @@
 -- What a run leaves outside, by its status.
-use Rattle.std.specs.Prelude.{◌≡◌, ◌<◌, ℕ, Bool, List, length, take, Option, Result, Ok, Err}
+use Rattle.std.specs.Prelude.{◌≡◌, ◌<◌, ℕ, List, length, take, Option, Result, Ok, Err}
 use Rattle.desk_edge.specs.Count.{last_count, raised}
 use Rattle.desk_edge.specs.Sink.{appended}
 use Rattle.yield_run.specs.declared.status.YieldStatus.{YieldStatus}

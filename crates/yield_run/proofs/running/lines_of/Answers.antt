@@ -1,4 +1,3 @@
-use Rattle.std.proofs.Common.{◌≡◌, ℕ, List, IfOk, subst}
 use Rattle.yield_run.specs.Lines.{yield_text_of}
 use Rattle.yield_run.proofs.running.lines_of.Goals as goal
 

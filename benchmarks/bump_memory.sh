@@ -1,21 +1,53 @@
 #!/usr/bin/env bash
-# Refuses each allocation of `desk_bump` in turn, on the example market of the program and on the same without the bond's
-# engine. Each run must end with status 7, `desk_bump: no memory` and no output, or as it does with ample memory. Prints how
-# many allocations there are. It compiles the program, and proves nothing.
+# Refuses each allocation of the built `desk_bump` in turn, on the market of its stored run and on the same without the
+# bond's engine. Each run must end with status 7, `desk_bump: no memory` and no output, or else as it does with ample
+# memory. Prints how many allocations there are, and how many runs ended in each way. It takes a C compiler, `cc`.
 #
+#   (cd crates/desk_bump && rt run)     # builds the program
 #   benchmarks/bump_memory.sh
 set -euo pipefail
 cd "$(dirname "$0")/../crates/desk_bump"
+bump=$PWD/out/desk_bump
 work=$(mktemp -d)
 trap 'rm -rf "$work"' EXIT
-python3 - "$work/market.toml" <<'MAKE'
-import sys
-
-text = open("data/market.toml").read()
-front, bond = text.split('name = "b"\n')
-open(sys.argv[1], "w").write(front + 'name = "b"\n' + bond.replace('engine = "e"\n', "", 1))
+cp data/market.toml data/quotes.csv "$work/"
+cd "$work"
+python3 - <<'MAKE'
+front, bond = open("market.toml").read().split('name = "b"\n')
+open("bare.toml", "w").write(front + 'name = "b"\n' + bond.replace('engine = "e"\n', "", 1))
 MAKE
-for market in data/market.toml "$work/market.toml"; do
-    echo "$market"
-    rt try --fail-alloc 1.. --data "market.toml=$market" --data quotes.csv=data/quotes.csv -- market.toml b
+cat > refuse.c <<'C'
+#include <stdio.h>
+#include <stdlib.h>
+void *__libc_malloc(size_t);
+void *__libc_realloc(void *, size_t);
+static long asked, refused;
+__attribute__((constructor)) static void begin(void) { refused = atol(getenv("REFUSED")); asked = 0; }
+__attribute__((destructor)) static void end(void) {
+    const char *path = getenv("ASKED");
+    if (path) { long n = asked; FILE *f = fopen(path, "w"); fprintf(f, "%ld\n", n); fclose(f); }
+}
+void *malloc(size_t n) { return ++asked == refused ? NULL : __libc_malloc(n); }
+void *realloc(void *p, size_t n) { return ++asked == refused ? NULL : __libc_realloc(p, n); }
+C
+cc -O1 -fPIC -shared -o refuse.so refuse.c
+
+for market in market.toml bare.toml; do
+    REFUSED=0 ASKED=asked LD_PRELOAD=$PWD/refuse.so "$bump" "$market" b > ample
+    count=$(cat asked)
+    short=0 same=0 wrong=0
+    for ((n = 1; n <= count; n++)); do
+        status=0
+        REFUSED=$n LD_PRELOAD=$PWD/refuse.so "$bump" "$market" b > out 2> err || status=$?
+        if [ $status = 7 ] && [ ! -s out ] && [ "$(cat err)" = "desk_bump: no memory" ]; then
+            short=$((short + 1))
+        elif [ $status = 0 ] && cmp -s out ample && [ ! -s err ]; then
+            same=$((same + 1))
+        else
+            wrong=$((wrong + 1))
+            echo "$market: allocation $n ended with $status: $(head -c 200 out err | tr '\n' ' ')"
+        fi
+    done
+    echo "$market: $count allocations, $short ended for want of memory, $same as with ample memory, $wrong else"
+    [ $wrong = 0 ]
 done

@@ -1,5 +1,6 @@
 -- The node of a helper (QuantLib's IterativeBootstrap, in whole numbers).
 use Rattle.std.specs.Prelude.{◌*◌, ◌^◌, ℕ, zero, suc, ℤ, pos, neg_ℤ, ◌+ℤ◌, ◌-ℤ◌, ◌*ℤ◌, unsigned_abs, int_le, int_lt, nat_le, Bool, ◌&&◌, ◌||◌, if◌then◌else◌, List, [], ◌∷◌, ◌++◌, Option, Some, None, Result, Ok, Err}
+use Rattle.year_parts.specs.Parts.{parts_in_year}
 use Rattle.curve_points.specs.declared.curves.CurveNode.{CurveNode}
 use Rattle.curve_points.specs.Segment.{one, most}
 use Rattle.curve_points.specs.Point.{beyond}
@@ -10,7 +11,7 @@ use Rattle.curve_bootstrap.specs.Coupon.{total, parts_of}
 
 -- a rate of 1 for a whole year: 10^9 units times the parts of a year
 abbrev pub whole : ℤ
-whole = pos (10 ^ 9 * 1_603_080)
+whole = pos (10 ^ 9 * parts_in_year)
 
 -- the last node, or where there is none the node that they follow
 abbrev pub last_of : CurveNode → List CurveNode → CurveNode

@@ -10,9 +10,10 @@ use crate::Coupon;
 use crate::sums::open_total;
 use curve_points::CurveNode;
 use day_number::Day;
+use year_parts::PARTS_IN_YEAR;
 
 /// A rate of 1 for a whole year: 10^9 units times the parts of a year.
-pub(crate) const WHOLE: i128 = 1_603_080_000_000_000;
+pub(crate) const WHOLE: i128 = 1_000_000_000 * PARTS_IN_YEAR as i128;
 
 /// The greatest discount factor, in units of 10^-12.
 pub(crate) const MOST_FACTOR: i128 = 4_000_000_000_000;

@@ -12,7 +12,7 @@ cd "$work"
 cat > make.py <<'MAKE'
 import datetime, sys
 
-ONE, WHOLE = 10**12, 1_603_080 * 10**9
+ONE, WHOLE = 10**12, 11_221_560 * 10**9
 count, every, copies = map(int, sys.argv[1:])
 start = datetime.date(2024, 1, 2)
 
@@ -34,7 +34,7 @@ nodes, helpers = [], []
 for k in range(1, count + 1):
     rate = 20_000_000 + 200_000 * k
     ends = list(range(11 * k, 0, -every))[::-1]
-    periods = [(b, (b - a) * 30 * 4453) for a, b in zip([0] + ends, ends)]
+    periods = [(b, (b - a) * 30 * 31171) for a, b in zip([0] + ends, ends)]
     settled = [(p, factor(nodes, months(m))) for m, p in periods if nodes and months(m) <= nodes[-1][0]]
     known = sum(p * f for p, f in settled)
     later = [(months(m), p) for m, p in periods[len(settled):]]

@@ -23,7 +23,7 @@ two_years = coupon 19_726 20_094 40_222_222_222 ∷ coupon 20_094 20_458 39_888_
 
 -- a flow on an index, one that is paid before the one in front of it, one that is received, and one beyond the limit
 abbrev pub floating : List FlowTerm
-floating = Float (pos 19_824) (pos (10 ^ 12)) (pos 0) (pos 222_650) (pos 19_774) ∷ []
+floating = Float (pos 19_824) (pos (10 ^ 12)) (pos 0) (pos 1_558_550) (pos 19_774) ∷ []
 
 abbrev pub turned : List FlowTerm
 turned = Known (pos 19_825) (pos 1) None ∷ Known (pos 19_824) (pos 1) None ∷ []

@@ -13,11 +13,11 @@ use flow_terms::{FlowTerm, FlowTerms};
 // A factor of 1, in units of 10^-12.
 const ONE: u128 = 1_000_000_000_000;
 
-// Interest of 1 for a year: 10^9 units of a rate times 1,603,080 parts of a year.
-const WHOLE: u128 = 1_603_080_000_000_000;
+// Interest of 1 for a year: 10^9 units of a rate times 11,221,560 parts of a year.
+const WHOLE: u128 = 11_221_560_000_000_000;
 
 // The parts of a day over 365.
-const PARTS_IN_DAY: u128 = 4_392;
+const PARTS_IN_DAY: u128 = 30_744;
 
 /// The full price of a fixed bond on a settlement day at a yield from 0 to 10: what is paid after the day, discounted
 /// at simple interest over Act/365 from one payment day to the next, and rounded once.

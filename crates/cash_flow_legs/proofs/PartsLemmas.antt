@@ -7,6 +7,7 @@ use Rattle.day_number.specs.Day.{IsDayNumber, CivilDate, IsCivil, date_of}
 use Rattle.day_number.proofs.DayLemmas.{date_of-is}
 use Rattle.year_parts.specs.declared.counters.Counter.{Counter}
 use Rattle.year_parts.specs.declared.counters.Counter.TheVariants.{Act360, Act365, ActAct, Thirty360, ThirtyE360}
+use Rattle.year_parts.specs.Basis.{most_of_a_period}
 use Rattle.day_counters.specs.CivilDate.{at_least_zero, bond_basis_days, european_days}
 use Rattle.day_counters.specs.Counter.{frac}
 use Rattle.day_counters.proofs.ThirtyLemmas.{bond_day_bounds}
@@ -34,7 +35,7 @@ european_bound a b first last =
     omega (arith, signed_arith)
 
 -- between days of the range the parts of the year are few
-pub parts_bound : (counter : Counter) (from to : ℤ) → IsDayNumber from → IsDayNumber to → frac counter from to ≤ 489_830_000
+pub parts_bound : (counter : Counter) (from to : ℤ) → IsDayNumber from → IsDayNumber to → frac counter from to ≤ most_of_a_period
 unfolding frac
 parts_bound Act360 from to first last = let count = count_bound (to -ℤ from) (omega (arith, ints, first, last)) in omega (arith, count)
 parts_bound Act365 from to first last = let count = count_bound (to -ℤ from) (omega (arith, ints, first, last)) in omega (arith, count)

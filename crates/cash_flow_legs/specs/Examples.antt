@@ -52,11 +52,11 @@ abbrev pub paid_leg : List FlowTerm
 paid_leg = Known (pos 19_824) (neg_ℤ (pos 4_166_666_667)) (accruing 19_774 19_824) ∷ []
 
 abbrev pub received_leg : List FlowTerm
-received_leg = Float (pos 19_824) million (pos 0) (pos 222_650) (pos 19_774) ∷ []
+received_leg = Float (pos 19_824) million (pos 0) (pos 1_558_550) (pos 19_774) ∷ []
 
 abbrev pub swap_flows : List FlowTerm
 swap_flows =
-    Known (pos 19_824) (neg_ℤ (pos 4_166_666_667)) (accruing 19_774 19_824) ∷ Float (pos 19_824) million (pos 0) (pos 222_650) (pos 19_774) ∷ []
+    Known (pos 19_824) (neg_ℤ (pos 4_166_666_667)) (accruing 19_774 19_824) ∷ Float (pos 19_824) million (pos 0) (pos 1_558_550) (pos 19_774) ∷ []
 
 -- the plan of the bond: 2024-01-04 to 2026-01-04 every year
 abbrev pub bond_plan : Bor Calendar → Plan
@@ -79,7 +79,7 @@ month_ends = pos 19_782 ∷ pos 19_813 ∷ pos 19_843 ∷ []
 
 -- interest at the index's rate of 2024-02-21 and a spread, on a notional
 abbrev pub spread_flow : ℤ → ℤ → FlowTerm
-spread_flow notional spread = Float (pos 19_824) notional spread (pos 222_650) (pos 19_774)
+spread_flow notional spread = Float (pos 19_824) notional spread (pos 1_558_550) (pos 19_774)
 
 -- a flow as it is paid
 abbrev pub paid : ℤ → ℤ → Flow
@@ -125,13 +125,13 @@ pub record AreWorked : Type 0 where
   pub fixed_two_before : fixing_day (target_index 2) (pos 19_816) ≡ Some (pos 19_810)
   pub fixing_first : amount_of (Some plain_index) (pos 84_005) None 7 too_late ≡ Err (NoFixing 2 (pos 84_004))
   pub then_period : amount_of (Some stored_late) (pos 84_005) None 7 too_late ≡ Err (DateRange 2)
-  pub no_divisor : settlement 7 million (pos 0) (pos 222_650) (neg_ℤ (pos 10_000_000_000)) ≡ Err (TooLarge 7)
+  pub no_divisor : settlement 7 million (pos 0) (pos 1_558_550) (neg_ℤ (pos 10_000_000_000)) ≡ Err (TooLarge 7)
   pub paid_after_a_holiday : each_period (fixed_flow target million (pos 40_000_000) Act360) month_ends
       ≡ Some (Known (pos 19_815) (pos 3_444_444_444) (accruing 19_782 19_813)
       ∷ Known (pos 19_843) (pos 3_333_333_333) (accruing 19_813 19_843) ∷ [])
   pub floating_after_a_holiday : each_period (float_flow target million (pos 10_000_000) Act360 (target_index 2)) month_ends
-      ≡ Some (Float (pos 19_815) million (pos 10_000_000) (pos 138_043) (pos 19_780)
-      ∷ Float (pos 19_843) million (pos 10_000_000) (pos 133_590) (pos 19_809) ∷ [])
+      ≡ Some (Float (pos 19_815) million (pos 10_000_000) (pos 966_301) (pos 19_780)
+      ∷ Float (pos 19_843) million (pos 10_000_000) (pos 935_130) (pos 19_809) ∷ [])
   pub spread_added : amount_of (Some plain_index) (pos 19_724) (Some one_node) 7 (spread_flow million (pos 10_000_000))
       ≡ Ok (pos 6_388_888_889)
   pub spread_taken : amount_of (Some plain_index) (pos 19_724) (Some one_node) 7 (spread_flow million (neg_ℤ (pos 10_000_000)))

@@ -8,10 +8,10 @@ ghost use Rattle.flow_terms.specs.declared.limits.TheConstants.{MOST_RATE, MOST_
 ghost use Rattle.cash_flow_legs.specs.Interest.{IsSumOfRates, most_product, whole, interest};
 
 use fixed_amount::{Amount, Rate, Rounding, div_round};
-use year_parts::YearParts;
+use year_parts::{PARTS_IN_YEAR, YearParts};
 
 /// Interest of 1 for a year on one unit of a notional: 10^9 units of a rate times the parts of a year.
-pub(crate) const WHOLE: i128 = 1_603_080_000_000_000;
+pub(crate) const WHOLE: i128 = 1_000_000_000 * PARTS_IN_YEAR as i128;
 
 /// The interest on a notional at a rate, or at the sum of two, for a part of the year, rounded to the nearest unit.
 pub(crate) fn interest(notional: Amount, rate: Rate, parts: YearParts) -> Amount

@@ -51,24 +51,24 @@ abbrev value_at : ℕ → ℕ → ℕ → ℤ → ℤ
 value_at day parts rate x = excess (origin (pos 19_810)) [] (pos day) (pos rate) (paid (pos day) (pos parts) ∷ []) x
 
 -- from the last business day of a month on TARGET, 2024-03-28, to that of the next, and to the same day of it
-pub node_at_a_month_end : node_of (origin (pos 19_810)) [] (pos 19_843) (pos 36_000_000) (paid (pos 19_843) (pos 146_949) ∷ []) ≡ Ok (pos 996_710_854_182)
+pub node_at_a_month_end : node_of (origin (pos 19_810)) [] (pos 19_843) (pos 36_000_000) (paid (pos 19_843) (pos 1_028_643) ∷ []) ≡ Ok (pos 996_710_854_182)
 unfolding excess total beyond
 node_at_a_month_end =
-    let zero_is : value_at 19_843 146_949 36_000_000 (pos 0) ≡ neg_ℤ (pos 1603080000000000000000000000) = refl in
-    let most_is : value_at 19_843 146_949 36_000_000 (pos (4 * 10 ^ 12)) ≡ pos 4830400656000000000000000000 = refl in
-    let there : value_at 19_843 146_949 36_000_000 (pos 996_710_854_182) ≡ pos 1283425848000000 = refl in
-    let below : value_at 19_843 146_949 36_000_000 (pos 996_710_854_181) ≡ neg_ℤ (pos 324944316000000) = refl in
-    node_there 19_810 19_843 146_949 36_000_000 996_710_854_181 (omega arith) refl
+    let zero_is : value_at 19_843 1_028_643 36_000_000 (pos 0) ≡ neg_ℤ (pos 11221560000000000000000000000) = refl in
+    let most_is : value_at 19_843 1_028_643 36_000_000 (pos (4 * 10 ^ 12)) ≡ pos 33812804592000000000000000000 = refl in
+    let there : value_at 19_843 1_028_643 36_000_000 (pos 996_710_854_182) ≡ pos 8983980936000000 = refl in
+    let below : value_at 19_843 1_028_643 36_000_000 (pos 996_710_854_181) ≡ neg_ℤ (pos 2274610212000000) = refl in
+    node_there 19_810 19_843 1_028_643 36_000_000 996_710_854_181 (omega arith) refl
     (omega (arith, ints, zero_is), omega (arith, ints, most_is), omega (arith, ints), omega (arith, ints), omega (arith, ints, there), omega (arith, ints, below)) refl refl
 
-pub node_by_the_day : node_of (origin (pos 19_810)) [] (pos 19_842) (pos 36_000_000) (paid (pos 19_842) (pos 142_496) ∷ []) ≡ Ok (pos 996_810_207_337)
+pub node_by_the_day : node_of (origin (pos 19_810)) [] (pos 19_842) (pos 36_000_000) (paid (pos 19_842) (pos 997_472) ∷ []) ≡ Ok (pos 996_810_207_337)
 unfolding excess total beyond
 node_by_the_day =
-    let zero_is : value_at 19_842 142_496 36_000_000 (pos 0) ≡ neg_ℤ (pos 1603080000000000000000000000) = refl in
-    let most_is : value_at 19_842 142_496 36_000_000 (pos (4 * 10 ^ 12)) ≡ pos 4829759424000000000000000000 = refl in
-    let there : value_at 19_842 142_496 36_000_000 (pos 996_810_207_337) ≡ pos 766913472000000 = refl in
-    let below : value_at 19_842 142_496 36_000_000 (pos 996_810_207_336) ≡ neg_ℤ (pos 841296384000000) = refl in
-    node_there 19_810 19_842 142_496 36_000_000 996_810_207_336 (omega arith) refl
+    let zero_is : value_at 19_842 997_472 36_000_000 (pos 0) ≡ neg_ℤ (pos 11221560000000000000000000000) = refl in
+    let most_is : value_at 19_842 997_472 36_000_000 (pos (4 * 10 ^ 12)) ≡ pos 33808315968000000000000000000 = refl in
+    let there : value_at 19_842 997_472 36_000_000 (pos 996_810_207_337) ≡ pos 5368394304000000 = refl in
+    let below : value_at 19_842 997_472 36_000_000 (pos 996_810_207_336) ≡ neg_ℤ (pos 5889074688000000) = refl in
+    node_there 19_810 19_842 997_472 36_000_000 996_810_207_336 (omega arith) refl
     (omega (arith, ints, zero_is), omega (arith, ints, most_is), omega (arith, ints), omega (arith, ints), omega (arith, ints, there), omega (arith, ints, below)) refl refl
 
 settled : (eom : Bool) → reference_day (terms_of (One Target) 1 (deposit ModifiedFollowing eom ∷ [])) (pos 19_809) ≡ Some (pos 19_810)

@@ -1,4 +1,4 @@
-// What a helper is worth over 1, by the factor at its end: at most 10^10 * 801 * 16 * 10^24 and 4 * 10^12 * 1.7 * 10^15 in size,
+// What a helper is worth over 1, by the factor at its end: at most 10^10 * 801 * 16 * 10^24 and 4 * 10^12 * 1.2 * 10^16 in size,
 // which 128 bits hold with a quarter to spare.
 ghost use Rattle.std.specs.Prelude.{◌≡◌, length, ◌≤◌, ◌*◌, ◌^◌, pos, ◌≤ℤ◌, ◌<ℤ◌, ◌+ℤ◌, ◌-ℤ◌, ◌*ℤ◌, unsigned_abs};
 ghost use Rattle.curve_points.specs.Segment.{one, most};

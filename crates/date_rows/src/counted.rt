@@ -5,11 +5,11 @@ use day_number::Day;
 use year_parts::Counter;
 
 // The parts of a day of a year of 360, of 365 and of 366 days.
-const PARTS_OF_360: i64 = 4_453;
+const PARTS_OF_360: i64 = 31_171;
 
-const PARTS_OF_365: i64 = 4_392;
+const PARTS_OF_365: i64 = 30_744;
 
-const PARTS_OF_366: i64 = 4_380;
+const PARTS_OF_366: i64 = 30_660;
 
 /// `from,to,days,leap,other,bond,european`: the days from one day to another: all of them, those in leap years, the
 /// others, and those of 30/360 by Bond Basis and by the European rule.

@@ -2,6 +2,7 @@
 use Rattle.std.proofs.Common.{◌≡◌, ℕ, arith, refl, ap, ◌∙◌, ℤ, pos, ◌+ℤ◌, ◌-ℤ◌, ◌*ℤ◌, ◌≤ℤ◌, to_z, of_z, w16, w32, w64, FitsSigned, to_z-of_z}
 use Rattle.jiff_core.specs.Calendar.{IsBetween, IsWithin}
 use Rattle.jiff_core.proofs.SignedLemmas.{signed_arith, unsigned_abs-parts, one_part, product_within}
+use Rattle.year_parts.specs.Parts.{parts_in_year}
 use borrow.Author.Differences.{le_in}
 
 -- a year as a smaller number
@@ -37,27 +38,27 @@ fits_long z h = omega (arith, signed_arith)
 pub cast_long : (z : ℤ) → IsWithin 1_000_000_000_000 z → to_z w64 (of_z w64 z) ≡ z
 cast_long z h = to_z-of_z (fits_long z h)
 
-product_bound : (days weight : ℤ) → IsWithin 400 days → IsWithin 5_000 weight → IsWithin 2_000_000 (days *ℤ weight)
+product_bound : (days weight : ℤ) → IsWithin 400 days → IsWithin 50_000 weight → IsWithin 20_000_000 (days *ℤ weight)
 product_bound days weight h k =
     let first = unsigned_abs-parts days in
     let one = one_part days in
     let second = unsigned_abs-parts weight in
     let other = one_part weight in
-    let size = product_within days weight 400 5_000 (omega (arith, signed_arith)) (omega (arith, signed_arith)) in
+    let size = product_within days weight 400 50_000 (omega (arith, signed_arith)) (omega (arith, signed_arith)) in
     let whole = unsigned_abs-parts (days *ℤ weight) in
     let part = one_part (days *ℤ weight) in
     (omega (arith, whole, size, part, le_in), omega (arith, whole, size, part, le_in))
 
-sum_bound : (years product : ℤ) → IsWithin 400 years → IsWithin 2_000_000 product → IsWithin 1_000_000_000_000 (years *ℤ pos 1_603_080 +ℤ product)
+sum_bound : (years product : ℤ) → IsWithin 400 years → IsWithin 20_000_000 product → IsWithin 1_000_000_000_000 (years *ℤ pos parts_in_year +ℤ product)
 sum_bound years product h k = (omega (arith, signed_arith), omega (arith, signed_arith))
 
 -- what the code makes of a year, a day's number and that of 1 January, and the parts of a day
 pub record IsScaled (year number first years days weight : ℤ) : Type 0 where
   pub product : FitsSigned w64 (to_z w64 (of_z w64 days) *ℤ to_z w64 (of_z w64 weight))
-  pub sum : FitsSigned w64 (to_z w64 (of_z w64 (to_z w64 (of_z w64 years) *ℤ pos 1_603_080)) +ℤ to_z w64 (of_z w64 (to_z w64 (of_z w64 days) *ℤ to_z w64 (of_z w64 weight))))
-  pub value : to_z w64 (of_z w64 (to_z w64 (of_z w64 (to_z w64 (of_z w64 years) *ℤ pos 1_603_080)) +ℤ to_z w64 (of_z w64 (to_z w64 (of_z w64 days) *ℤ to_z w64 (of_z w64 weight))))) ≡ (year -ℤ pos 1901) *ℤ pos 1_603_080 +ℤ (number -ℤ first) *ℤ weight
+  pub sum : FitsSigned w64 (to_z w64 (of_z w64 (to_z w64 (of_z w64 years) *ℤ pos parts_in_year)) +ℤ to_z w64 (of_z w64 (to_z w64 (of_z w64 days) *ℤ to_z w64 (of_z w64 weight))))
+  pub value : to_z w64 (of_z w64 (to_z w64 (of_z w64 (to_z w64 (of_z w64 years) *ℤ pos parts_in_year)) +ℤ to_z w64 (of_z w64 (to_z w64 (of_z w64 days) *ℤ to_z w64 (of_z w64 weight))))) ≡ (year -ℤ pos 1901) *ℤ pos parts_in_year +ℤ (number -ℤ first) *ℤ weight
 
-pub scaled : (year number first years days weight : ℤ) → IsBetween (pos 1901) (pos 2199) year → IsWithin 100_000 number → IsWithin 100_000 first → IsWithin 400 (number -ℤ first) → IsWithin 5_000 weight → years ≡ to_z w32 (of_z w32 (to_z w32 (of_z w32 year) -ℤ pos 1901)) → days ≡ to_z w32 (of_z w32 (to_z w32 (of_z w32 number) -ℤ to_z w32 (of_z w32 first))) → IsScaled year number first years days weight
+pub scaled : (year number first years days weight : ℤ) → IsBetween (pos 1901) (pos 2199) year → IsWithin 100_000 number → IsWithin 100_000 first → IsWithin 400 (number -ℤ first) → IsWithin 50_000 weight → years ≡ to_z w32 (of_z w32 (to_z w32 (of_z w32 year) -ℤ pos 1901)) → days ≡ to_z w32 (of_z w32 (to_z w32 (of_z w32 number) -ℤ to_z w32 (of_z w32 first))) → IsScaled year number first years days weight
 scaled year number first years days weight y n f near w from_year from_days =
     let cast = cast_small year (omega (arith, signed_arith), omega (arith, signed_arith)) in
     let years_is : years ≡ year -ℤ pos 1901 = rw cast at from_year ∙ cast_small (year -ℤ pos 1901) (omega (arith, signed_arith), omega (arith, signed_arith)) in
@@ -67,12 +68,12 @@ scaled year number first years days weight y n f near w from_year from_days =
     let one = cast_long days (omega (arith, signed_arith), omega (arith, signed_arith)) in
     let other = cast_long weight (omega (arith, signed_arith), omega (arith, signed_arith)) in
     let whole = cast_long years (omega (arith, signed_arith), omega (arith, signed_arith)) in
-    let parts = cast_long (years *ℤ pos 1_603_080) (omega (arith, signed_arith), omega (arith, signed_arith)) in
+    let parts = cast_long (years *ℤ pos parts_in_year) (omega (arith, signed_arith), omega (arith, signed_arith)) in
     let rest = cast_long (days *ℤ weight) (omega (arith, signed_arith, small), omega (arith, signed_arith, small)) in
     let sum_fits = sum_bound years (days *ℤ weight) (omega (arith, signed_arith), omega (arith, signed_arith)) small in
-    let sum = cast_long (years *ℤ pos 1_603_080 +ℤ days *ℤ weight) sum_fits in
+    let sum = cast_long (years *ℤ pos parts_in_year +ℤ days *ℤ weight) sum_fits in
     record {
       product = rw (one, other) (fits_long (days *ℤ weight) (omega (arith, signed_arith, small), omega (arith, signed_arith, small)));
-      sum = rw (one, other, whole, parts, rest) (fits_long (years *ℤ pos 1_603_080 +ℤ days *ℤ weight) sum_fits);
+      sum = rw (one, other, whole, parts, rest) (fits_long (years *ℤ pos parts_in_year +ℤ days *ℤ weight) sum_fits);
       value = rw (one, other, whole, parts, rest, sum, years_is, days_is) refl;
     }

@@ -8,6 +8,7 @@ use Rattle.day_number.specs.Day.{IsDayNumber, civil_number, date_of}
 use Rattle.day_number.proofs.DayLemmas.{is_civil_date, civil_number-range, date_of-is}
 use Rattle.year_parts.specs.declared.bases.Basis.TheVariants.{D365, D366}
 use Rattle.year_parts.specs.Basis.{parts_in_day}
+use Rattle.year_parts.specs.Parts.{parts_in_year}
 use Rattle.day_counters.specs.Day.{basis_of_year, act_act}
 use Rattle.day_counters.specs.CivilDate.{at_least_zero}
 use Rattle.day_counters.proofs.ThirtyLemmas.{at_least_zero-parts}
@@ -41,12 +42,12 @@ last_new_year = refl
 abbrev pub weight : ℤ → ℕ
 weight year = parts_in_day (basis_of_year year)
 
-whole_by : (leap : Bool) → cond leap 366 365 * parts_in_day (cond leap D366 D365) ≡ 1_603_080
+whole_by : (leap : Bool) → cond leap 366 365 * parts_in_day (cond leap D366 D365) ≡ parts_in_year
 whole_by true = refl
 whole_by false = refl
 
 -- the days of a year have the parts of a year
-pub whole_year : (year : ℤ) → days_in_year year * weight year ≡ 1_603_080
+pub whole_year : (year : ℤ) → days_in_year year * weight year ≡ parts_in_year
 whole_year year = whole_by (is_leap_year year)
 
 -- where the nth day of the range lies: so many whole years after 1901, and so many days into the next
@@ -54,7 +55,7 @@ pub record IsPlaced (n year rest : ℕ) : Type 0 where
   pub range : year ≤ 298
   pub begins : civil_number (pos (1901 + year)) 1 1 +ℤ pos rest ≡ neg_ℤ (pos 25_202) +ℤ pos n
   pub within : rest < days_in_year (pos (1901 + year))
-  pub parts : act_act (neg_ℤ (pos 25_202)) n ≡ year * 1_603_080 + rest * weight (pos (1901 + year))
+  pub parts : act_act (neg_ℤ (pos 25_202)) n ≡ year * parts_in_year + rest * weight (pos (1901 + year))
 
 -- the day after it, where that lies in the same year
 placed_within : (n year rest : ℕ) → suc n ≤ 109_207 → IsPlaced n year rest → suc rest < days_in_year (pos (1901 + year)) → IsPlaced (suc n) year (suc rest)
@@ -71,7 +72,7 @@ placed_within n year rest h at lt =
     }
 
 -- a whole year's last day, and the days before it
-whole_by_rest : (year : ℤ) (rest : ℕ) → suc rest ≡ days_in_year year → rest * weight year + weight year ≡ 1_603_080
+whole_by_rest : (year : ℤ) (rest : ℕ) → suc rest ≡ days_in_year year → rest * weight year + weight year ≡ parts_in_year
 whole_by_rest year rest full =
     let e : rest * weight year + weight year ≡ suc rest * weight year = omega arith in
     e ∙ ap (λ n. n * weight year) full ∙ whole_year year
@@ -126,7 +127,7 @@ pub record IsCounted (day : ℤ) (count : ℕ) : Type 0 where
   pub begins : civil_number (date_of day).year 1 1 ≤ℤ day
   pub within : day <ℤ (civil_number (date_of day).year 1 1 +ℤ pos 366)
   pub years : (pos 1901 ≤ℤ (date_of day).year) × ((date_of day).year ≤ℤ pos 2199)
-  pub parts : pos count ≡ ((date_of day).year -ℤ pos 1901) *ℤ pos 1_603_080 +ℤ (day -ℤ civil_number (date_of day).year 1 1) *ℤ pos (weight (date_of day).year)
+  pub parts : pos count ≡ ((date_of day).year -ℤ pos 1901) *ℤ pos parts_in_year +ℤ (day -ℤ civil_number (date_of day).year 1 1) *ℤ pos (weight (date_of day).year)
 
 counted_at : (day : ℤ) (n : ℕ) → IsDayNumber day → neg_ℤ (pos 25_202) +ℤ pos n ≡ day → ((year : ℕ) × ((rest : ℕ) × IsPlaced n year rest)) → IsCounted day (act_act (neg_ℤ (pos 25_202)) n)
 counted_at day n h e (year, (rest, at)) =
@@ -158,14 +159,14 @@ act_act-add from m (suc n) =
     let day : from +ℤ pos m +ℤ pos n ≡ from +ℤ pos (m + n) = omega (arith, signed_arith) in
     rw (next, day) (omega (arith, act_act-add from m n))
 
-weight_by : (leap : Bool) → parts_in_day (cond leap D366 D365) ≤ 4_392
+weight_by : (leap : Bool) → parts_in_day (cond leap D366 D365) ≤ parts_in_day D365
 weight_by true = omega arith
 weight_by false = omega arith
 
-pub weight_bound : (year : ℤ) → weight year ≤ 4_392
+pub weight_bound : (year : ℤ) → weight year ≤ parts_in_day D365
 weight_bound year = weight_by (is_leap_year year)
 
-pub act_act_bound : (from : ℤ) (n : ℕ) → act_act from n ≤ n * 4_392
+pub act_act_bound : (from : ℤ) (n : ℕ) → act_act from n ≤ n * parts_in_day D365
 unfolding act_act
 act_act_bound from zero = omega arith
 act_act_bound from (suc n) =

@@ -90,11 +90,11 @@ abbrev pub late : FlowTerm
 late = Known (pos 19_825) (pos 1) None
 
 abbrev pub unfixed : ℤ → FlowTerm
-unfixed paid = Float paid million (pos 0) (pos 222_650) (pos 19_723)
+unfixed paid = Float paid million (pos 0) (pos 1_558_550) (pos 19_723)
 
 -- interest at the index's rate of 2024-02-21 and a spread
 abbrev pub spread_flow : ℤ → List FlowTerm
-spread_flow spread = Float (pos 19_824) million spread (pos 222_650) (pos 19_774) ∷ []
+spread_flow spread = Float (pos 19_824) million spread (pos 1_558_550) (pos 19_774) ∷ []
 
 -- a bond of 4 % to 2024-04-30 whose first period ends on a Sunday, 2024-03-31, behind which Easter Monday follows
 abbrev pub month_end_bond : List FlowTerm

@@ -4,6 +4,7 @@ use Rattle.jiff_core.specs.Calendar.{IsBetween}
 use Rattle.day_number.specs.declared.conventions.Convention.TheVariants.{Following}
 use Rattle.day_number.specs.declared.tenors.Unit.TheVariants.{Days}
 use Rattle.year_parts.specs.declared.counters.Counter.{Counter}
+use Rattle.year_parts.specs.Basis.{most_of_a_period}
 use Rattle.holiday_calendars.specs.Calendar.{is_business_day}
 use Rattle.day_shift.specs.Advanced.{advanced}
 use Rattle.day_counters.specs.Counter.{frac}
@@ -17,7 +18,7 @@ Period = ℤ × ℤ × ℤ
 
 -- the maturity is after the value day, and the part of the year is at most that of 110,000 days over 360
 abbrev pub IsPeriod : Period → Type 0
-IsPeriod period = (period.0 <ℤ period.1) × IsBetween (pos 0) (pos 489_830_000) period.2
+IsPeriod period = (period.0 <ℤ period.1) × IsBetween (pos 0) (pos most_of_a_period) period.2
 
 -- the day from which a rate runs: the fixing days after the day of the fixing (InterestRateIndex::valueDate)
 abbrev pub value_day : IndexTerms → ℤ → Option ℤ

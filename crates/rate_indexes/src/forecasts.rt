@@ -1,5 +1,6 @@
 // A rate of an index from a discount curve.
 ghost use Rattle.std.specs.Prelude.{◌≡◌, ◌≢◌, ◌*◌, ◌^◌, ◌≤ℤ◌, ◌-ℤ◌, ◌*ℤ◌, pos, unsigned_abs, ◌≤◌, IfOk};
+ghost use Rattle.year_parts.specs.Parts.{parts_in_year};
 ghost use Rattle.flow_terms.specs.Fixings.{IsRate};
 ghost use Rattle.rate_indexes.specs.Forecast.{whole, factor_at, forward_rate, rate_or_cause, simple_rate, forecast_of};
 
@@ -68,7 +69,7 @@ fn ranged(x: ObjId, units: i128) -> Result<Rate, Cause>
     Ok(Rate(units as i64))
 }
 
-// The units of the rate from a factor to a later one: the numerator is at most 4 * 10^12 * 1.61 * 10^15 and the divisor
+// The units of the rate from a factor to a later one: the numerator is at most 4 * 10^12 * 1.13 * 10^16 and the divisor
 // at most 4 * 10^12 * 2 * 10^12, of the 1.7 * 10^38 that 128 bits hold.
 fn simple_rate(first: Discount, last: Discount, parts: YearParts) -> i128
     requires { parts ≢ pos 0 }
@@ -80,7 +81,7 @@ fn simple_rate(first: Discount, last: Discount, parts: YearParts) -> i128
 // What a deposit gains, times the units of the rate 1 for a whole year.
 fn gain(first: Discount, last: Discount) -> i128
     ensures value { result ≡ (first -ℤ last) *ℤ whole }
-    ensures size { unsigned_abs result ≤ 4 * 10 ^ 12 * (10 ^ 9 * 1_603_080) }
+    ensures size { unsigned_abs result ≤ 4 * 10 ^ 12 * (10 ^ 9 * parts_in_year) }
 {
     i128::from(first.units() - last.units()) * (i128::from(ONE_RATE) * i128::from(PARTS_IN_YEAR))
 }

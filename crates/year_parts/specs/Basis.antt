@@ -12,9 +12,13 @@ days_of D366 = 366
 
 -- the parts of one day over such a year (this project's unit)
 abbrev pub parts_in_day : Basis → ℕ
-parts_in_day D360 = 4_453
-parts_in_day D365 = 4_392
-parts_in_day D366 = 4_380
+parts_in_day D360 = 31_171
+parts_in_day D365 = 30_744
+parts_in_day D366 = 30_660
+
+-- the most parts of a period: those of 110,000 days over 360, which are more days than there are (this project's range)
+abbrev pub most_of_a_period : ℕ
+most_of_a_period = 110_000 * parts_in_day D360
 
 -- a year of each length has the parts of a year
 abbrev pub EachYearIsWhole : Type 0

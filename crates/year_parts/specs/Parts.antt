@@ -1,9 +1,9 @@
 -- Year fractions as whole numbers of parts.
 use Rattle.std.specs.Prelude.{ℕ, ◌*◌, ◌^◌, ℤ, pos, ◌≤ℤ◌}
 
--- the parts of a year (this project's unit: 360 * 4,453 = 365 * 4,392 = 366 * 4,380)
+-- the parts of a year (this project's unit: 360 * 31,171 = 365 * 30,744 = 366 * 30,660)
 abbrev pub parts_in_year : ℕ
-parts_in_year = 1_603_080
+parts_in_year = 11_221_560
 
 -- a year fraction in parts, from 0 to 2 * 10^12 (this project's range: two terms of 10^12 fit)
 abbrev pub IsYearParts : ℤ → Type 0

@@ -13,14 +13,14 @@ pub enum Basis {
 }
 
 impl Basis {
-    /// The parts of a day: 4,453 over 360, 4,392 over 365 and 4,380 over 366.
+    /// The parts of a day: 31,171 over 360, 30,744 over 365 and 30,660 over 366.
     pub fn parts_in_day(self) -> i64
         ensures { result ≡ pos (parts_in_day self) }
     {
         match self {
-            Basis::D360 => 4_453,
-            Basis::D365 => 4_392,
-            Basis::D366 => 4_380,
+            Basis::D360 => 31_171,
+            Basis::D365 => 30_744,
+            Basis::D366 => 30_660,
         }
     }
 }

@@ -3,8 +3,8 @@ ghost use Rattle.std.specs.Prelude.{◌≡◌, pos, ◌^◌, ◌≤ℤ◌, ◌+�
 
 use std::marker::Model;
 
-/// The parts of a year: 360 days of 4,453 parts, 365 days of 4,392 or 366 days of 4,380.
-pub const PARTS_IN_YEAR: i64 = 1_603_080;
+/// The parts of a year: 360 days of 31,171 parts, 365 days of 30,744 or 366 days of 30,660.
+pub const PARTS_IN_YEAR: i64 = 11_221_560;
 
 /// A year fraction in parts, `PARTS_IN_YEAR` to the year, from 0 to 2 * 10^12 parts.
 #[derive(Clone, Copy, Debug, PartialEq, Eq, PartialOrd, Ord)]

@@ -45,6 +45,6 @@ returns c = record {
   second_rate_beyond = refl;
   node_at_a_month_end = node_at_a_month_end;
   node_by_the_day = node_by_the_day;
-  built_at_a_month_end = built_to 19_843 146_949 true (pos 996_710_854_182) refl node_at_a_month_end;
-  built_by_the_day = built_to 19_842 142_496 false (pos 996_810_207_337) refl node_by_the_day;
+  built_at_a_month_end = built_to 19_843 1_028_643 true (pos 996_710_854_182) refl node_at_a_month_end;
+  built_by_the_day = built_to 19_842 997_472 false (pos 996_810_207_337) refl node_by_the_day;
 }

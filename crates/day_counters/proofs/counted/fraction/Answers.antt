@@ -1,5 +1,6 @@
 use Rattle.std.proofs.Common.{arith, pos, ◌≡◌, ℕ, ◌+◌, ◌≤◌, ℤ, ◌+ℤ◌, ◌-ℤ◌, ◌≤ℤ◌, to_z, of_z, w64, neg_ℤ, unsigned_abs}
 use Rattle.jiff_core.proofs.SignedLemmas.{signed_arith, unsigned_abs-parts, one_part}
+use Rattle.year_parts.specs.Basis.{most_of_a_period}
 use Rattle.day_counters.specs.CivilDate.{at_least_zero}
 use Rattle.day_counters.specs.Counter.{frac}
 use Rattle.day_counters.specs.Day.{act_act}
@@ -8,7 +9,7 @@ use Rattle.day_counters.proofs.YearLemmas.{between, act_act_bound}
 use Rattle.day_counters.proofs.counted.fraction.Goals as goal
 
 -- the parts before a day of the range are few
-few : (day : ℤ) → neg_ℤ (pos 25_202) ≤ℤ day → day ≤ℤ pos 84_005 → act_act (neg_ℤ (pos 25_202)) (unsigned_abs (day +ℤ pos 25_202)) ≤ 489_830_000
+few : (day : ℤ) → neg_ℤ (pos 25_202) ≤ℤ day → day ≤ℤ pos 84_005 → act_act (neg_ℤ (pos 25_202)) (unsigned_abs (day +ℤ pos 25_202)) ≤ most_of_a_period
 few day low high =
     let parts = unsigned_abs-parts (day +ℤ pos 25_202) in
     let part = one_part (day +ℤ pos 25_202) in
@@ -16,7 +17,7 @@ few day low high =
     omega (arith, act_act_bound (neg_ℤ (pos 25_202)) (unsigned_abs (day +ℤ pos 25_202)))
 
 -- a difference of small numbers that are parts
-apart : (a b : ℤ) (m n rest : ℕ) → a ≡ pos m → b ≡ pos n → m ≤ 489_830_000 → n ≤ 489_830_000 → m ≡ n + rest → to_z w64 (of_z w64 (to_z w64 (of_z w64 a) -ℤ to_z w64 (of_z w64 b))) ≡ pos rest
+apart : (a b : ℤ) (m n rest : ℕ) → a ≡ pos m → b ≡ pos n → m ≤ most_of_a_period → n ≤ most_of_a_period → m ≡ n + rest → to_z w64 (of_z w64 (to_z w64 (of_z w64 a) -ℤ to_z w64 (of_z w64 b))) ≡ pos rest
 apart a b m n rest is other_is h k e =
     let one = cast_long a (omega (arith, signed_arith), omega (arith, signed_arith)) in
     let other = cast_long b (omega (arith, signed_arith), omega (arith, signed_arith)) in

@@ -8,6 +8,7 @@ use Rattle.day_number.proofs.DayLemmas.{date_of-is}
 use Rattle.year_parts.specs.declared.counters.Counter.{Counter}
 use Rattle.year_parts.specs.declared.counters.Counter.TheVariants.{Act360, Act365, ActAct, Thirty360, ThirtyE360}
 use Rattle.year_parts.specs.Basis.{most_of_a_period}
+use Rattle.holiday_calendars.specs.Calendar.{is_business_day}
 use Rattle.day_counters.specs.CivilDate.{at_least_zero, bond_basis_days, european_days}
 use Rattle.day_counters.specs.Counter.{frac}
 use Rattle.day_counters.proofs.ThirtyLemmas.{bond_day_bounds}
@@ -35,18 +36,18 @@ european_bound a b first last =
     omega (arith, signed_arith)
 
 -- between days of the range the parts of the year are few
-pub parts_bound : (counter : Counter) (from to : ℤ) → IsDayNumber from → IsDayNumber to → frac counter from to ≤ most_of_a_period
+pub parts_bound : (counter : Counter) (business : ℤ → Bool) (from to : ℤ) → IsDayNumber from → IsDayNumber to → frac counter business from to ≤ most_of_a_period
 unfolding frac
-parts_bound Act360 from to first last = let count = count_bound (to -ℤ from) (omega (arith, ints, first, last)) in omega (arith, count)
-parts_bound Act365 from to first last = let count = count_bound (to -ℤ from) (omega (arith, ints, first, last)) in omega (arith, count)
-parts_bound ActAct from to first last =
+parts_bound Act360 business from to first last = let count = count_bound (to -ℤ from) (omega (arith, ints, first, last)) in omega (arith, count)
+parts_bound Act365 business from to first last = let count = count_bound (to -ℤ from) (omega (arith, ints, first, last)) in omega (arith, count)
+parts_bound ActAct business from to first last =
     let count = count_bound (to -ℤ from) (omega (arith, ints, first, last)) in
     let parts = act_act_bound from (at_least_zero (to -ℤ from)) in
     omega (arith, count, parts)
-parts_bound Thirty360 from to first last =
+parts_bound Thirty360 business from to first last =
     let count = count_bound (bond_basis_days (date_of from) (date_of to)) (bond_bound (date_of from) (date_of to) (date_of-is from first).0 (date_of-is to last).0) in
     omega (arith, count)
-parts_bound ThirtyE360 from to first last =
+parts_bound ThirtyE360 business from to first last =
     let count = count_bound (european_days (date_of from) (date_of to)) (european_bound (date_of from) (date_of to) (date_of-is from first).0 (date_of-is to last).0) in
     omega (arith, count)
 
@@ -54,23 +55,23 @@ some_is : {A : Type 0} (a b : A) → Some a ≡ Some b → a ≡ b
 some_is {A} a b is = cc
 
 -- a period has the parts between its days
-between_parts : (counter : Counter) (value maturity : ℤ) (later : Bool) (found : Period) → (if later then Some (value, maturity, pos (frac counter value maturity)) else None) ≡ Some found → found.2 ≡ pos (frac counter found.0 found.1)
-between_parts counter value maturity true found is =
-    subst (λ (p : Period). p.2 ≡ pos (frac counter p.0 p.1)) (some_is (value, maturity, pos (frac counter value maturity)) found is) refl
-between_parts counter value maturity false found is = absurd cc
+between_parts : (counter : Counter) (business : ℤ → Bool) (value maturity : ℤ) (later : Bool) (found : Period) → (if later then Some (value, maturity, pos (frac counter business value maturity)) else None) ≡ Some found → found.2 ≡ pos (frac counter business found.0 found.1)
+between_parts counter business value maturity true found is =
+    subst (λ (p : Period). p.2 ≡ pos (frac counter business p.0 p.1)) (some_is (value, maturity, pos (frac counter business value maturity)) found is) refl
+between_parts counter business value maturity false found is = absurd cc
 
-from_parts : (counter : Counter) (value : ℤ) (maturity : Option ℤ) (found : Period) → option_and_then (period_between counter value) maturity ≡ Some found → found.2 ≡ pos (frac counter found.0 found.1)
-from_parts counter value None found is = absurd cc
-from_parts counter value (Some maturity) found is = between_parts counter value maturity (int_lt value maturity) found is
+from_parts : (counter : Counter) (business : ℤ → Bool) (value : ℤ) (maturity : Option ℤ) (found : Period) → option_and_then (period_between counter business value) maturity ≡ Some found → found.2 ≡ pos (frac counter business found.0 found.1)
+from_parts counter business value None found is = absurd cc
+from_parts counter business value (Some maturity) found is = between_parts counter business value maturity (int_lt value maturity) found is
 
-at_parts : (terms : IndexTerms) (value : Option ℤ) (found : Period) → option_and_then (period_from terms) value ≡ Some found → found.2 ≡ pos (frac terms.counter found.0 found.1)
+at_parts : (terms : IndexTerms) (value : Option ℤ) (found : Period) → option_and_then (period_from terms) value ≡ Some found → found.2 ≡ pos (frac terms.counter (is_business_day terms.cal) found.0 found.1)
 at_parts terms None found is = absurd cc
-at_parts terms (Some value) found is = from_parts terms.counter value _ found is
+at_parts terms (Some value) found is = from_parts terms.counter (is_business_day terms.cal) value _ found is
 
 period_there : (x : ℕ) (period : Option Period) (found : Period) → or_date_range x period ≡ Ok found → period ≡ Some found
 period_there x None found is = absurd cc
 period_there x (Some period) found is = cc
 
-pub period_parts : (x : ℕ) (terms : IndexTerms) (day : ℤ) (found : Period) → period_of x terms day ≡ Ok found → found.2 ≡ pos (frac terms.counter found.0 found.1)
+pub period_parts : (x : ℕ) (terms : IndexTerms) (day : ℤ) (found : Period) → period_of x terms day ≡ Ok found → found.2 ≡ pos (frac terms.counter (is_business_day terms.cal) found.0 found.1)
 unfolding period_of
 period_parts x terms day found is = at_parts terms (value_day terms day) found (period_there x (period_at terms day) found is)

@@ -46,14 +46,14 @@ float_on (Some paid) (Some fixing) notional spread parts = Some (Float paid noti
 -- the interest at a rate for a period, which it keeps, paid at its end adjusted (QuantLib's FixedRateCoupon)
 abbrev pub fixed_flow : (ℤ → Bool) → ℤ → ℤ → Counter → ℤ → ℤ → Option FlowTerm
 fixed_flow business notional rate counter from to =
-    known_on (adjusted business Following to) (interest notional rate (pos (frac counter from to)))
+    known_on (adjusted business Following to) (interest notional rate (pos (frac counter business from to)))
     (Some (from, to))
 
 -- the interest at an index's rate and a spread for a period, paid at its end adjusted and fixed before its start
 -- (QuantLib's IborCoupon)
 abbrev pub float_flow : (ℤ → Bool) → ℤ → ℤ → Counter → IndexTerms → ℤ → ℤ → Option FlowTerm
 float_flow business notional spread counter index from to =
-    float_on (adjusted business Following to) (fixing_day index from) notional spread (pos (frac counter from to))
+    float_on (adjusted business Following to) (fixing_day index from) notional spread (pos (frac counter business from to))
 
 -- the flow of a period by what a leg pays
 abbrev pub flow_by : (ℤ → Bool) → ℤ → Counter → Coupon → ℤ → ℤ → Option FlowTerm

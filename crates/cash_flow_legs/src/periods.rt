@@ -30,7 +30,7 @@ pub enum Coupon<'a> {
 /// A leg, its periods apart.
 #[derive(Clone, Copy)]
 pub struct Leg<'a> {
-    /// The calendar of its payments.
+    /// The calendar of its payments, and of the business days that its counter counts.
     pub cal: &'a Calendar,
     pub notional: Amount,
     /// How the days of a period are counted as a part of a year.
@@ -103,7 +103,7 @@ fn period_flow(leg: &Leg<'_>, from: Day, to: Day) -> Option<FlowTerm>
     ensures range { IfSome result IsFlow }
 {
     let paid = payment_day(leg.cal, to)?;
-    let parts = fraction(leg.counter, from, to);
+    let parts = fraction(leg.counter, leg.cal, from, to);
     match leg.coupon {
         Coupon::Fixed(rate) => Some(FlowTerm::Known {
             paid,

@@ -1,5 +1,5 @@
 -- Lemmas on coupons in the order of time.
-use Rattle.std.proofs.Common.{◌≡◌, ℕ, zero, suc, ◌+◌, ◌-◌, ◌<◌, ◌≤◌, arith, refl, sym, ap, subst, ℤ, pos, ◌<ℤ◌, ◌≤ℤ◌, int_le, true, List, [], ◌∷◌, ◌++◌, length, get_or, take, Option, Some, None, Ok}
+use Rattle.std.proofs.Common.{◌≡◌, ℕ, zero, suc, ◌+◌, ◌-◌, ◌<◌, ◌≤◌, arith, refl, sym, ap, subst, Bool, ℤ, pos, ◌<ℤ◌, ◌≤ℤ◌, int_le, true, List, [], ◌∷◌, ◌++◌, length, get_or, take, Option, Some, None, Ok}
 use Rattle.std.proofs.lemmas.Int.{ints, by_lt_z}
 use Rattle.std.specs.declared.cmp.Ordering.{Ordering}
 use Rattle.std.specs.declared.cmp.Ordering.TheVariants.{Less}
@@ -76,21 +76,21 @@ sorted_step (day ∷ days) (suc k) p q sorted low h ip iq =
     omega (arith, ints, less)
 
 -- one period more
-periods_from_more : (counter : Counter) (from : ℤ) (days : List ℤ) (k : ℕ) (p q : ℤ) → k < length days → p ≡ get_or (from ∷ days) k p → q ≡ get_or days k q
-    → periods_from counter from (take (suc k) days) ≡ periods_from counter from (take k days) ++ record { day = q; parts = pos (frac counter p q) } ∷ []
-periods_from_more counter from [] k p q h ip iq = absurd (omega arith)
-periods_from_more counter from (day ∷ days) zero p q h ip iq = rw (ip, iq) refl
-periods_from_more counter from (day ∷ days) (suc k) p q h ip iq =
-    ap (λ (cs : List Coupon). record { day = day; parts = pos (frac counter from day) } ∷ cs) (periods_from_more counter day days k p q (omega arith) ip iq)
+periods_from_more : (counter : Counter) (business : ℤ → Bool) (from : ℤ) (days : List ℤ) (k : ℕ) (p q : ℤ) → k < length days → p ≡ get_or (from ∷ days) k p → q ≡ get_or days k q
+    → periods_from counter business from (take (suc k) days) ≡ periods_from counter business from (take k days) ++ record { day = q; parts = pos (frac counter business p q) } ∷ []
+periods_from_more counter business from [] k p q h ip iq = absurd (omega arith)
+periods_from_more counter business from (day ∷ days) zero p q h ip iq = rw (ip, iq) refl
+periods_from_more counter business from (day ∷ days) (suc k) p q h ip iq =
+    ap (λ (cs : List Coupon). record { day = day; parts = pos (frac counter business from day) } ∷ cs) (periods_from_more counter business day days k p q (omega arith) ip iq)
 
-pub periods_more : (counter : Counter) (days : List ℤ) (at : ℕ) (p q : ℤ) → 1 ≤ at → at < length days → p ≡ get_or days (at - 1) p → q ≡ get_or days at q
-    → periods counter (take (at + 1) days) ≡ periods counter (take at days) ++ record { day = q; parts = pos (frac counter p q) } ∷ []
-periods_more counter [] at p q low h ip iq = absurd (omega arith)
-periods_more counter (day ∷ days) zero p q low h ip iq = absurd (omega arith)
-periods_more counter (day ∷ days) (suc k) p q low h ip iq =
+pub periods_more : (counter : Counter) (business : ℤ → Bool) (days : List ℤ) (at : ℕ) (p q : ℤ) → 1 ≤ at → at < length days → p ≡ get_or days (at - 1) p → q ≡ get_or days at q
+    → periods counter business (take (at + 1) days) ≡ periods counter business (take at days) ++ record { day = q; parts = pos (frac counter business p q) } ∷ []
+periods_more counter business [] at p q low h ip iq = absurd (omega arith)
+periods_more counter business (day ∷ days) zero p q low h ip iq = absurd (omega arith)
+periods_more counter business (day ∷ days) (suc k) p q low h ip iq =
     let place : suc k - 1 ≡ k = omega arith in
     let next : suc k + 1 ≡ suc (suc k) = omega arith in
-    rw next (periods_from_more counter day days k p q (omega arith) (rw place at ip) iq)
+    rw next (periods_from_more counter business day days k p q (omega arith) (rw place at ip) iq)
 
 -- a day that is found
 pub found_day : (o : Option ℤ) (day : ℤ) → Ok day ≡ day_or_fault o → o ≡ Some day
@@ -106,45 +106,45 @@ end_at from (c ∷ e ∷ cs) zero d size = absurd (omega arith)
 end_at from (c ∷ e ∷ cs) (suc k) d size = end_at c.day (e ∷ cs) k d (omega arith)
 
 -- the coupons of a schedule's periods
-period_ordered : (counter : Counter) (from : ℤ) (days : List ℤ) → AreRising from days → AreOrdered from (periods_from counter from days)
-period_ordered counter from [] rising = tt
-period_ordered counter from (day ∷ days) rising = let here = rising.0 in (omega (arith, ints, here), period_ordered counter day days rising.1)
+period_ordered : (counter : Counter) (business : ℤ → Bool) (from : ℤ) (days : List ℤ) → AreRising from days → AreOrdered from (periods_from counter business from days)
+period_ordered counter business from [] rising = tt
+period_ordered counter business from (day ∷ days) rising = let here = rising.0 in (omega (arith, ints, here), period_ordered counter business day days rising.1)
 
-period_after : (counter : Counter) (low from : ℤ) (days : List ℤ) → low ≤ℤ from → AreRising from days → AreAfter low (periods_from counter from days)
-period_after counter low from [] le rising k d h = absurd (omega arith)
-period_after counter low from (day ∷ days) le rising zero d h = let here = rising.0 in omega (arith, ints, here)
-period_after counter low from (day ∷ days) le rising (suc k) d h = let here = rising.0 in period_after counter low day days (omega (arith, ints, here)) rising.1 k d (omega arith)
+period_after : (counter : Counter) (business : ℤ → Bool) (low from : ℤ) (days : List ℤ) → low ≤ℤ from → AreRising from days → AreAfter low (periods_from counter business from days)
+period_after counter business low from [] le rising k d h = absurd (omega arith)
+period_after counter business low from (day ∷ days) le rising zero d h = let here = rising.0 in omega (arith, ints, here)
+period_after counter business low from (day ∷ days) le rising (suc k) d h = let here = rising.0 in period_after counter business low day days (omega (arith, ints, here)) rising.1 k d (omega arith)
 
-period_not_past : (counter : Counter) (from : ℤ) (days : List ℤ) → AreRising from days → from ≤ℤ end_of from (periods_from counter from days)
-period_not_past counter from [] rising = omega (arith, ints)
-period_not_past counter from (day ∷ days) rising = let here = rising.0 in let next = period_not_past counter day days rising.1 in omega (arith, ints, here, next)
+period_not_past : (counter : Counter) (business : ℤ → Bool) (from : ℤ) (days : List ℤ) → AreRising from days → from ≤ℤ end_of from (periods_from counter business from days)
+period_not_past counter business from [] rising = omega (arith, ints)
+period_not_past counter business from (day ∷ days) rising = let here = rising.0 in let next = period_not_past counter business day days rising.1 in omega (arith, ints, here, next)
 
-period_up_to : (counter : Counter) (from : ℤ) (days : List ℤ) → AreRising from days → AreUpTo (end_of from (periods_from counter from days)) (periods_from counter from days)
-period_up_to counter from [] rising k d h = absurd (omega arith)
-period_up_to counter from (day ∷ days) rising zero d h = period_not_past counter day days rising.1
-period_up_to counter from (day ∷ days) rising (suc k) d h = period_up_to counter day days rising.1 k d (omega arith)
+period_up_to : (counter : Counter) (business : ℤ → Bool) (from : ℤ) (days : List ℤ) → AreRising from days → AreUpTo (end_of from (periods_from counter business from days)) (periods_from counter business from days)
+period_up_to counter business from [] rising k d h = absurd (omega arith)
+period_up_to counter business from (day ∷ days) rising zero d h = period_not_past counter business day days rising.1
+period_up_to counter business from (day ∷ days) rising (suc k) d h = period_up_to counter business day days rising.1 k d (omega arith)
 
-period_parts : (counter : Counter) (from : ℤ) (days : List ℤ) → AreParts (periods_from counter from days)
-period_parts counter from [] k d h = absurd (omega arith)
-period_parts counter from (day ∷ days) zero d h = omega (arith, ints)
-period_parts counter from (day ∷ days) (suc k) d h = period_parts counter day days k d (omega arith)
+period_parts : (counter : Counter) (business : ℤ → Bool) (from : ℤ) (days : List ℤ) → AreParts (periods_from counter business from days)
+period_parts counter business from [] k d h = absurd (omega arith)
+period_parts counter business from (day ∷ days) zero d h = omega (arith, ints)
+period_parts counter business from (day ∷ days) (suc k) d h = period_parts counter business day days k d (omega arith)
 
-period_count : (counter : Counter) (from : ℤ) (days : List ℤ) → length (periods_from counter from days) ≡ length days
-period_count counter from [] = refl
-period_count counter from (day ∷ days) = ap suc (period_count counter day days)
+period_count : (counter : Counter) (business : ℤ → Bool) (from : ℤ) (days : List ℤ) → length (periods_from counter business from days) ≡ length days
+period_count counter business from [] = refl
+period_count counter business from (day ∷ days) = ap suc (period_count counter business day days)
 
-pub periods_are : (counter : Counter) (reference : ℤ) (days : List ℤ) → IsStrictlySortedBy int_cmp days → slice_get days 0 ≡ Some reference → length days ≤ 801
-    → AreCoupons reference (end_of reference (periods counter days)) (periods counter days)
-periods_are counter reference [] sorted first few = absurd cc
-periods_are counter reference (day ∷ days) sorted first few =
+pub periods_are : (counter : Counter) (business : ℤ → Bool) (reference : ℤ) (days : List ℤ) → IsStrictlySortedBy int_cmp days → slice_get days 0 ≡ Some reference → length days ≤ 801
+    → AreCoupons reference (end_of reference (periods counter business days)) (periods counter business days)
+periods_are counter business reference [] sorted first few = absurd cc
+periods_are counter business reference (day ∷ days) sorted first few =
     let same : day ≡ reference = cc in
     let rising = subst (λ (d : ℤ). AreRising d days) same (from_sorted day days sorted) in
     rw same (record {
-      few = omega (arith, period_count counter reference days);
-      ordered = period_ordered counter reference days rising;
-      up_to = period_up_to counter reference days rising;
-      after = λ _. period_after counter reference reference days (omega (arith, ints)) rising;
-      parts = period_parts counter reference days;
+      few = omega (arith, period_count counter business reference days);
+      ordered = period_ordered counter business reference days rising;
+      up_to = period_up_to counter business reference days rising;
+      after = λ _. period_after counter business reference reference days (omega (arith, ints)) rising;
+      parts = period_parts counter business reference days;
     })
 
 -- the coupons of a helper of its kind

@@ -144,7 +144,7 @@ not_memory business plan fault (inr is) other = is
 -- the coupons of a swap by its schedule
 pub swap_due : (calendar : Calendar) (reference : ℤ) (helper : Helper) (every : Tenor) (end : ℤ) → Some end ≡ units_on helper.tenor.unit reference helper.tenor.count
     → swap_to calendar reference helper every (units_on helper.tenor.unit reference helper.tenor.count)
-    ≡ swap_over helper.counter (schedule (is_business_day calendar) (plan_of calendar reference helper every end))
+    ≡ swap_over helper.counter (is_business_day calendar) (schedule (is_business_day calendar) (plan_of calendar reference helper every end))
 swap_due calendar reference helper every end is = ap (swap_to calendar reference helper every) (sym is)
 
 -- the first day of its schedule is the reference day
@@ -192,7 +192,7 @@ no_coupons calendar reference helper every day tenor often is = by_end (units_on
   by_test end led None e none =
       let plan = plan_of calendar reference helper every end in
       let raw : adjusted_raw (is_business_day calendar) plan end ≡ None = alike (is_business_day calendar) helper.conv (int_eq end end) end ∙ e in
-      ap (swap_over helper.counter) (no_end (is_business_day calendar) plan (swap_plan calendar reference helper every end day tenor often led) raw)
+      ap (swap_over helper.counter (is_business_day calendar)) (no_end (is_business_day calendar) plan (swap_plan calendar reference helper every end day tenor often led) raw)
 
   by_end : (o : Option ℤ) → units_on helper.tenor.unit reference helper.tenor.count ≡ o → where_adjusted (adjusted (is_business_day calendar) helper.conv) o ≡ None
       → swap_to calendar reference helper every o ≡ Err helper_fault.DateRange

@@ -1,5 +1,5 @@
 -- The curve of its terms (QuantLib's PiecewiseYieldCurve, DepositRateHelper and SwapRateHelper).
-use Rattle.std.specs.Prelude.{◌≡◌, ℕ, suc, false, ℤ, pos, List, [], ◌∷◌, ◌++◌, Option, Some, None, is_some, Result, Ok, Err, if◌then◌else◌}
+use Rattle.std.specs.Prelude.{◌≡◌, ℕ, suc, Bool, false, ℤ, pos, List, [], ◌∷◌, ◌++◌, Option, Some, None, is_some, Result, Ok, Err, if◌then◌else◌}
 use Rattle.day_number.specs.declared.tenors.Unit.TheVariants.{Days}
 use Rattle.day_number.specs.declared.tenors.Tenor.{Tenor}
 use Rattle.day_number.specs.declared.conventions.Convention.TheVariants.{Following}
@@ -26,16 +26,16 @@ use Rattle.curve_bootstrap.specs.declared.faults.BuildFault.{BuildFault}
 use Rattle.curve_bootstrap.specs.declared.faults.BuildFault.TheVariants as build
 use Rattle.curve_bootstrap.specs.Node.{node_of}
 
--- a coupon for each period of a schedule that goes on from a day
-abbrev pub periods_from : Counter → ℤ → List ℤ → List Coupon
-periods_from counter from [] = []
-periods_from counter from (to ∷ days) =
-    record { day = to; parts = pos (frac counter from to) } ∷ periods_from counter to days
+-- a coupon for each period of a schedule that goes on from a day, by the business days of a calendar
+abbrev pub periods_from : Counter → (ℤ → Bool) → ℤ → List ℤ → List Coupon
+periods_from counter business from [] = []
+periods_from counter business from (to ∷ days) =
+    record { day = to; parts = pos (frac counter business from to) } ∷ periods_from counter business to days
 
 -- a coupon for each period of a schedule, paid at its end
-abbrev pub periods : Counter → List ℤ → List Coupon
-periods counter [] = []
-periods counter (day ∷ days) = periods_from counter day days
+abbrev pub periods : Counter → (ℤ → Bool) → List ℤ → List Coupon
+periods counter business [] = []
+periods counter business (day ∷ days) = periods_from counter business day days
 
 -- a fault of a schedule that comes where a helper is in range: its days leave the range, or its end is not after its start; or want of memory
 abbrev pub Comes : PlanFault → Type 0
@@ -58,15 +58,15 @@ fault_of Collapsed = Pillar
 fault_of PlanMemory = NoMemory
 
 -- the coupon of a deposit that ends on a day
-abbrev pub deposit_to : Counter → ℤ → Option ℤ → Result (List Coupon) HelperFault
-deposit_to counter reference (Some day) =
-    Ok (record { day = day; parts = pos (frac counter reference day) } ∷ [])
-deposit_to counter reference None = Err DateRange
+abbrev pub deposit_to : Counter → (ℤ → Bool) → ℤ → Option ℤ → Result (List Coupon) HelperFault
+deposit_to counter business reference (Some day) =
+    Ok (record { day = day; parts = pos (frac counter business reference day) } ∷ [])
+deposit_to counter business reference None = Err DateRange
 
 -- the coupons of a schedule
-abbrev pub swap_over : Counter → Result (List ℤ) PlanFault → Result (List Coupon) HelperFault
-swap_over counter (Ok days) = Ok (periods counter days)
-swap_over counter (Err fault) = Err (fault_of fault)
+abbrev pub swap_over : Counter → (ℤ → Bool) → Result (List ℤ) PlanFault → Result (List Coupon) HelperFault
+swap_over counter business (Ok days) = Ok (periods counter business days)
+swap_over counter business (Err fault) = Err (fault_of fault)
 
 -- the plan of a par swap: its days go back from its end, and its convention holds for all of them
 abbrev pub plan_of : Calendar → ℤ → Helper → Tenor → ℤ → Plan
@@ -86,13 +86,13 @@ plan_of calendar reference helper every end = record {
 -- the coupons of a par swap whose end before adjustment is a day
 abbrev pub swap_to : Calendar → ℤ → Helper → Tenor → Option ℤ → Result (List Coupon) HelperFault
 swap_to calendar reference helper every (Some end) =
-    swap_over helper.counter (schedule (is_business_day calendar) (plan_of calendar reference helper every end))
+    swap_over helper.counter (is_business_day calendar) (schedule (is_business_day calendar) (plan_of calendar reference helper every end))
 swap_to calendar reference helper every None = Err DateRange
 
 -- the coupons of a helper by its kind: a deposit's one on the day that its tenor leads to, a swap's one for each period
 abbrev pub coupons_by : Calendar → ℤ → Helper → Option Tenor → Result (List Coupon) HelperFault
 coupons_by calendar reference helper None =
-    deposit_to helper.counter reference
+    deposit_to helper.counter (is_business_day calendar) reference
     (advanced (is_business_day calendar) helper.tenor.unit helper.conv helper.eom reference helper.tenor.count)
 coupons_by calendar reference helper (Some every) =
     swap_to calendar reference helper every (units_on helper.tenor.unit reference helper.tenor.count)

@@ -64,7 +64,7 @@ fn deposit_coupons(
         helper.conv,
         helper.eom,
     ) {
-        Ok(day) => one_coupon(alloc, helper.counter, reference, day),
+        Ok(day) => one_coupon(alloc, helper.counter, calendar, reference, day),
         Err(_) => Err(HelperFault::DateRange),
     }
 }
@@ -73,26 +73,27 @@ fn deposit_coupons(
 fn one_coupon(
     alloc: Global,
     counter: Counter,
+    calendar: &Calendar,
     from: Day,
     to: Day,
 ) -> Result<Vec<Coupon>, HelperFault>
     requires { from ≤ℤ to }
-    ensures given { due.GivesHelper (λ cs. cs.items) (due.deposit_to counter from (Some to)) result }
+    ensures given { due.GivesHelper (λ cs. cs.items) (due.deposit_to counter (is_business_day calendar.now) from (Some to)) result }
     ensures fits { IfOk result (λ cs. AreCoupons from (due.end_of from cs.items) cs.items) }
 {
     let mut coupons = Vec::new(alloc);
-    coupons.push(coupon(counter, from, to))?;
+    coupons.push(coupon(counter, calendar, from, to))?;
     Ok(coupons)
 }
 
 // The coupon of a period.
-fn coupon(counter: Counter, from: Day, to: Day) -> Coupon
+fn coupon(counter: Counter, calendar: &Calendar, from: Day, to: Day) -> Coupon
     requires { from ≤ℤ to }
-    ensures { result ≡ record { day = to; parts = pos (frac counter from to) } }
+    ensures { result ≡ record { day = to; parts = pos (frac counter (is_business_day calendar.now) from to) } }
 {
     Coupon {
         day: to,
-        parts: fraction(counter, from, to),
+        parts: fraction(counter, calendar, from, to),
     }
 }
 
@@ -127,7 +128,7 @@ fn swap_coupons(
         last: None,
     };
     match make(alloc, &plan) {
-        Ok(schedule) => period_coupons(alloc, helper.counter, schedule.dates()),
+        Ok(schedule) => period_coupons(alloc, helper.counter, calendar, schedule.dates()),
         Err(fault) => Err(refused_by(fault)),
     }
 }
@@ -174,14 +175,15 @@ fn moved(day: Day, tenor: Tenor) -> Option<Day>
 fn period_coupons(
     alloc: Global,
     counter: Counter,
+    calendar: &Calendar,
     dates: &[Day],
 ) -> Result<Vec<Coupon>, HelperFault>
     requires { IsStrictlySortedBy int_cmp dates.now }
-    ensures { due.GivesHelper (λ cs. cs.items) (Ok (due.periods counter dates.now)) result }
+    ensures { due.GivesHelper (λ cs. cs.items) (Ok (due.periods counter (is_business_day calendar.now) dates.now)) result }
 {
     let mut coupons = Vec::new(alloc);
     for at in 1..dates.len() {
-        coupons.push(coupon(counter, dates[at - 1], dates[at]))?;
+        coupons.push(coupon(counter, calendar, dates[at - 1], dates[at]))?;
     }
     Ok(coupons)
 }

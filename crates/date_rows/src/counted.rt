@@ -2,6 +2,7 @@
 use crate::row::{Row, RowFault};
 use day_counters::fraction;
 use day_number::Day;
+use holiday_calendars::{Base, Calendar};
 use year_parts::Counter;
 
 // The parts of a day of a year of 360, of 365 and of 366 days.
@@ -40,5 +41,5 @@ fn parts(days: i32, each: i64) -> i64 {
 
 // Whether the fraction from a day to one that is not before it has so many parts.
 fn has_parts(counter: Counter, from: Day, to: Day, parts: i64) -> bool {
-    from <= to && fraction(counter, from, to).0 == parts
+    from <= to && fraction(counter, &Calendar::one(Base::Null), from, to).0 == parts
 }

@@ -1,5 +1,5 @@
 -- Year fractions by the day counters.
-use Rattle.std.specs.Prelude.{ℕ, ◌*◌, ℤ, ◌-ℤ◌}
+use Rattle.std.specs.Prelude.{ℕ, ◌*◌, Bool, ℤ, ◌-ℤ◌}
 use Rattle.day_number.specs.Day.{date_of}
 use Rattle.year_parts.specs.declared.bases.Basis.TheVariants.{D360, D365}
 use Rattle.year_parts.specs.declared.counters.Counter.{Counter}
@@ -8,12 +8,13 @@ use Rattle.year_parts.specs.Basis.{parts_in_day}
 use Rattle.day_counters.specs.Day.{act_act}
 use Rattle.day_counters.specs.CivilDate.{bond_basis_days, european_days, at_least_zero}
 
--- the parts of the year from a day to one not before it (the counters are ISDA's, the parts this project's)
-unfoldable pub frac : Counter → ℤ → ℤ → ℕ
-frac Act360 from to = at_least_zero (to -ℤ from) * parts_in_day D360
-frac Act365 from to = at_least_zero (to -ℤ from) * parts_in_day D365
-frac ActAct from to = act_act from (at_least_zero (to -ℤ from))
-frac Thirty360 from to =
+-- the parts of the year from a day to one not before it, by the business days of a calendar, which play no part for
+-- these counters (the counters are ISDA's, the parts this project's)
+unfoldable pub frac : Counter → (ℤ → Bool) → ℤ → ℤ → ℕ
+frac Act360 business from to = at_least_zero (to -ℤ from) * parts_in_day D360
+frac Act365 business from to = at_least_zero (to -ℤ from) * parts_in_day D365
+frac ActAct business from to = act_act from (at_least_zero (to -ℤ from))
+frac Thirty360 business from to =
     at_least_zero (bond_basis_days (date_of from) (date_of to)) * parts_in_day D360
-frac ThirtyE360 from to =
+frac ThirtyE360 business from to =
     at_least_zero (european_days (date_of from) (date_of to)) * parts_in_day D360

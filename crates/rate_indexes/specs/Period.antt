@@ -1,5 +1,5 @@
 -- The deposit whose rate an index gives (QuantLib's IborIndex).
-use Rattle.std.specs.Prelude.{ℕ, ℤ, pos, false, int_lt, ◌<ℤ◌, if◌then◌else◌, Option, Some, None, Result, Ok, Err, option_and_then}
+use Rattle.std.specs.Prelude.{ℕ, ℤ, pos, Bool, false, int_lt, ◌<ℤ◌, if◌then◌else◌, Option, Some, None, Result, Ok, Err, option_and_then}
 use Rattle.jiff_core.specs.Calendar.{IsBetween}
 use Rattle.day_number.specs.declared.conventions.Convention.TheVariants.{Following}
 use Rattle.day_number.specs.declared.tenors.Unit.TheVariants.{Days}
@@ -29,13 +29,13 @@ abbrev pub maturity_day : IndexTerms → ℤ → Option ℤ
 maturity_day terms value =
     advanced (is_business_day terms.cal) terms.tenor.unit terms.conv terms.eom value terms.tenor.count
 
--- from a value day to a maturity, which is after it
-abbrev pub period_between : Counter → ℤ → ℤ → Option Period
-period_between counter value maturity =
-    if int_lt value maturity then Some (value, maturity, pos (frac counter value maturity)) else None
+-- from a value day to a maturity, which is after it, by the business days of a calendar
+abbrev pub period_between : Counter → (ℤ → Bool) → ℤ → ℤ → Option Period
+period_between counter business value maturity =
+    if int_lt value maturity then Some (value, maturity, pos (frac counter business value maturity)) else None
 
 abbrev pub period_from : IndexTerms → ℤ → Option Period
-period_from terms value = option_and_then (period_between terms.counter value) (maturity_day terms value)
+period_from terms value = option_and_then (period_between terms.counter (is_business_day terms.cal) value) (maturity_day terms value)
 
 -- of a rate that is fixed on a day, where its days are in range
 abbrev pub period_at : IndexTerms → ℤ → Option Period

@@ -22,7 +22,7 @@ one_coupon-requires c =
     advanced_is_not_before _ _ _ _ _ _ _ c.requires.business count (led c.before)
 
 pub returns-in-Ok-clause-given : goal.returns-in-Ok-clause-given
-returns-in-Ok-clause-given c = gives_by _ _ _ _ (ap (deposit_to c.args.helper.now.counter c.args.reference) (sym (led c.before.before))) c.one_coupon.ensures.given
+returns-in-Ok-clause-given c = gives_by _ _ _ _ (ap (deposit_to c.args.helper.now.counter (is_business_day c.args.calendar.now) c.args.reference) (sym (led c.before.before))) c.one_coupon.ensures.given
 
 pub returns-in-Ok-clause-day : goal.returns-in-Ok-clause-day
 returns-in-Ok-clause-day c = rw (led c.before.before) tt

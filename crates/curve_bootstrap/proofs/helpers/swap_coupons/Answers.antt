@@ -25,20 +25,20 @@ pub returns-in-Err-clause-given : goal.returns-in-Err-clause-given
 returns-in-Err-clause-given c =
     gives_fault {X = Vec Coupon Global} {Y = List Coupon} (λ cs. cs.items) _ c.in-Err.fault c.refused_by.result (refused_by-requires c.before)
     (λ other. swap_due c.args.calendar.now c.args.reference c.args.helper.now c.args.every c.in-Some.end (end_there c.args.calendar.now c.args.reference c.args.helper.now c.in-Some.end c.in-Some.ensures)
-    ∙ ap (swap_over c.args.helper.now.counter) (not_memory (is_business_day c.args.calendar.now) _ c.in-Err.fault (due_fault c.before) other)) c.refused_by.ensures
+    ∙ ap (swap_over c.args.helper.now.counter (is_business_day c.args.calendar.now)) (not_memory (is_business_day c.args.calendar.now) _ c.in-Err.fault (due_fault c.before) other)) c.refused_by.ensures
 
 pub returns-in-Ok-clause-given : goal.returns-in-Ok-clause-given
 returns-in-Ok-clause-given c =
     let plan = plan_of c.args.calendar.now c.args.reference c.args.helper.now c.args.every c.in-Some.end in
     let days : schedule (is_business_day c.args.calendar.now) plan ≡ Ok c.dates.result.now =
     sym (schedules_go_by_the_days (is_business_day c.args.calendar.now) plan c.args.calendar) ∙ (c.in-Ok.ensures.dates ∙ ap Ok (sym c.dates.ensures.days)) in
-    gives_by _ _ _ _ (sym (swap_due c.args.calendar.now c.args.reference c.args.helper.now c.args.every c.in-Some.end (end_there c.args.calendar.now c.args.reference c.args.helper.now c.in-Some.end c.in-Some.ensures) ∙ ap (swap_over c.args.helper.now.counter) days)) c.period_coupons.ensures
+    gives_by _ _ _ _ (sym (swap_due c.args.calendar.now c.args.reference c.args.helper.now c.args.every c.in-Some.end (end_there c.args.calendar.now c.args.reference c.args.helper.now c.in-Some.end c.in-Some.ensures) ∙ ap (swap_over c.args.helper.now.counter (is_business_day c.args.calendar.now)) days)) c.period_coupons.ensures
 
 pub returns-in-Ok-clause-fits : goal.returns-in-Ok-clause-fits
 returns-in-Ok-clause-fits c =
     let first = first_there (is_business_day c.args.calendar.now) c.args.helper.now.conv (int_eq c.args.reference c.in-Some.end) c.args.reference c.in-Ok.schedule c.dates.result.now c.requires.business c.in-Ok.ensures.first c.dates.ensures.days in
-    given_fits _ (periods c.args.helper.now.counter c.dates.result.now) (λ (cs : List Coupon). AreCoupons c.args.reference (end_of c.args.reference cs) cs) c.period_coupons.result
-    (periods_are c.args.helper.now.counter c.args.reference c.dates.result.now c.dates.ensures.rising first c.dates.ensures.count.1) c.period_coupons.ensures
+    given_fits _ (periods c.args.helper.now.counter (is_business_day c.args.calendar.now) c.dates.result.now) (λ (cs : List Coupon). AreCoupons c.args.reference (end_of c.args.reference cs) cs) c.period_coupons.result
+    (periods_are c.args.helper.now.counter (is_business_day c.args.calendar.now) c.args.reference c.dates.result.now c.dates.ensures.rising first c.dates.ensures.count.1) c.period_coupons.ensures
 
 pub returns-in_default-clause-given : goal.returns-in_default-clause-given
 returns-in_default-clause-given c = no_coupons c.args.calendar.now c.args.reference c.args.helper.now c.args.every c.requires.business.0 c.requires.tenor c.requires.every (sym c.swap_end.ensures ∙ c.in_default.is)

@@ -1,15 +1,17 @@
 -- Lemmas on the digits that a text begins with, and on the last digits of a number.
-use Rattle.std.proofs.Common.{◌≡◌, ℕ, zero, suc, ◌+◌, ◌-◌, ◌*◌, ◌/◌, ◌%◌, ◌^◌, ◌<◌, ◌≤◌, Bool, true, false, List, [], ◌∷◌, ◌++◌, length, take, drop, refl, arith, get_or, append_assoc, length-append, add-one, nat_le}
+use Rattle.std.proofs.Common.{◌≡◌, ℕ, zero, suc, ◌+◌, ◌-◌, ◌*◌, ◌/◌, ◌%◌, ◌^◌, ◌<◌, ◌≤◌, Bool, true, false, List, [], ◌∷◌, ◌++◌, length, take, drop, refl, arith, get_or, append_assoc, length-append, add-one, nat_le, decimal, ap, ◌∙◌}
 use Rattle.std.specs.Str.Parse.{digits_value}
 use Rattle.std.proofs.lemmas.Nat.{mod_below}
 use Rattle.std.proofs.lemmas.Int.Digits.{digits_value_push}
 use Rattle.std.proofs.Math.Arith.{mod-mul}
 use Rattle.std.proofs.Math.Numerals.{one-add}
 use Rattle.std.proofs.lemmas.Bool.{and_parts, and_from, leb-true, le-ltb, lt-ltb, le-leb, true_from_ne_false, both_ways}
+use Rattle.std.proofs.lemmas.List.{drop-drop}
 use Rattle.std.proofs.lemmas.List.Folds.{list_all_at, list_all-append}
 use Rattle.std.specs.Char.{is_ascii_digit, digit_value}
 use Rattle.std.specs.List.{list_all, prefix_len}
-use Rattle.std.proofs.Math.Nat.{div-div-eq-div-mul, pow-suc, one-le-pow}
+use Rattle.std.proofs.Math.Nat.{pow-suc, one-le-pow, pow-le-pow_right, mod-eq_of_lt}
+use Rattle.std.proofs.lemmas.Fmt.{decimal_digit, decimal_step_wide, length-decimal-le_wide}
 use Rattle.fixed_amount.specs.Decimal.{all_digits, point_text, last_digits}
 
 -- the elements that a list begins with and that pass all pass
@@ -19,17 +21,6 @@ list_all-front p (x ∷ xs) = by_test (p x) refl (list_all-front p xs) where
   by_test : (b : Bool) → p x ≡ b → list_all p (take (prefix_len p xs) xs) ≡ true → list_all p (take (prefix_len p (x ∷ xs)) (x ∷ xs)) ≡ true
   by_test true e rest = simp (e, one-add) rest
   by_test false e rest = simp e
-
--- one digit more at the end
-pub last_digits_more : (number count next place : ℕ) → place ≡ next + 1 → next < count → last_digits (count - next) (number / 10 ^ next) ≡ last_digits (count - place) (number / 10 ^ place) ++ (48 + number / 10 ^ next % 10) ∷ []
-last_digits_more number count next place h l =
-    let steps : count - next ≡ suc (count - place) = omega arith in
-    let power : 10 ^ place ≡ 10 ^ next * 10 = rw (h, add-one, pow-suc) refl in
-    rw (steps, power, ← div-div-eq-div-mul number (10 ^ next) 10)
-
--- a list that grew by one element, which its continuation has
-pub pushed_more : (old before after digits more : List ℕ) (d : ℕ) → after ≡ before ++ d ∷ [] → before ≡ old ++ digits → more ≡ digits ++ d ∷ [] → after ≡ old ++ more
-pushed_more old before after digits more d p q r = rw (p, q, r) (append_assoc old digits (d ∷ []))
 
 -- as many digits as asked for
 pub length-last_digits : (count n : ℕ) → length (last_digits count n) ≡ count
@@ -86,3 +77,43 @@ digits_value-last (suc count) n =
     let ten : 0 < 10 = omega arith in
     let power : 0 < 10 ^ count = omega (arith, one-le-pow count 10 ten) in
     rw (digits_value_push 10 (last_digits count (n / 10)) (48 + n % 10), digits_value-last count (n / 10), pow-suc, mod-mul n power ten) (omega (arith, value))
+
+-- the decimal of a power of ten and what is below it: a one, and the last digits
+pub decimal_marked : (count n : ℕ) → count ≤ 18 → decimal (10 ^ count + n % 10 ^ count) ≡ 49 ∷ last_digits count n
+decimal_marked zero n h =
+    let rest = mod_below n 1 (omega arith) in
+    let one : 10 ^ 0 + n % 10 ^ 0 ≡ 1 = omega arith in
+    rw one (decimal_digit 1 (omega arith))
+decimal_marked (suc count) n h =
+    let ten : 0 < 10 = omega arith in
+    let power : 0 < 10 ^ count = omega (arith, one-le-pow count 10 ten) in
+    let fits : count ≤ 18 = omega arith in
+    let few : 10 ^ count ≤ 10 ^ 18 = pow-le-pow_right ten fits in
+    let below = mod_below (n / 10) (10 ^ count) power in
+    let digit = mod_below n 10 ten in
+    let parts : 10 ^ suc count + n % 10 ^ suc count ≡ 10 ^ count * 10 + (n / 10 % 10 ^ count * 10 + n % 10) = rw (pow-suc, mod-mul n power ten) refl in
+    let front : (10 ^ count * 10 + (n / 10 % 10 ^ count * 10 + n % 10)) / 10 ≡ 10 ^ count + n / 10 % 10 ^ count = omega arith in
+    let last : (10 ^ count * 10 + (n / 10 % 10 ^ count * 10 + n % 10)) % 10 ≡ n % 10 = omega arith in
+    let step = decimal_step_wide (10 ^ count * 10 + (n / 10 % 10 ^ count * 10 + n % 10)) (omega arith) (omega arith) in
+    rw (parts, step, front, last, decimal_marked count (n / 10) (omega arith)) refl
+
+-- the same of a number's rest by the power
+pub decimal_of_part : (count part number power : ℕ) → count ≤ 18 → power ≡ 10 ^ count → number % 10 ^ count ≡ part → decimal (power + part) ≡ 49 ∷ last_digits count number
+decimal_of_part count part number power few e h = rw (e, ← h) (decimal_marked count number few)
+
+-- it has a digit more than the power has places
+pub length-decimal_of_part : (count part power : ℕ) → count ≤ 18 → power ≡ 10 ^ count → part < 10 ^ count → length (decimal (power + part)) ≡ count + 1
+length-decimal_of_part count part power few e below =
+    rw (decimal_of_part count part part power few e (mod-eq_of_lt below)) (omega (arith, length-last_digits count part))
+
+-- what stands behind an element
+pub drop_behind : {X : Type 0} (xs ys : List X) (x : X) (i : ℕ) → drop i xs ≡ x ∷ ys → drop (i + 1) xs ≡ ys
+drop_behind xs ys x i h = rw (← drop-drop 1 i xs, h) refl
+
+-- a number of 128 bits has at most 39 digits
+pub length_wide : (n : ℕ) → n < 2 ^ 128 → length (decimal n) ≤ 39
+length_wide n h = length-decimal-le_wide 39 n (omega arith) (omega arith) (omega arith)
+
+-- and one more than its tenth
+pub length_step_wide : (n : ℕ) → 10 ≤ n → n < 2 ^ 128 → length (decimal n) ≡ length (decimal (n / 10)) + 1
+length_step_wide n low high = ap length (decimal_step_wide n low (omega arith)) ∙ length-append _ _

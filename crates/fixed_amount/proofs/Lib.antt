@@ -2,6 +2,7 @@ pub mod Rows
 pub mod Rounded
 pub mod Steps
 pub mod Digits
+pub mod Powers
 pub mod Ranges
 pub mod Reading
 pub mod DecimalLaws

@@ -1,16 +1,19 @@
 // Whole numbers of units printed as decimal text.
-ghost use Rattle.std.specs.Prelude.{◌≡◌, ℕ, ℤ, pos, neg_ℤ, ◌≤ℤ◌, ◌<ℤ◌, Ok, ◌/◌, ◌%◌, ◌+◌, ◌^◌, ◌≤◌, ◌++◌, ◌↔◌, List, unsigned_abs, OnOk, OnErr, IfOk};
-ghost use Rattle.std.specs.Fmt.{sign_text};
+ghost use Rattle.std.specs.Prelude.{◌≡◌, ℕ, ℤ, pos, neg_ℤ, ◌≤ℤ◌, ◌<ℤ◌, Ok, ◌/◌, ◌%◌, ◌^◌, ◌<◌, ◌≤◌, ◌++◌, ◌↔◌, List, drop, decimal, unsigned_abs, OnOk, OnErr};
 ghost use Rattle.fixed_amount.specs.Decimal.{IsExactDecimal, decimal_value, decimal_text, last_digits, point_text};
 
 use crate::power::power_of_ten;
+use itoa::write_digits;
 use std::alloc::{AllocError, Global};
+
+// The most bytes of a decimal: a sign, the 39 digits of 2^127, a point and 18 digits.
+const MOST_BYTES: usize = 59;
 
 /// Appends the decimal that writes `value / 10^places`: `-` for a negative value, the whole part without leading
 /// zeros, and, where `places` is above 0, a `.` and exactly that many digits. Any value will do, `i128::MIN` too.
-/// After want of memory `out` has its old bytes.
+/// Memory is taken for `out` alone, and after want of it `out` has its old bytes.
 pub fn print_decimal(
-    alloc: Global,
+    _alloc: Global,
     value: i128,
     places: u8,
     out: &mut Vec<u8>,
@@ -19,64 +22,72 @@ pub fn print_decimal(
     ensures ok { OnOk result (out.new.items ≡ out.old.items ++ decimal_text value places) }
     ensures err { OnErr result (out.new.items ≡ out.old.items) }
 {
-    let text = decimal_bytes(alloc, value, places)?;
-    out.extend_from_slice(text.as_slice())
+    let mut text = [0; MOST_BYTES];
+    let start = write_decimal(value, places, &mut text);
+    out.extend_from_slice(&text[start..])
 }
 
-// The decimal in a vector of its own.
+// Writes the decimal at the end of the buffer, and tells where it starts.
 #[tactic(auto, unfolding(crate::specs::Decimal::decimal_text))]
-fn decimal_bytes(alloc: Global, value: i128, places: u8) -> Result<Vec<u8>, AllocError>
+fn write_decimal(value: i128, places: u8, text: &mut [u8; MOST_BYTES]) -> usize
     requires { places ≤ 18 }
-    ensures { IfOk result (λ text. text.items ≡ decimal_text value places) }
+    ensures within { result ≤ 59 }
+    ensures written { drop result text.new ≡ decimal_text value places }
 {
-    let size = value.unsigned_abs();
-    let whole = (size / power_of_ten(places) as u128).to_string(alloc)?;
-    let mut text = Vec::new(alloc);
-    push_sign(&mut text, value < 0)?;
-    text.extend_from_slice(whole.as_bytes())?;
-    push_fraction(&mut text, size, places)?;
-    Ok(text)
-}
-
-// Appends `-` where negative.
-fn push_sign(text: &mut Vec<u8>, negative: bool) -> Result<(), AllocError>
-    ensures { OnOk result (text.new.items ≡ text.old.items ++ sign_text negative) }
-{
-    if negative {
-        text.push(b'-')?;
+    let (whole, part) = parts_of(value.unsigned_abs(), power_of_ten(places));
+    let point = write_fraction(part, places, text);
+    let start = write_whole(whole, text, point);
+    if value >= 0 {
+        return start;
     }
-    Ok(())
+    text[start - 1] = b'-';
+    start - 1
 }
 
-// Appends the point and the last digits of the number, this many, or nothing where that is none.
-fn push_fraction(text: &mut Vec<u8>, number: u128, count: u8) -> Result<(), AllocError>
-    requires { count ≤ 18 }
-    ensures { OnOk result (text.new.items ≡ text.old.items ++ point_text (last_digits count number)) }
+// The quotient and the rest; of a number of 64 bits by a division of 64 bits, which is quicker.
+fn parts_of(size: u128, power: u64) -> (u128, u64)
+    requires { 0 < power }
+    ensures whole { result.0 ≡ size / power }
+    ensures part { result.1 ≡ size % power }
 {
-    if count > 0 {
-        text.push(b'.')?;
-        push_last_digits(text, number, count)?;
+    if size <= u64::MAX as u128 {
+        let short = size as u64;
+        return ((short / power) as u128, short % power);
     }
-    Ok(())
+    (size / power as u128, (size % power as u128) as u64)
 }
 
-// Appends the last digits of the number, this many, leading zeros kept.
-fn push_last_digits(text: &mut Vec<u8>, number: u128, count: u8) -> Result<(), AllocError>
-    requires { count ≤ 18 }
-    ensures { OnOk result (text.new.items ≡ text.old.items ++ last_digits count number) }
+// Writes the point and the digits behind it at the end of the buffer, or nothing where there are no places. The digits of
+// the part and of the power of ten together begin with a one: the point goes there.
+fn write_fraction(part: u64, places: u8, text: &mut [u8; MOST_BYTES]) -> usize
+    requires few { places ≤ 18 }
+    requires below { part < 10 ^ places }
+    ensures start { (40 ≤ result) × (result ≤ 59) }
+    ensures written { (number : ℕ) → number % 10 ^ places ≡ part
+        → drop result text.new ≡ point_text (last_digits places number) }
 {
-    for place in (0..count).rev() {
-        text.push(digit_at(number, place))?;
+    if places == 0 {
+        return MOST_BYTES;
     }
-    Ok(())
+    let start = write_digits(power_of_ten(places) + part, text, MOST_BYTES);
+    text[start] = b'.';
+    start
 }
 
-// The digit of the number that stands for 10^place.
-fn digit_at(number: u128, place: u8) -> u8
-    requires { place ≤ 18 }
-    ensures { result ≡ 48 + number / 10 ^ place % 10 }
+// Writes the number so that its digits end at `end`, and tells where they start. Digits past 64 bits go one at a time.
+fn write_whole(number: u128, text: &mut [u8; MOST_BYTES], end: usize) -> usize
+    requires { (40 ≤ end) × (end ≤ 59) }
+    ensures start { (1 ≤ result) × (result ≤ 59) }
+    ensures written { drop result text.new ≡ decimal number ++ drop end text.old }
 {
-    b'0' + (number / power_of_ten(place) as u128 % 10) as u8
+    let mut left = number;
+    let mut at = end;
+    while left > u64::MAX as u128 {
+        at -= 1;
+        text[at] = b'0' + (left % 10) as u8;
+        left /= 10;
+    }
+    write_digits(left as u64, text, at)
 }
 
 /// Law: what is printed of a number of 64 bits is read back as that number.

@@ -1,10 +1,12 @@
-use Rattle.std.proofs.Common.{◌≤◌, ◌<◌, ◌^◌, arith}
-use Rattle.std.proofs.Math.Nat.{one-le-pow, pow-le-pow_right}
+use Rattle.std.proofs.Common.{arith}
+use Rattle.fixed_amount.proofs.Powers.{power_at, power_positive, power_bound}
 use Rattle.fixed_amount.proofs.power.power_of_ten.Goals as goal
 
+pub returns-clause-value : goal.returns-clause-value
+returns-clause-value c = power_at c.args.places (omega (arith, c.requires))
+
 pub returns-clause-positive : goal.returns-clause-positive
-returns-clause-positive c = omega (arith, one-le-pow c.args.places 10 (omega arith))
+returns-clause-positive c = power_positive c.args.places (omega (arith, c.requires))
 
 pub returns-clause-bound : goal.returns-clause-bound
-returns-clause-bound c = let ten : 0 < 10 = omega arith in
-    let up : 10 ^ c.args.places ≤ 10 ^ 18 = pow-le-pow_right ten c.requires in omega arith
+returns-clause-bound c = power_bound c.args.places c.requires

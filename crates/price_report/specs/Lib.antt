@@ -1,3 +1,4 @@
 pub mod Namer
 pub mod Line
 pub mod Examples
+pub mod Front

@@ -1,11 +1,12 @@
 // The line of an ask.
-ghost use Rattle.std.specs.Prelude.{◌≡◌, ◌++◌, OnOk, OnErr, IfOk, option_copied};
+ghost use Rattle.std.specs.Prelude.{◌≡◌, ◌++◌, OnOk, OnErr, option_copied};
 ghost use Rattle.desk_terms.specs.Asked.{Shows};
 ghost use Rattle.desk_terms.specs.Reading.{Outcome, outcome_in};
+ghost use Rattle.price_report.specs.Front.{KeepsFront};
 ghost use Rattle.price_report.specs.Line.{value_text, answer_text, asked_line};
 
 use crate::Namer;
-use crate::cause::{push_cause, push_count};
+use crate::cause::{cause_text, push_count};
 use crate::curve::push_curve;
 use desk_names::NameId;
 use desk_terms::{Asked, Cause, Mark, Value};
@@ -32,8 +33,14 @@ pub fn asked_line(
     ensures err { OnErr result (out.new.items ≡ out.old.items) }
 {
     let outcome = shown(asked, value);
-    let line = asked_bytes(alloc, name, &outcome, asked.mark, asked.runs, namer)?;
-    out.extend_from_slice(line.as_slice())
+    let front = out.len();
+    match push_asked(alloc, name, &outcome, asked.mark, asked.runs, namer, out) {
+        Ok(()) => Ok(()),
+        Err(fault) => {
+            out.truncate(front);
+            Err(fault)
+        }
+    }
 }
 
 // What the answer shows.
@@ -48,29 +55,31 @@ fn shown<'a>(asked: &Asked, value: Option<&'a Value>) -> Result<&'a Value, Cause
     }
 }
 
-// The line in a vector of its own.
-#[tactic(auto, unfolding(crate::specs::Line::asked_line))]
-fn asked_bytes(
+// Appends the line; a part of it may stand where memory was wanting.
+#[tactic(auto, unfolding(crate::specs::Line::asked_line), using(crate::proofs::Fronts::front_on, crate::proofs::Fronts::front_same))]
+fn push_asked(
     alloc: Global,
     name: NameId,
     outcome: &Result<&Value, Cause>,
     mark: Mark,
     runs: u64,
     namer: &Namer<'_>,
-) -> Result<Vec<u8>, AllocError>
-    ensures { IfOk result (λ line. line.items
-        ≡ asked_line namer.now.names.now namer.now.of_object.now name (outcome_in outcome.now) mark runs) }
+    line: &mut Vec<u8>,
+) -> Result<(), AllocError>
+    ensures ok { OnOk result (line.new.items ≡ line.old.items
+        ++ asked_line namer.now.names.now namer.now.of_object.now name (outcome_in outcome.now) mark runs) }
+    ensures err { OnErr result (KeepsFront line.old.items line.new.items) }
 {
-    let mut line = Vec::new(alloc);
     line.extend_from_slice(namer.name(name))?;
-    line.extend_from_slice(b" ")?;
-    push_answer(alloc, outcome, mark, namer, &mut line)?;
-    push_count(alloc, runs, &mut line)?;
-    line.extend_from_slice(b"\n")?;
-    Ok(line)
+    line.push(b' ')?;
+    push_answer(alloc, outcome, mark, namer, line)?;
+    push_count(runs, line)?;
+    line.push(b'\n')?;
+    Ok(())
 }
 
 // Appends a value and the mark, or the cause.
+#[tactic(auto, using(crate::proofs::Fronts::front_on, crate::proofs::Fronts::front_same))]
 fn push_answer(
     alloc: Global,
     outcome: &Result<&Value, Cause>,
@@ -78,28 +87,34 @@ fn push_answer(
     namer: &Namer<'_>,
     line: &mut Vec<u8>,
 ) -> Result<(), AllocError>
-    ensures { OnOk result (line.new.items
+    ensures ok { OnOk result (line.new.items
         ≡ line.old.items ++ answer_text namer.now.names.now namer.now.of_object.now (outcome_in outcome.now) mark) }
+    ensures err { OnErr result (KeepsFront line.old.items line.new.items) }
 {
     match outcome {
         Ok(value) => {
             push_value(alloc, value, line)?;
-            line.extend_from_slice(b" ")?;
+            line.push(b' ')?;
             line.extend_from_slice(mark.word())
         }
         Err(cause) => {
             line.extend_from_slice(b"refused ")?;
-            push_cause(alloc, cause, namer, line)
+            cause_text(alloc, cause, namer, line)
         }
     }
 }
 
 // Appends an amount or a curve.
 fn push_value(alloc: Global, value: &Value, line: &mut Vec<u8>) -> Result<(), AllocError>
-    ensures { OnOk result (line.new.items ≡ line.old.items ++ value_text value.now) }
+    ensures ok { OnOk result (line.new.items ≡ line.old.items ++ value_text value.now) }
+    ensures err { OnErr result (line.new.items ≡ line.old.items) }
 {
     match value {
         Value::Money(amount) => print_decimal(alloc, amount.units(), MONEY_PLACES, line),
-        Value::Curve(curve) => push_curve(alloc, curve, line),
+        Value::Curve(curve) => {
+            let mut text = Vec::new(alloc);
+            push_curve(alloc, curve, &mut text)?;
+            line.extend_from_slice(text.as_slice())
+        }
     }
 }

@@ -1,11 +1,13 @@
 // The text of a cause.
 ghost use Rattle.std.specs.Prelude.{◌≡◌, ◌++◌, OnOk, OnErr, codes, decimal};
 ghost use Rattle.day_number.specs.Day.{day_text};
+ghost use Rattle.price_report.specs.Front.{KeepsFront};
 ghost use Rattle.price_report.specs.Line.{cause_detail, cause_text};
 
 use crate::Namer;
 use day_number::{Day, print_day};
 use desk_terms::Cause;
+use itoa::Buffer;
 use std::alloc::{AllocError, Global};
 
 /// Appends a cause: its word, the name of its object, and the day or the number that it names. After want of memory `out`
@@ -50,7 +52,7 @@ fn push_detail(alloc: Global, cause: &Cause, line: &mut Vec<u8>) -> Result<(), A
             push_day(alloc, *day, line)
         }
         Cause::Pillar(_, at) | Cause::Discount(_, at) | Cause::Negative(_, at) => {
-            push_count(alloc, u64::from(*at), line)
+            push_count(u64::from(*at), line)
         }
         Cause::Unset(_)
         | Cause::Empty(_)
@@ -71,9 +73,11 @@ fn push_day(alloc: Global, day: Day, line: &mut Vec<u8>) -> Result<(), AllocErro
 }
 
 // Appends a space and a count.
-pub(crate) fn push_count(alloc: Global, count: u64, line: &mut Vec<u8>) -> Result<(), AllocError>
-    ensures { OnOk result (line.new.items ≡ line.old.items ++ (codes " " ++ decimal count)) }
+#[tactic(auto, using(crate::proofs::Fronts::front_on, crate::proofs::Fronts::front_same))]
+pub(crate) fn push_count(count: u64, line: &mut Vec<u8>) -> Result<(), AllocError>
+    ensures ok { OnOk result (line.new.items ≡ line.old.items ++ (codes " " ++ decimal count)) }
+    ensures err { OnErr result (KeepsFront line.old.items line.new.items) }
 {
-    line.extend_from_slice(b" ")?;
-    line.extend_from_slice(format!(in alloc; "{count}")?.as_bytes())
+    line.push(b' ')?;
+    line.extend_from_slice(Buffer::new().format(count).as_bytes())
 }

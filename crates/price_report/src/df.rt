@@ -48,7 +48,7 @@ fn df_bytes(
     line.extend_from_slice(namer.name(name))?;
     line.extend_from_slice(b" ")?;
     push_found(alloc, day, found, mark, namer, &mut line)?;
-    push_count(alloc, runs, &mut line)?;
+    push_count(runs, &mut line)?;
     line.extend_from_slice(b"\n")?;
     Ok(line)
 }

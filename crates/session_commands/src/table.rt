@@ -127,11 +127,17 @@ impl Verb {
         }
     }
 
-    /// The command with this first word.
+    /// The command with this first word. `ask` and `set`, which most lines of a long script begin with, are tried first.
     #[tactic(auto, unfolding(crate::specs::Table::verb_of))]
     pub fn of_word(word: &[u8]) -> Option<Verb>
         ensures { result ≡ verb_of word.now }
     {
+        if word == Verb::Ask.row().0 {
+            return Some(Verb::Ask);
+        }
+        if word == Verb::Set.row().0 {
+            return Some(Verb::Set);
+        }
         VERBS.iter().copied().find(|verb| verb.row().0 == word)
     }
 }

@@ -109,6 +109,17 @@ counted_here r words N j1 j2 j3 u v w first second third last count h1 h2 h3 hu 
     ∙ ap (λ x. (names_new N r.third (word words 2) && not (first && bytes_eq (word words 2) (word words 0))) && not (second && bytes_eq (word words 2) x)) hv)
     ∙ ap (λ n. length N + n) (sym is)
 
+at_most_one : (b : Bool) → cond b 1 0 ≤ 1
+at_most_one true = omega arith
+at_most_one false = omega arith
+
+-- the words of a row name at most three that are new
+pub at_most_three : (r : Row) (words N : List (List ℕ)) → length (names_with r words N) ≤ length N + 3
+at_most_three r words N =
+    let M = with_name r.first (word words 0) N in
+    let L = with_name r.second (word words 1) M in
+    omega (arith, length_named r.first (word words 0) N, length_named r.second (word words 1) M, length_named r.third (word words 2) L, at_most_one (names_new N r.first (word words 0)), at_most_one (names_new M r.second (word words 1)), at_most_one (names_new L r.third (word words 2)))
+
 -- where there is room for all, there is for the first and for the second
 pub rooms : (r : Row) (words N : List (List ℕ)) → length (names_with r words N) ≤ most_names
     → (length (with_name r.first (word words 0) N) ≤ most_names) × (length (with_name r.second (word words 1) (with_name r.first (word words 0) N)) ≤ most_names)

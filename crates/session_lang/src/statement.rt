@@ -67,11 +67,15 @@ fn new_names(verb: Verb, words: &[&[u8]], names: &Names) -> u32
     count_of(first, second, new_behind(third, second, two, three))
 }
 
-// Whether there is room for the names that the words behind the first name.
+// Whether there is room for the names that the words behind the first name. They are at most three, so that the names are
+// counted only where that many find no room.
 fn has_room(verb: Verb, words: &[&[u8]], names: &Names) -> bool
     ensures room { result ≡ nat_le (length (names_with (row_of verb) (map (λ word. word.now) words.now) names.now)) most_names }
     ensures names { IsNames names.now }
 {
+    if names.len() + 3 <= MOST_NAMES {
+        return true;
+    }
     names.len() + new_names(verb, words, names) <= MOST_NAMES
 }
 

@@ -7,3 +7,4 @@ pub mod PrintedLines
 pub mod Fields
 pub mod ReadFields
 pub mod NamedWords
+pub mod Runs

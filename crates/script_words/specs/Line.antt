@@ -14,6 +14,10 @@ is_blank byte = byte == 32 || byte == 9
 abbrev pub before_comment : List ℕ → List ℕ
 before_comment line = take_while (λ byte. not (byte == 35)) line
 
+-- the longest runs without space and tab
+abbrev pub runs_of : List ℕ → List (List ℕ)
+runs_of text = filter (λ word. nat_lt 0 (length word)) (slice_split is_blank text)
+
 -- the words of a line: the longest runs without space and tab before the comment
 unfoldable pub words_of : List ℕ → List (List ℕ)
-words_of line = filter (λ word. nat_lt 0 (length word)) (slice_split is_blank (before_comment line))
+words_of line = runs_of (before_comment line)

@@ -1,10 +1,10 @@
 // The lines of a script, and the words of a line.
-ghost use Rattle.std.specs.Prelude.{◌≡◌, ◌<◌, ◌≤◌, ◌==◌, not, ◌∷◌, length, map, IfOk, [], slice_index_or};
+ghost use Rattle.std.specs.Prelude.{◌≡◌, ◌<◌, ◌≤◌, ◌==◌, not, ◌∷◌, length, map, cond, nat_lt, OnOk, [], slice_index_or};
 ghost use Rattle.std.specs.List.{list_all, prefix_len};
 ghost use Rattle.std.specs.Str.Lines.{lines, strip_carriage_return};
-ghost use Rattle.script_words.specs.Line.{is_good, is_blank, before_comment, words_of};
+ghost use Rattle.script_words.specs.Line.{is_good, is_blank, before_comment, runs_of, words_of};
 
-use std::alloc::{AllocError, Global};
+use std::alloc::AllocError;
 
 fn is_good(byte: u8) -> bool
     ensures { result ≡ is_good byte }
@@ -41,14 +41,43 @@ fn before_comment(line: &[u8]) -> &[u8]
     text
 }
 
-/// The words of a line, as parts of it.
-pub fn words_of(alloc: Global, line: &[u8]) -> Result<Vec<&[u8]>, AllocError>
-    ensures { IfOk result (λ words. map (λ word. word.now) words.items ≡ words_of line.now) }
+// How many bytes stand before the first space or tab, or in all.
+fn bytes_before_blank(text: &[u8]) -> usize
+    ensures value { result ≡ prefix_len (λ byte. not (is_blank byte)) text.now }
+    ensures bound { result ≤ length text.now }
 {
-    let text = before_comment(line);
-    text.split(|byte| is_blank(*byte))
-        .filter(|word| !word.is_empty())
-        .collect(alloc)
+    text.iter().take_while(|byte| !is_blank(**byte)).count()
+}
+
+// What stands before the first space or tab, which may be nothing, and what stands behind it.
+fn next_run(text: &[u8]) -> (&[u8], &[u8])
+    requires { 0 < length text.now }
+    ensures runs { runs_of text.now ≡ cond (nat_lt 0 (length result.0.now)) (result.0.now ∷ runs_of result.1.now) (runs_of result.1.now) }
+    ensures less { length result.1.now < length text.now }
+{
+    let (word, rest) = text.split_at(bytes_before_blank(text));
+    if rest.is_empty() {
+        return (word, rest);
+    }
+    let (_, after) = rest.split_at(1);
+    (word, after)
+}
+
+/// Puts the words of a line, as parts of it, in the place of those that `words` has.
+#[tactic(auto, unfolding(crate::specs::Line::words_of))]
+pub fn words_of<'a>(line: &'a [u8], words: &mut Vec<&'a [u8]>) -> Result<(), AllocError>
+    ensures { OnOk result (map (λ word. word.now) words.new.items ≡ words_of line.now) }
+{
+    words.clear();
+    let mut rest = before_comment(line);
+    while !rest.is_empty() {
+        let (word, after) = next_run(rest);
+        if !word.is_empty() {
+            words.push(word)?;
+        }
+        rest = after;
+    }
+    Ok(())
 }
 
 /// The word at the place, or no bytes where there is none.

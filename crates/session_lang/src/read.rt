@@ -39,9 +39,9 @@ fn at_number(number: u32, fault: LineFault) -> ScriptFault
 }
 
 // Reads one line and puts its statement behind the others; tells the line of the block that stands open after it.
-fn take_line(
-    alloc: Global,
-    line: &[u8],
+fn take_line<'a>(
+    line: &'a [u8],
+    words: &mut Vec<&'a [u8]>,
     number: u32,
     names: &mut Names,
     begun: &mut Names,
@@ -56,7 +56,7 @@ fn take_line(
         (names_left (record { names = names.old; begun = begun.old }) open_at number (line.now ∷ rest)) }
     ensures grows { Grows names.old names.new }
 {
-    match read_line(alloc, line, names, begun, is_open(open_at)) {
+    match read_line(line, words, names, begun, is_open(open_at)) {
         Ok(statement) => Ok(add(steps, number, statement, open_at)?),
         Err(fault) => Err(at_number(number, fault)),
     }
@@ -76,12 +76,13 @@ fn read_lines(
     ensures grows { Grows names.old names.new }
 {
     let mut steps = Vec::new(alloc);
+    let mut words = Vec::new(alloc);
     let mut open_at = None;
     let mut number = 1;
     let mut rest = text;
     while !rest.is_empty() {
         let (line, after) = next_line(rest);
-        open_at = take_line(alloc, line, number, names, begun, &mut steps, open_at)?;
+        open_at = take_line(line, &mut words, number, names, begun, &mut steps, open_at)?;
         number += 1;
         rest = after;
     }

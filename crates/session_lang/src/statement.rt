@@ -11,7 +11,6 @@ use script_words::{
     LineFault, field_of, has_good_bytes, names_new, number_of, word_at, word_said, words_of,
 };
 use session_commands::{Command, Kind, Parts, ScriptKind, Verb};
-use std::alloc::Global;
 
 /// What a line says: nothing, that a block begins or ends, or a command. A watch names its action by the number of
 /// the action's name until the whole script is read.
@@ -231,11 +230,11 @@ fn words_line(
 }
 
 /// What a line says, or its first fault. The names of a line without a fault get numbers, in order; one with a fault
-/// adds none.
+/// adds none. `words` is left with the words of the line: a vector for all lines is made once.
 #[tactic(auto, unfolding(crate::specs::Statement::line_meaning), using(script_words::proofs::Interning::grows_same))]
-pub(crate) fn read_line(
-    alloc: Global,
-    line: &[u8],
+pub(crate) fn read_line<'a>(
+    line: &'a [u8],
+    words: &mut Vec<&'a [u8]>,
     names: &mut Names,
     begun: &mut Names,
     inside: bool,
@@ -248,6 +247,6 @@ pub(crate) fn read_line(
     if !has_good_bytes(line) {
         return Err(LineFault::Kind(ScriptKind::Byte));
     }
-    let words = words_of(alloc, line)?;
+    words_of(line, words)?;
     words_line(words.as_slice(), names, begun, inside)
 }

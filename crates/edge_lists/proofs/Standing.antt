@@ -1,5 +1,5 @@
 -- What stands between two calls, after a pair is put in or taken out.
-use Rattle.std.proofs.Common.{◌≡◌, ◌≢◌, ◌⊎◌, inl, inr, ℕ, zero, suc, ◌+◌, ◌≤◌, List, [], ◌∷◌, ◌++◌, length, take, drop, refl, sym, ap, ◌∙◌, subst, arith, Option, Some, None, cond, eqb}
+use Rattle.std.proofs.Common.{◌≡◌, ◌≢◌, ◌⊎◌, inl, inr, ℕ, zero, suc, ◌+◌, ◌≤◌, ◌^◌, List, [], ◌∷◌, ◌++◌, length, take, drop, refl, sym, ap, ◌∙◌, subst, arith, Option, Some, None, cond, eqb}
 use Rattle.std.specs.Prelude.{◌↔◌, slice_set, IsSome, is_some, count_by}
 use Rattle.std.proofs.lemmas.Bool.{cases_eq}
 use Rattle.std.proofs.lemmas.List.{get_or-set_other}
@@ -322,4 +322,17 @@ edge_of slots k x o y p e same = record {
   subject = e.subject ∙ ap Some (sym same.0);
   observer = e.observer
       ∙ ap Some (sym same.1);
+}
+
+-- the same pairs, with other room
+pub stands_roomy : (old new : Slab Edge) (nodes : List (Option Heads)) → Stands old nodes → new.slots ≡ old.slots
+    → new.capacity ≤ 2 ^ 32 → slab_len new ≤ new.capacity → Stands new nodes
+stands_roomy old new nodes stands same small room = record {
+  chained = λ side. subst (λ (s : List (Option Edge)). AreChained (chains_of side s nodes)) (sym same) (stands.chained side);
+  live = λ side k x at. stands.live side k x
+      (subst (λ (s : List (Option Edge)). node_of side (slot_at s k) ≡ Some x) same at);
+  once = λ j k x o e f. stands.once j k x o (subst (λ (s : List (Option Edge)). IsEdge s j x o) same e)
+      (subst (λ (s : List (Option Edge)). IsEdge s k x o) same f);
+  small = small;
+  room = room;
 }

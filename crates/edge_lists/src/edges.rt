@@ -101,16 +101,24 @@ impl Edges {
         Ok(())
     }
 
-    /// Finds so many spare places more. After want of memory nothing changed.
-    pub fn reserve_more(&mut self, pairs: usize) -> Result<(), AllocError>
-        requires { pairs ≤ 65536 }
-        ensures ok { OnOk result (self.new ≡ record self.old { spare = self.old.spare + pairs }) }
+    /// A node more, numbered next, in no pair, and so many spare places more. After want of memory nothing changed.
+    pub fn add_node_and_spare(&mut self, pairs: usize) -> Result<ObjId, AllocError>
+        requires nodes { length self.old.nodes < MOST_NODES }
+        requires pairs { pairs ≤ 65536 }
+        ensures number { IfOk result (λ node. node ≡ length self.old.nodes) }
+        ensures ok { OnOk result (self.new ≡ record (with_node self.old) { spare = self.old.spare + pairs }) }
         ensures err { OnErr result (self.new ≡ self.old) }
     {
+        let node = ObjId(self.nodes.len() as u32);
+        self.nodes.reserve(1)?;
         let spare = self.spare + pairs;
         make_room(&mut self.slots, spare)?;
         self.spare = spare;
-        Ok(())
+        self.nodes.push_reserved(Some(Heads {
+            observers: None,
+            subjects: None,
+        }));
+        Ok(node)
     }
 
     /// The observer observes the subject too; no spare place is used. After want of memory nothing changed.
@@ -163,6 +171,7 @@ impl Edges {
         requires { IsLive self.old node }
         ensures node { TakesNode self.old self.new node }
         ensures spare { self.new.spare + pair_count self.new ≡ self.old.spare + pair_count self.old }
+        ensures room { self.old.spare ≤ self.new.spare }
     {
         let before = self.slots.len();
         take_node(&mut self.slots, &mut self.nodes, node);

@@ -95,6 +95,7 @@ adds_node nodes nodes2 subjects subjects2 sources sources2 role flags list named
       nodes = nodes_are ∙ ap (λ (f : Flags). nodes ++ Some (record { role = role; flags = f }) ∷ []) off;
       sources = sources_are;
       noticed = refl;
+      spare = refl;
       pairs = λ x o. (
         λ a. elim ((pairs_are x o).0 a) [ inl was ↦ inl was | inr p ↦ inr ((same x).0 p.0, p.1 ∙ next) ],
         λ h. (pairs_are x o).1 (elim h [ inl was ↦ inl was | inr p ↦ inr ((same x).1 p.0, p.1 ∙ sym next) ]),

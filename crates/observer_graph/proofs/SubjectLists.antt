@@ -1,10 +1,12 @@
 -- Linked pairs as lists of subjects.
-use Rattle.std.proofs.Common.{◌≡◌, inl, inr, ℕ, zero, suc, ◌<◌, Bool, true, false, List, [], ◌∷◌, ◌++◌, length, map, refl, sym, ap, ◌∙◌, subst, arith, append-nil, Option, Some, None}
+use Rattle.std.proofs.Common.{◌≡◌, inl, inr, ℕ, zero, suc, ◌+◌, ◌<◌, Bool, true, false, List, [], ◌∷◌, ◌++◌, length, map, refl, sym, ap, ◌∙◌, subst, arith, append-nil, Option, Some, None}
 use Rattle.std.specs.Prelude.{◌↔◌, is_some, IsSome, slice_index_or, slice_set}
+use Rattle.std.specs.List.{sum_by}
 use Rattle.std.proofs.lemmas.Bool.{cases_eq}
 use Rattle.std.proofs.lemmas.List.{length-map, length-set, length-append, get_or_past, get_or-set_same, get_or-set_other}
 use Rattle.walks.specs.Walk.{Among, IsOnce}
-use Rattle.edge_lists.specs.EdgesView.{EdgesView, IsPair, IsWhole, SameNodes, TakesNode, subjects_of, subject_lists, with_node, no_heads, below}
+use Rattle.edge_lists.specs.EdgesView.{EdgesView, IsPair, IsWhole, SameNodes, TakesNode, pair_count, subjects_of, subject_lists, with_node, no_heads, below}
+use Rattle.edge_lists.proofs.Counting.{listed_count}
 use Rattle.edge_lists.proofs.Listing.{among_subjects, subject_list, length_below}
 use Rattle.observer_graph.specs.Lists.{list_at, is_marked, ArePairs, SetView, Extends, PairsView, IsLinked}
 
@@ -45,7 +47,7 @@ among_listed v whole x o = (
   λ p. subst (λ (xs : List ℕ). Among x xs) (sym (subject_list v whole o)) ((among_subjects v x o).1 p),
 )
 
-pub linked_whole : (v : EdgesView) → IsWhole v → IsLinked (record { subjects = subject_lists v; live = map is_some v.nodes })
+pub linked_whole : (v : EdgesView) → IsWhole v → IsLinked (record { subjects = subject_lists v; live = map is_some v.nodes; spare = v.spare })
 linked_whole v whole = record {
   ends = λ x o a. let e = whole.ends x o ((among_listed v whole x o).0 a) in
       (marks_some v.nodes x ∙ e.0, marks_some v.nodes o ∙ e.1);
@@ -88,8 +90,8 @@ listed_by v w Q whole_v whole_w onward pairs = pairs_listed v w (Q (λ x o. Amon
   λ q. (pairs x o).1 (onward (λ x o. Among x (list_at (subject_lists v) o)) (IsPair v) (λ x o. (among_listed v whole_v x o).0) x o q),
 ))
 
-abbrev linked_view : List (List ℕ) → List Bool → PairsView
-linked_view subjects live = record { subjects = subjects; live = live }
+abbrev linked_view : ℕ → List (List ℕ) → List Bool → PairsView
+linked_view spare subjects live = record { subjects = subjects; live = live; spare = spare }
 
 -- a node more: its list is empty
 pub grown_lists : (v : EdgesView) → IsWhole v → subjects_of v (length v.nodes) ≡ []
@@ -103,10 +105,10 @@ with_node_lists v whole =
     ap (below (subjects_of v)) more ∙ ap (λ (xs : List ℕ). subject_lists v ++ xs ∷ []) (grown_lists v whole)
 
 pub grown_view : (v : EdgesView) → IsWhole v
-    → linked_view (subject_lists (with_node v)) (map is_some (v.nodes ++ Some no_heads ∷ []))
-    ≡ linked_view (subject_lists v ++ [] ∷ []) (map is_some v.nodes ++ true ∷ [])
-grown_view v whole = ap (λ (s : List (List ℕ)). linked_view s (map is_some (v.nodes ++ Some no_heads ∷ []))) (with_node_lists v whole)
-    ∙ ap (linked_view (subject_lists v ++ [] ∷ [])) (marks_last v.nodes no_heads)
+    → linked_view v.spare (subject_lists (with_node v)) (map is_some (v.nodes ++ Some no_heads ∷ []))
+    ≡ linked_view v.spare (subject_lists v ++ [] ∷ []) (map is_some v.nodes ++ true ∷ [])
+grown_view v whole = ap (λ (s : List (List ℕ)). linked_view v.spare s (map is_some (v.nodes ++ Some no_heads ∷ []))) (with_node_lists v whole)
+    ∙ ap (linked_view v.spare (subject_lists v ++ [] ∷ [])) (marks_last v.nodes no_heads)
 
 -- sets that grow by the same nodes
 pub extends_as : (a b : SetView) (P Q : ℕ → Type 0) → ((o : ℕ) → P o ↔ Q o) → Extends a b P → Extends a b Q
@@ -127,3 +129,10 @@ extends_none_of a P within = record {
   end = ([], sym (append-nil a.items));
   items = λ o. ((λ x. inl x), λ x. elim x [ inl was ↦ was | inr p ↦ within o p ]);
 }
+
+-- the lists have as many pairs as there are, so where places and pairs together are as many as before, the same holds of
+-- places and lists
+pub spare_listed : (v w : EdgesView) → IsWhole v → IsWhole w → w.spare + pair_count w ≡ v.spare + pair_count v
+    → w.spare + sum_by length (subject_lists w) ≡ v.spare + sum_by length (subject_lists v)
+spare_listed v w whole_v whole_w same =
+    let a = listed_count v whole_v in let b = listed_count w whole_w in omega arith

@@ -168,7 +168,7 @@ pub whole_removed : (graph : GraphView) (o : ℕ) (subjects2 : List (List ℕ)) 
     → length subjects2 ≡ length graph.subjects → AreOnce subjects2
     → ((x p : ℕ) → Among x (list_at subjects2 p) ↔ (IsPair graph x p × ((x ≡ o) ⊎ (p ≡ o) → ⊥)))
     → sources2 ≡ slice_set graph.sources o false → IsWhole graph
-    → IsWhole (record { nodes = slice_set graph.nodes o None; subjects = subjects2; sources = sources2; noticed = [] })
+    → IsWhole (record { nodes = slice_set graph.nodes o None; subjects = subjects2; sources = sources2; noticed = []; spare = 0 })
 whole_removed graph o subjects2 sources2 live len once pairs marks w = record {
   lists = len ∙ w.lists ∙ sym (length-set graph.nodes o None);
   marks = ap length marks ∙ length-set graph.sources o false ∙ w.marks ∙ sym (length-set graph.nodes o None);
@@ -218,7 +218,7 @@ pub whole_told : (graph : GraphView) (nodes2 : List (Option Node)) (sources2 : L
     → length nodes2 ≡ length graph.nodes → length sources2 ≡ length graph.sources
     → ((o : ℕ) → (slice_index_or nodes2 o None ≡ unsettled (node_at graph o))
     ⊎ (slice_index_or nodes2 o None ≡ node_at graph o)) → ((o : ℕ) → is_marked sources2 o ≡ false)
-    → IsWhole (record { nodes = nodes2; subjects = graph.subjects; sources = sources2; noticed = [] })
+    → IsWhole (record { nodes = nodes2; subjects = graph.subjects; sources = sources2; noticed = []; spare = 0 })
 whole_told graph nodes2 sources2 w len long changes none = record {
   lists = w.lists ∙ sym len;
   marks = long ∙ w.marks ∙ sym len;
@@ -269,7 +269,7 @@ pub stands_added : (nodes nodes2 : List (Option Node)) (pairs pairs2 : PairsView
     (sources sources2 wave wave2 : SetView) (role : Role) (flags : Flags) → Stands nodes pairs sources wave
     → length nodes < 2 ^ 16 → flags ≡ no_flags
     → nodes2 ≡ nodes ++ Some (record { role = role; flags = flags }) ∷ []
-    → pairs2 ≡ record { subjects = pairs.subjects ++ [] ∷ []; live = pairs.live ++ true ∷ [] }
+    → pairs2 ≡ record { subjects = pairs.subjects ++ [] ∷ []; live = pairs.live ++ true ∷ []; spare = pairs.spare }
     → sources2.marks ≡ sources.marks ++ false ∷ []
     → wave2.marks ≡ wave.marks ++ false ∷ [] → wave2.items ≡ wave.items → Stands nodes2 pairs2 sources2 wave2
 stands_added nodes nodes2 pairs pairs2 sources sources2 wave wave2 role flags s low off nodes_are pairs_are
@@ -445,3 +445,14 @@ stands_stale nodes pairs sources wave o live s = record {
 
     low : o < length nodes
     low = live_within nodes o live
+
+-- a graph with the same pairs and other room stands
+pub stands_spared : (nodes : List (Option Node)) (pairs pairs2 : PairsView) (sources wave : SetView)
+    → Stands nodes pairs sources wave → pairs2.subjects ≡ pairs.subjects → pairs2.live ≡ pairs.live
+    → Stands nodes pairs2 sources wave
+stands_spared nodes pairs pairs2 sources wave s subjects live = record {
+  whole = subst (λ (l : List (List ℕ)). IsWhole (graph_of nodes l sources.marks)) (sym subjects) s.whole;
+  live = live ∙ s.live;
+  room = s.room;
+  empty = s.empty;
+}

@@ -1,6 +1,7 @@
 -- The graph of observers as a caller sees it: live nodes with their roles and flags, pairs, marked sources, and the
 -- watchers that were told.
 use Rattle.std.specs.Prelude.{◌≡◌, ◌≤◌, ◌^◌, ℕ, Bool, true, false, List, [], length, Option, Some, None, IsSome, slice_index_or}
+use Rattle.std.specs.List.{sum_by}
 use Rattle.walks.specs.Walk.{Among, IsOnce}
 use Rattle.observer_graph.specs.declared.node.Role.{Role}
 use Rattle.observer_graph.specs.declared.node.Role.TheVariants.{Source, Forwarder, Lazy, Watcher}
@@ -10,12 +11,13 @@ use Rattle.observer_graph.specs.Lists.{is_marked, list_at}
 
 -- A node's number is its place in each list. A removed node is None; its number is not given again. In which order a
 -- node's subjects stand means nothing: clauses say who is among them. `noticed` has the watchers that were told and
--- were not handed out since, by creation.
+-- were not handed out since, by creation. `spare` is how many pairs more fit with no memory, by `watch_spare` alone.
 pub record GraphView : Type 0 where
   pub nodes : List (Option Node)
   pub subjects : List (List ℕ)
   pub sources : List Bool
   pub noticed : List ℕ
+  pub spare : ℕ
 
 abbrev pub node_at : GraphView → ℕ → Option Node
 node_at graph o = slice_index_or graph.nodes o None
@@ -30,6 +32,10 @@ subjects_of graph o = list_at graph.subjects o
 -- the node observes the subject
 abbrev pub IsPair : GraphView → ℕ → ℕ → Type 0
 IsPair graph subject observer = Among subject (subjects_of graph observer)
+
+-- how many pairs there are
+abbrev pub pair_count : GraphView → ℕ
+pair_count graph = sum_by length graph.subjects
 
 -- the edges of a node: the subjects that it observes. A watcher has none, since what it watches is no part of it: its
 -- pairs only say who tells it (this project's profile).
@@ -80,7 +86,7 @@ IsWatcher None = ⊥
 IsWatcher (Some node) = node.role ≡ Watcher
 
 abbrev pub parts_of : List (Option Node) → List (List ℕ) → List Bool → GraphView
-parts_of nodes subjects sources = record { nodes = nodes; subjects = subjects; sources = sources; noticed = [] }
+parts_of nodes subjects sources = record { nodes = nodes; subjects = subjects; sources = sources; noticed = []; spare = 0 }
 
 -- What holds of every graph: one list and one mark a number, pairs of live nodes alone and each once, live sources,
 -- flags on lazy nodes alone, at most 65,536 numbers.

@@ -26,10 +26,11 @@ pub record SetView : Type 0 where
   pub items : List ℕ
   pub spare : ℕ
 
--- the subjects of each node, and a mark for each node that lives
+-- the subjects of each node, a mark for each node that lives, and how many pairs more fit with no memory
 pub record PairsView : Type 0 where
   pub subjects : List (List ℕ)
   pub live : List Bool
+  pub spare : ℕ
 
 -- pairs are of live nodes, each once, and there is a list for each number
 pub record IsLinked (v : PairsView) : Type 0 where

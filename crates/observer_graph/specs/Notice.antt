@@ -56,6 +56,7 @@ pub record Tells (old new : GraphView) : Type 0 where
   pub settles : Settles old new
   pub noticed : (w : ℕ) → Among w new.noticed ↔ (Among w old.noticed ⊎ (IsWatcher (node_at old w) × IsTold old w))
   pub rising : IsRising new.noticed
+  pub spare : new.spare ≡ old.spare
 
 -- a node uses a subject: it observes it, and is no watcher
 abbrev pub IsUser : GraphView → ℕ → ℕ → Type 0

@@ -22,4 +22,4 @@ abbrev pub Leads : (ℕ → List ℕ) → ℕ → ℕ → Type 0
 Leads reads from to = (from ≡ to) ⊎ Below reads (λ y. y == to) (λ y. true) from
 
 abbrev pub graph_of : List (Option Node) → List (List ℕ) → List Bool → GraphView
-graph_of nodes subjects sources = record { nodes = nodes; subjects = subjects; sources = sources; noticed = [] }
+graph_of nodes subjects sources = record { nodes = nodes; subjects = subjects; sources = sources; noticed = []; spare = 0 }

@@ -1,5 +1,5 @@
 // The graph of observers and its calls.
-ghost use Rattle.std.specs.Prelude.{◌≡◌, ◌↔◌, ◌<◌, ◌≤◌, ℕ, [], ◌∷◌, length, IsTrue, IfOk, IfSome, IfNone, OnOk, OnErr, is_some};
+ghost use Rattle.std.specs.Prelude.{◌≡◌, ◌↔◌, ◌<◌, ◌≤◌, ◌+◌, ℕ, [], ◌∷◌, length, max, IsTrue, IfOk, IfSome, IfNone, OnOk, OnErr, is_some, if◌then◌else◌};
 ghost use Rattle.walks.specs.Walk.{Among};
 ghost use Rattle.observer_graph.specs.declared.node.Role.TheVariants.{Lazy};
 ghost use Rattle.observer_graph.specs.GraphView.{IsLive, IsLazy, IsPair, IsWhole, node_at, flags_at};
@@ -21,8 +21,9 @@ use std::marker::Model;
 /// How many numbers a graph gives at most.
 pub const MOST_NODES: usize = 65_536;
 
-/// Nodes with their roles and flags, the pairs of a subject and one of its observers, each once, and the marked
-/// sources, from which the next notice starts. A clause sees a `GraphView`.
+/// Nodes with their roles and flags, the pairs of a subject and one of its observers, each once, spare places for some
+/// pairs more, and the marked sources, from which the next notice starts. A clause sees a `GraphView`. No call but
+/// `watch_spare` lowers the number of spare places.
 #[derive(Drop)]
 pub struct Graph {
     nodes: Vec<Option<Node>>,
@@ -45,7 +46,7 @@ impl Model for Graph {
 
     ghost Value = { GraphView };
 
-    ghost view = { λ g. record { nodes = g.nodes.items; subjects = g.pairs.subjects; sources = g.sources.marks; noticed = g.noticed.items } };
+    ghost view = { λ g. record { nodes = g.nodes.items; subjects = g.pairs.subjects; sources = g.sources.marks; noticed = g.noticed.items; spare = g.pairs.spare } };
 
     ghost invariant = { λ g. Stands g.nodes.items g.pairs g.sources g.wave × (g.frozen ≡ frozen_count g.nodes.items)
         × AreNoticed g.noticed.items (length g.nodes.items) × (length g.nodes.items ≤ vec_capacity g.noticed) };
@@ -54,7 +55,7 @@ impl Model for Graph {
 impl Graph {
     /// No nodes. Later calls take memory from the allocator given here.
     pub fn new(alloc: Global) -> Graph
-        ensures { result ≡ record { nodes = []; subjects = []; sources = []; noticed = [] } }
+        ensures { result ≡ record { nodes = []; subjects = []; sources = []; noticed = []; spare = 0 } }
     {
         Graph {
             nodes: Vec::new(alloc),
@@ -118,29 +119,53 @@ impl Graph {
         Ok(node)
     }
 
-    /// The observer observes the subject too. After want of memory the graph is as it was.
+    /// The observer observes the subject too; no spare place is used. After want of memory the graph is as it was.
     pub fn watch(&mut self, subject: ObjId, observer: ObjId) -> Result<(), AllocError>
         requires subject { IsLive self.old subject }
         requires observer { IsLive self.old observer }
         requires new { IsPair self.old subject observer → ⊥ }
         ensures ok { OnOk result (AddsPair self.old self.new subject observer) }
         ensures err { OnErr result (self.new ≡ self.old) }
+        ensures spare { self.new.spare ≡ self.old.spare }
         ensures whole { IsWhole self.new }
     {
         self.pairs.link(subject, observer)
     }
 
-    /// The observer does not observe the subject; whether it did. Takes no memory.
+    /// Finds spare places, so that there are at least so many. After want of memory the graph is as it was.
+    pub fn reserve(&mut self, pairs: u32) -> Result<(), AllocError>
+        ensures ok { OnOk result (self.new ≡ record self.old { spare = max self.old.spare pairs }) }
+        ensures err { OnErr result (self.new ≡ self.old) }
+    {
+        self.pairs.reserve(pairs)
+    }
+
+    /// The observer observes the subject too, by one of the spare places. Takes no memory.
+    pub fn watch_spare(&mut self, subject: ObjId, observer: ObjId)
+        requires room { 0 < self.old.spare }
+        requires subject { IsLive self.old subject }
+        requires observer { IsLive self.old observer }
+        requires new { IsPair self.old subject observer → ⊥ }
+        ensures pair { AddsPair self.old self.new subject observer }
+        ensures spare { self.new.spare + 1 ≡ self.old.spare }
+        ensures whole { IsWhole self.new }
+    {
+        self.pairs.link_spare(subject, observer);
+    }
+
+    /// The observer does not observe the subject; whether it did, which leaves a spare place. Takes no memory.
     pub fn unwatch(&mut self, subject: ObjId, observer: ObjId) -> bool
         requires subject { IsLive self.old subject }
         requires observer { IsLive self.old observer }
         ensures was { IsTrue result ↔ IsPair self.old subject observer }
         ensures pairs { TakesPair self.old self.new subject observer }
+        ensures spare { self.new.spare ≡ self.old.spare + (if result then 1 else 0) }
     {
         self.pairs.unlink(subject, observer)
     }
 
-    /// The node is gone, with every pair in which it stands, its mark as a source and what it was told. Takes no memory.
+    /// The node is gone, with every pair in which it stands, its mark as a source and what it was told. Each of these
+    /// pairs leaves a spare place. Takes no memory.
     pub fn remove(&mut self, node: ObjId)
         requires { IsLive self.old node }
         ensures { TakesNode self.old self.new node }

@@ -1,5 +1,6 @@
 // The pairs of subjects and observers, as lists of subjects by number.
-ghost use Rattle.std.specs.Prelude.{◌≡◌, ◌⊎◌, ◌↔◌, ◌<◌, ◌≤◌, ◌++◌, ℕ, [], ◌∷◌, true, false, length, slice_set, slice_index_or, IsTrue, None, OnOk, OnErr};
+ghost use Rattle.std.specs.Prelude.{◌≡◌, ◌⊎◌, ◌↔◌, ◌<◌, ◌≤◌, ◌+◌, ◌++◌, ℕ, [], ◌∷◌, true, false, length, max, slice_set, slice_index_or, IsTrue, None, OnOk, OnErr, if◌then◌else◌};
+ghost use Rattle.std.specs.List.{sum_by};
 ghost use Rattle.walks.specs.Walk.{Among, IsOnce};
 ghost use Rattle.edge_lists.specs.EdgesView.{IsLive, IsPair, SameNodes};
 ghost use Rattle.observer_graph.specs.GraphView.{IsWatcher};
@@ -17,7 +18,8 @@ use std::alloc::{AllocError, Global};
 use std::marker::Model;
 use wave_queue::Wave;
 
-/// Pairs of a subject and one of its observers, each once. A clause sees the subjects of each node, and which nodes live.
+/// Pairs of a subject and one of its observers, each once, and spare places for some more. A clause sees the subjects of
+/// each node, which nodes live, and how many places are spare.
 #[derive(Drop)]
 pub struct Pairs {
     edges: Edges,
@@ -34,7 +36,7 @@ impl Model for Pairs {
 
     ghost Value = { PairsView };
 
-    ghost view = { λ p. record { subjects = subject_lists p.edges; live = map is_some p.edges.nodes } };
+    ghost view = { λ p. record { subjects = subject_lists p.edges; live = map is_some p.edges.nodes; spare = p.edges.spare } };
 
     ghost invariant = { λ p. IsFree (length p.edges.nodes) p.down × IsFree (length p.edges.nodes) p.up };
 }
@@ -42,7 +44,7 @@ impl Model for Pairs {
 impl Pairs {
     /// No nodes and no pairs.
     pub fn new(alloc: Global) -> Pairs
-        ensures { result ≡ record { subjects = []; live = [] } }
+        ensures { result ≡ record { subjects = []; live = []; spare = 0 } }
     {
         Pairs {
             edges: Edges::new(alloc),
@@ -64,6 +66,7 @@ impl Pairs {
         ensures ok { OnOk result (self.new ≡ record {
           subjects = self.old.subjects ++ [] ∷ [];
           live = self.old.live ++ true ∷ [];
+          spare = self.old.spare;
         }) }
         ensures err { OnErr result (self.new ≡ self.old) }
     {
@@ -85,6 +88,7 @@ impl Pairs {
         ensures ok { OnOk result (ArePairs self.new.subjects
             (λ x o. Among x (list_at self.old.subjects o) ⊎ (Among x named.now × (o ≡ node)))) }
         ensures live { OnOk result (self.new.live ≡ self.old.live ++ true ∷ []) }
+        ensures spare { OnOk result (self.new.spare ≡ self.old.spare) }
         ensures linked { OnOk result (IsLinked self.new) }
         ensures err { OnErr result (self.new ≡ self.old) }
     {
@@ -92,8 +96,7 @@ impl Pairs {
         let nodes = self.edges.len() + 1;
         make_room(&mut self.down, nodes)?;
         make_room(&mut self.up, nodes)?;
-        self.edges.reserve_more(named.len())?;
-        self.edges.add_node()?;
+        self.edges.add_node_and_spare(named.len())?;
         link_all(&mut self.edges, node, named);
         self.edges.whole();
         Ok(())
@@ -107,6 +110,7 @@ impl Pairs {
         ensures ok { OnOk result (ArePairs self.new.subjects
             (λ x o. Among x (list_at self.old.subjects o) ⊎ ((x ≡ subject) × (o ≡ observer)))) }
         ensures live { self.new.live ≡ self.old.live }
+        ensures spare { self.new.spare ≡ self.old.spare }
         ensures err { OnErr result (self.new ≡ self.old) }
         ensures linked { IsLinked self.new }
     {
@@ -116,7 +120,32 @@ impl Pairs {
         linked
     }
 
-    /// The observer does not observe the subject; whether it did.
+    /// Finds spare places, so that there are at least so many; after want of memory the pairs are as they were.
+    pub fn reserve(&mut self, pairs: u32) -> Result<(), AllocError>
+        ensures ok { OnOk result (self.new ≡ record self.old { spare = max self.old.spare pairs }) }
+        ensures err { OnErr result (self.new ≡ self.old) }
+    {
+        self.edges.reserve(pairs)
+    }
+
+    /// The observer observes the subject too, by one of the spare places.
+    pub fn link_spare(&mut self, subject: ObjId, observer: ObjId)
+        requires room { 0 < self.old.spare }
+        requires subject { is_marked self.old.live subject ≡ true }
+        requires observer { is_marked self.old.live observer ≡ true }
+        requires new { Among subject (list_at self.old.subjects observer) → ⊥ }
+        ensures pairs { ArePairs self.new.subjects
+            (λ x o. Among x (list_at self.old.subjects o) ⊎ ((x ≡ subject) × (o ≡ observer))) }
+        ensures live { self.new.live ≡ self.old.live }
+        ensures spare { self.new.spare + 1 ≡ self.old.spare }
+        ensures linked { IsLinked self.new }
+    {
+        self.edges.whole();
+        self.edges.link_spare(subject, observer);
+        self.edges.whole();
+    }
+
+    /// The observer does not observe the subject; whether it did, which leaves a spare place.
     pub fn unlink(&mut self, subject: ObjId, observer: ObjId) -> bool
         requires subject { is_marked self.old.live subject ≡ true }
         requires observer { is_marked self.old.live observer ≡ true }
@@ -124,6 +153,7 @@ impl Pairs {
         ensures left { ArePairs self.new.subjects
             (λ x o. Among x (list_at self.old.subjects o) × ((x ≡ subject) × (o ≡ observer) → ⊥)) }
         ensures live { self.new.live ≡ self.old.live }
+        ensures spare { self.new.spare ≡ self.old.spare + (if result then 1 else 0) }
         ensures linked { IsLinked self.new }
     {
         self.edges.whole();
@@ -132,12 +162,14 @@ impl Pairs {
         was
     }
 
-    /// The node is gone: it observes nothing, and nothing observes it.
+    /// The node is gone: it observes nothing, and nothing observes it. Each of its pairs leaves a spare place.
     pub fn cut(&mut self, node: ObjId)
         requires { is_marked self.old.live node ≡ true }
         ensures left { ArePairs self.new.subjects
             (λ x o. Among x (list_at self.old.subjects o) × ((x ≡ node) ⊎ (o ≡ node) → ⊥)) }
         ensures live { self.new.live ≡ slice_set self.old.live node false }
+        ensures spare { self.new.spare + sum_by length self.new.subjects ≡ self.old.spare + sum_by length self.old.subjects }
+        ensures room { self.old.spare ≤ self.new.spare }
         ensures linked { IsLinked self.new }
     {
         self.edges.whole();
@@ -267,6 +299,7 @@ fn link_all(edges: &mut Edges, node: ObjId, named: &[ObjId])
     ensures pairs { (x o : ℕ) → IsPair edges.new x o
         ↔ (IsPair edges.old x o ⊎ (Among x named.now × (o ≡ node))) }
     ensures nodes { SameNodes edges.old edges.new }
+    ensures spare { edges.new.spare + length named.now ≡ edges.old.spare }
 {
     for subject in named {
         edges.link_spare(*subject, node);

@@ -75,3 +75,7 @@ returns-clause-pairs c =
     let all = take_all c.loop-subject.subject-index c.args.named.now c.loop-subject-test.false in
     subst (λ (xs : List ℕ). (x o : ℕ) → IsPair c.loop-subject.edges x o
     ↔ (IsPair c.args.edges.now x o ⊎ (Among x xs × (o ≡ c.args.node)))) all c.loop-subject.invariant.pairs
+
+pub returns-clause-spare : goal.returns-clause-spare
+returns-clause-spare c =
+    let r = c.loop-subject.invariant.room in let t = c.loop-subject-test.false in omega arith

@@ -80,7 +80,7 @@ pub returns-clause-ok : goal.returns-clause-ok
 returns-clause-ok c =
     let adds = adds_node c.self.inside.nodes.items c.push_reserved.new.self.items c.self.inside.pairs.subjects c.grow_linked-linked.new.self.subjects c.self.inside.sources.marks c.grow.new.self.marks
     c.args.role c.default.result c.items.result.now c.args.subjects.now c.len-2.result (off_flags c.default.result c.default.ensures) (nodes_are c) (named_are c) (next_is c) c.in_ok-linked.ensures.ok (sources_are c) in
-    rw (← c.self.view_is) (record { nodes = adds.nodes; sources = adds.sources; noticed = c.in_ok-reserve_for.ensures.items; pairs = adds.pairs })
+    rw (← c.self.view_is) (record { nodes = adds.nodes; sources = adds.sources; noticed = c.in_ok-reserve_for.ensures.items; spare = c.in_ok-linked.ensures.spare; pairs = adds.pairs })
 
 pub returns-clause-whole : goal.returns-clause-whole
 returns-clause-whole c = (invariant_of-self-2 c).0.whole

@@ -41,7 +41,7 @@ invariant_of-self c =
 
 pub returns : goal.returns
 returns c = rw (← c.self.view_is, c.place-2.ensures)
-    (record { nodes = refl; sources = c.remove.ensures; noticed = c.take_out.ensures.items; pairs = c.cut.ensures.left })
+    (record { nodes = refl; sources = c.remove.ensures; noticed = c.take_out.ensures.items; spare = c.cut.ensures.spare; room = c.cut.ensures.room; pairs = c.cut.ensures.left })
 
 pub cut-requires : goal.cut-requires
 cut-requires c = live_marked c.self.inside.nodes.items c.self.inside.pairs c.self.inside.sources

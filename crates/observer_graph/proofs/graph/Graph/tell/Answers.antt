@@ -1,4 +1,4 @@
-use Rattle.std.proofs.Common.{◌∙◌, length, sym, arith}
+use Rattle.std.proofs.Common.{◌∙◌, length, refl, sym, arith}
 use Rattle.std.specs.Prelude.{vec_len}
 use Rattle.observer_graph.proofs.Frozen.{count_told}
 use Rattle.observer_graph.proofs.Marks.{whole_back}
@@ -51,4 +51,5 @@ returns c =
           c.self.inside.sources.marks c.tell_all.new.wave.items c.self.inside.noticed.items c.tell_all.new.noticed.items
           c.deref_mut.ensures.value c.deref_mut.ensures.value c.tell_all.ensures.told c.tell_all.ensures.watchers;
       rising = c.tell_all.ensures.noticed.0;
+      spare = refl;
     })

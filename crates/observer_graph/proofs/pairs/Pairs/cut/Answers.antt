@@ -1,7 +1,7 @@
 use Rattle.std.proofs.Common.{◌≡◌, ◌⊎◌, ◌∙◌, ap, sym, length}
 use Rattle.edge_lists.proofs.Linking.{live_within}
 use Rattle.observer_graph.specs.Lists.{is_marked, PairsView}
-use Rattle.observer_graph.proofs.SubjectLists.{linked_whole, listed_by, cut_live, marks_some}
+use Rattle.observer_graph.proofs.SubjectLists.{spare_listed, linked_whole, listed_by, cut_live, marks_some}
 use Rattle.observer_graph.proofs.Turns.{free_as}
 use Rattle.observer_graph.proofs.pairs.Pairs.cut.Goals as goal
 
@@ -27,3 +27,7 @@ invariant_of-self c =
       free_as (length c.self.inside.edges.nodes) (length c.drop_node.new.self.nodes) c.self.inside.down same c.self.invariant.0,
       free_as (length c.self.inside.edges.nodes) (length c.drop_node.new.self.nodes) c.self.inside.up same c.self.invariant.1,
     )
+
+pub returns-clause-spare : goal.returns-clause-spare
+returns-clause-spare c = rw (← c.self.view_is)
+    (spare_listed c.self.inside.edges c.drop_node.new.self c.whole.ensures c.whole-2.ensures c.drop_node.ensures.spare)

@@ -10,16 +10,14 @@ use Rattle.observer_graph.proofs.SubjectLists.{linked_whole, listed_by, same_liv
 use Rattle.observer_graph.proofs.Turns.{free_as}
 use Rattle.observer_graph.proofs.pairs.Pairs.grow_linked.Goals as goal
 
-pub add_node-requires : goal.add_node-requires
-add_node-requires c =
+pub add_node_and_spare-requires-clause-nodes : goal.add_node_and_spare-requires-clause-nodes
+add_node_and_spare-requires-clause-nodes c =
     let r = subst (λ (v : PairsView). length v.subjects < 65536) (sym c.self.view_is) c.requires.room in
-    let l = length_below (subjects_of c.self.inside.edges) (length c.self.inside.edges.nodes) in
-    let n = ap (λ (v : EdgesView). length v.nodes) c.in_ok-reserve_more.ensures.ok in omega arith
+    let l = length_below (subjects_of c.self.inside.edges) (length c.self.inside.edges.nodes) in omega arith
 
 pub link_all-requires-clause-live : goal.link_all-requires-clause-live
 link_all-requires-clause-live c =
-    let same : c.add_node.new.self ≡ with_node (record c.self.inside.edges { spare = c.self.inside.edges.spare + length c.args.named.now }) =
-    c.in_ok-add_node.ensures.ok ∙ ap with_node c.in_ok-reserve_more.ensures.ok in
+    let same = c.in_ok-add_node_and_spare.ensures.ok in
     let next : c.args.node ≡ length c.self.inside.edges.nodes =
     c.requires.next ∙ ap (λ (v : PairsView). length v.subjects) (sym c.self.view_is)
     ∙ length_below (subjects_of c.self.inside.edges) (length c.self.inside.edges.nodes) in
@@ -28,16 +26,14 @@ link_all-requires-clause-live c =
 
 pub link_all-requires-clause-named : goal.link_all-requires-clause-named
 link_all-requires-clause-named c =
-    let same : c.add_node.new.self ≡ with_node (record c.self.inside.edges { spare = c.self.inside.edges.spare + length c.args.named.now }) =
-    c.in_ok-add_node.ensures.ok ∙ ap with_node c.in_ok-reserve_more.ensures.ok in
+    let same = c.in_ok-add_node_and_spare.ensures.ok in
     subst (λ (v : EdgesView). (x : ℕ) → Among x c.args.named.now → IsLive v x) (sym same)
     (λ x a. front_some c.self.inside.edges.nodes (Some no_heads) x (sym (marks_some c.self.inside.edges.nodes x)
     ∙ ap (λ (v : PairsView). is_marked v.live x) c.self.view_is ∙ c.requires.live x a))
 
 pub link_all-requires-clause-none : goal.link_all-requires-clause-none
 link_all-requires-clause-none c =
-    let same : c.add_node.new.self ≡ with_node (record c.self.inside.edges { spare = c.self.inside.edges.spare + length c.args.named.now }) =
-    c.in_ok-add_node.ensures.ok ∙ ap with_node c.in_ok-reserve_more.ensures.ok in
+    let same = c.in_ok-add_node_and_spare.ensures.ok in
     let next : c.args.node ≡ length c.self.inside.edges.nodes =
     c.requires.next ∙ ap (λ (v : PairsView). length v.subjects) (sym c.self.view_is)
     ∙ length_below (subjects_of c.self.inside.edges) (length c.self.inside.edges.nodes) in
@@ -48,8 +44,7 @@ link_all-requires-clause-none c =
 
 pub returns-clause-ok : goal.returns-clause-ok
 returns-clause-ok c =
-    let same : c.add_node.new.self ≡ with_node (record c.self.inside.edges { spare = c.self.inside.edges.spare + length c.args.named.now }) =
-    c.in_ok-add_node.ensures.ok ∙ ap with_node c.in_ok-reserve_more.ensures.ok in
+    let same = c.in_ok-add_node_and_spare.ensures.ok in
     rw (← c.self.view_is)
     (listed_by c.self.inside.edges c.link_all.new.edges
     (λ P x o. P x o ⊎ (Among x c.args.named.now × (o ≡ c.args.node))) c.whole.ensures c.whole-2.ensures
@@ -59,9 +54,8 @@ returns-clause-ok c =
 
 pub returns-clause-live : goal.returns-clause-live
 returns-clause-live c =
-    let same : c.add_node.new.self ≡ with_node (record c.self.inside.edges { spare = c.self.inside.edges.spare + length c.args.named.now }) =
-    c.in_ok-add_node.ensures.ok ∙ ap with_node c.in_ok-reserve_more.ensures.ok in
-    rw (← c.self.view_is) (same_live c.add_node.new.self c.link_all.new.edges c.link_all.ensures.nodes
+    let same = c.in_ok-add_node_and_spare.ensures.ok in
+    rw (← c.self.view_is) (same_live c.add_node_and_spare.new.self c.link_all.new.edges c.link_all.ensures.nodes
     ∙ ap (λ (v : EdgesView). map is_some v.nodes) same ∙ marks_last c.self.inside.edges.nodes no_heads)
 
 pub returns-clause-linked : goal.returns-clause-linked
@@ -82,8 +76,7 @@ make_room-requires-2 c =
 pub invariant_of-self-2 : goal.invariant_of-self-2
 invariant_of-self-2 c =
     let longer = length-append c.self.inside.edges.nodes (Some no_heads ∷ []) in
-    let grown = c.link_all.ensures.nodes.given ∙ ap (λ (v : EdgesView). length v.nodes) (c.in_ok-add_node.ensures.ok
-    ∙ ap with_node c.in_ok-reserve_more.ensures.ok) in
+    let grown = c.link_all.ensures.nodes.given ∙ ap (λ (v : EdgesView). length v.nodes) c.in_ok-add_node_and_spare.ensures.ok in
     let n = c.len-nodes.ensures in
     let same : length c.link_all.new.edges.nodes ≡ c.len-nodes.result + 1 = omega arith in (
       free_as (c.len-nodes.result + 1) (length c.link_all.new.edges.nodes) c.make_room.new.wave same
@@ -91,3 +84,8 @@ invariant_of-self-2 c =
       free_as (c.len-nodes.result + 1) (length c.link_all.new.edges.nodes) c.make_room-2.new.wave same
           (c.in_ok-make_room-2.ensures.room (length c.self.inside.edges.nodes) c.self.invariant.1),
     )
+
+pub returns-clause-spare : goal.returns-clause-spare
+returns-clause-spare c = rw (← c.self.view_is)
+    (let same = ap (λ (v : EdgesView). v.spare) c.in_ok-add_node_and_spare.ensures.ok in
+    let left = c.link_all.ensures.spare in omega arith)

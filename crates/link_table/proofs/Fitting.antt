@@ -1,11 +1,13 @@
 -- Links that fit a graph, after a change of both.
-use Rattle.std.proofs.Common.{◌≡◌, ◌≢◌, ◌⊎◌, inl, inr, ℕ, List, refl, sym, ◌∙◌, ap, subst, Option, Some, None}
+use Rattle.std.proofs.Common.{◌≡◌, ◌≢◌, ◌⊎◌, inl, inr, ℕ, ◌≤◌, arith, List, refl, sym, ◌∙◌, ap, subst, Option, Some, None}
 use Rattle.std.proofs.lemmas.Bool.{cases_eq}
 use Rattle.observer_graph.specs.GraphView.{GraphView, IsLive, IsPair}
 use Rattle.link_table.specs.declared.links.Link.{Link}
-use Rattle.link_table.specs.Links.{ChangesAt, Fits, FitsBut, Joins, Leaves, Observes, Relinks, link_at, target_at, target_of}
+use Rattle.link_table.specs.Links.{free_count, ChangesAt, Fits, FitsBut, Joins, Leaves, Observes, Relinks, link_at, target_at, target_of}
 use Rattle.observer_graph.specs.Change.{AddsPair, TakesPair}
 use Rattle.link_table.proofs.Maps.{changed_here, changed_there}
+use Rattle.link_table.proofs.Counting.{free_same}
+use Rattle.std.specs.Prelude.{slice_set}
 
 some_is : (a b : ℕ) → Some a ≡ Some b → a ≡ b
 some_is a b e = cc
@@ -25,21 +27,40 @@ is_or_not (Some t) x = elim (cases_eq t x) [
 -- the same links in look-ups
 pub fits_same : (old new : List (Option Link)) (graph : GraphView) → ((h : ℕ) → link_at new h ≡ link_at old h)
     → Fits old graph → Fits new graph
-fits_same old new graph same fits h t is = fits h t (ap target_of (sym (same h)) ∙ is)
+fits_same old new graph same fits = record {
+  linked = λ h t is. fits.linked h t (ap target_of (sym (same h)) ∙ is);
+  spare = let count = free_same old new same in let room = fits.spare in omega arith;
+}
 
 -- a number that has no target now, others as they were
-pub fits_but : (old new : List (Option Link)) (graph : GraphView) (holder : ℕ) (link : Option Link)
-    → ChangesAt old new holder link → target_of link ≡ None → FitsBut holder old graph → Fits new graph
-fits_but old new graph holder link change none fits h t is = elim (cases_eq h holder) [
+linked_but : (old new : List (Option Link)) (graph : GraphView) (holder : ℕ) (link : Option Link)
+    → ChangesAt old new holder link → target_of link ≡ None
+    → ((h t : ℕ) → (h ≡ holder → ⊥) → target_at old h ≡ Some t → Observes graph h t)
+    → (h t : ℕ) → target_at new h ≡ Some t → Observes graph h t
+linked_but old new graph holder link change none linked h t is = elim (cases_eq h holder) [
   | inl same ↦ absurd (none_is_some t (sym none ∙ ap target_of (sym (changed_here old new holder link change)
       ∙ ap (link_at new) (sym same)) ∙ is))
-  | inr other ↦ fits h t other (ap target_of (sym (changed_there old new holder link change h other)) ∙ is)
+  | inr other ↦ linked h t other (ap target_of (sym (changed_there old new holder link change h other)) ∙ is)
 ]
 
-pub fits_free : (old new : List (Option Link)) (graph : GraphView) (holder : ℕ) (link : Option Link)
-    → ChangesAt old new holder link → target_of link ≡ None → Fits old graph → Fits new graph
-fits_free old new graph holder link change none fits = fits_but old new graph holder link change none
-    (λ h t other. fits h t)
+-- a number that is no holder any more
+pub fits_but : (links : List (Option Link)) (place holder : ℕ) (graph : GraphView) → place ≡ holder
+    → ChangesAt links (slice_set links place None) holder None → FitsBut holder links graph
+    → Fits (slice_set links place None) graph
+fits_but links place holder graph at change fits = record {
+  linked = linked_but links (slice_set links place None) graph holder None change refl fits.linked;
+  spare = subst (λ (p : ℕ). free_count (slice_set links p None) ≤ graph.spare) (sym at) fits.spare;
+}
+
+-- a holder more, which has no target, and a spare place for it
+pub fits_added : (old new : List (Option Link)) (graph : GraphView) (holder spare : ℕ)
+    → ChangesAt old new holder (Some (record { target = None })) → free_count new ≤ spare → Fits old graph
+    → Fits new (record graph { spare = spare })
+fits_added old new graph holder spare change room fits = record {
+  linked = linked_but old new (record graph { spare = spare }) holder (Some (record { target = None })) change refl
+      (λ h t other is. fits.linked h t is);
+  spare = room;
+}
 
 -- the same target again
 pub relinks_same : (graph : GraphView) (links : List (Option Link)) (holder : ℕ) (target : Option ℕ)
@@ -61,33 +82,30 @@ relinks_same graph links holder target fits same = record {
     back : (x o : ℕ) → (IsPair graph x o × ((o ≡ holder) × (target_at links holder ≡ Some x) → ⊥))
         ⊎ ((o ≡ holder) × (target ≡ Some x)) → IsPair graph x o
     back x o (inl h) = h.0
-    back x o (inr h) = subst (IsPair graph x) (sym h.0) (fits holder x (same ∙ h.1)).2
+    back x o (inr h) = subst (IsPair graph x) (sym h.0) (fits.linked holder x (same ∙ h.1)).2
 
 -- another target
-pub relinks_other : (old mid new : GraphView) (holder : ℕ) (was now : Option ℕ) → (was ≡ now → ⊥)
-    → Joins old mid holder now → Leaves mid new holder was → Relinks old new holder was now
-relinks_other old mid new holder was now other joins leaves = record {
-  nodes = leaves.nodes ∙ joins.nodes;
-  sources = leaves.sources ∙ joins.sources;
+pub relinks_other : (old mid new : GraphView) (holder : ℕ) (was now : Option ℕ) → Leaves old mid holder was
+    → Joins mid new holder now → Relinks old new holder was now
+relinks_other old mid new holder was now leaves joins = record {
+  nodes = joins.nodes ∙ leaves.nodes;
+  sources = joins.sources ∙ leaves.sources;
   pairs = λ x o. (
-    λ a. let l = (leaves.pairs x o).0 a in elim ((joins.pairs x o).0 l.0)
-        [ inl pair ↦ inl (pair, l.1) | inr j ↦ inr j ],
-    λ h. (leaves.pairs x o).1 (elim h [
-      | inl p ↦ ((joins.pairs x o).1 (inl p.0), p.1)
-      | inr j ↦ ((joins.pairs x o).1 (inr j), λ p. other (p.1 ∙ sym j.1))
-    ]),
+    λ a. elim ((joins.pairs x o).0 a) [ inl was ↦ inl ((leaves.pairs x o).0 was) | inr j ↦ inr j ],
+    λ h. (joins.pairs x o).1 (elim h [ inl p ↦ inl ((leaves.pairs x o).1 p) | inr j ↦ inr j ]),
   );
 }
 
 pub live_there : (old new : GraphView) → new.nodes ≡ old.nodes → (o : ℕ) → IsLive old o → IsLive new o
 live_there old new nodes o live = subst (λ n. IsLive (record old { nodes = n }) o) (sym nodes) live
 
--- links and graph that were relinked fit
-pub fits_relinked : (old new : List (Option Link)) (graph graph2 : GraphView) (holder : ℕ) (target : Option ℕ)
-    → Fits old graph → ChangesAt old new holder (Some (record { target = target }))
+-- the pairs of links and graph that were relinked
+linked_relinked : (old new : List (Option Link)) (graph graph2 : GraphView) (holder : ℕ) (target : Option ℕ)
+    → ((h t : ℕ) → target_at old h ≡ Some t → Observes graph h t)
+    → ChangesAt old new holder (Some (record { target = target }))
     → Relinks graph graph2 holder (target_at old holder) target → IsLive graph holder
-    → ((t : ℕ) → target ≡ Some t → IsLive graph t) → Fits new graph2
-fits_relinked old new graph graph2 holder target fits change relinks live targets h t is = elim (cases_eq h holder) [
+    → ((t : ℕ) → target ≡ Some t → IsLive graph t) → (h t : ℕ) → target_at new h ≡ Some t → Observes graph2 h t
+linked_relinked old new graph graph2 holder target linked change relinks live targets h t is = elim (cases_eq h holder) [
   | inl same ↦ subst (λ (z : ℕ). Observes graph2 z t) (sym same)
       (let wanted = sym (ap target_of (changed_here old new holder (Some (record { target = target })) change))
       ∙ ap (target_at new) (sym same) ∙ is in (
@@ -97,7 +115,7 @@ fits_relinked old new graph graph2 holder target fits change relinks live target
         (relinks.pairs t holder).1 (inr (refl, wanted)),
       ))
   | inr other ↦
-      let o = fits h t (ap target_of (sym (changed_there old new holder (Some (record { target = target }))
+      let o = linked h t (ap target_of (sym (changed_there old new holder (Some (record { target = target }))
       change h other)) ∙ is) in (
         live_there graph graph2 relinks.nodes h o.0,
         live_there graph graph2 relinks.nodes t o.1,
@@ -105,6 +123,16 @@ fits_relinked old new graph graph2 holder target fits change relinks live target
             (inl (o.2, λ p. other p.0)),
       )
 ]
+
+-- links and graph that were relinked fit
+pub fits_relinked : (old new : List (Option Link)) (graph graph2 : GraphView) (holder : ℕ) (target : Option ℕ)
+    → Fits old graph → ChangesAt old new holder (Some (record { target = target }))
+    → Relinks graph graph2 holder (target_at old holder) target → IsLive graph holder
+    → ((t : ℕ) → target ≡ Some t → IsLive graph t) → free_count new ≤ graph2.spare → Fits new graph2
+fits_relinked old new graph graph2 holder target fits change relinks live targets room = record {
+  linked = linked_relinked old new graph graph2 holder target fits.linked change relinks live targets;
+  spare = room;
+}
 
 -- one pair more is the holder's with the target that there is
 pub joins_one : (old new : GraphView) (holder t : ℕ) (target : Option ℕ) → target ≡ Some t → AddsPair old new t holder

@@ -1,5 +1,5 @@
 -- The targets of holders as a finite map, and the pairs that they stand for.
-use Rattle.std.specs.Prelude.{◌≡◌, ◌↔◌, ◌⊎◌, ◌==◌, if◌then◌else◌, ℕ, List, Option, Some, None, IsSome, slice_index_or}
+use Rattle.std.specs.Prelude.{◌≡◌, ◌↔◌, ◌⊎◌, ◌==◌, ◌+◌, ◌≤◌, if◌then◌else◌, ℕ, Bool, false, List, [], ◌∷◌, Option, Some, None, IsSome, is_none, slice_index_or, slice_set}
 use Rattle.link_table.specs.declared.links.Link.{Link}
 use Rattle.observer_graph.specs.GraphView.{GraphView, IsLive, IsPair}
 
@@ -26,14 +26,26 @@ ChangesAt old new holder link = (h : ℕ) → link_at new h ≡ (if h == holder 
 abbrev pub Observes : GraphView → ℕ → ℕ → Type 0
 Observes graph holder target = IsLive graph holder × IsLive graph target × IsPair graph target holder
 
--- links fit a graph where each linked holder observes its target
-abbrev pub Fits : List (Option Link) → GraphView → Type 0
-Fits links graph = (holder target : ℕ) → target_at links holder ≡ Some target → Observes graph holder target
+-- whether a number is a holder that is not linked
+abbrev pub is_free : Option Link → Bool
+is_free None = false
+is_free (Some link) = is_none link.target
+
+-- how many holders are not linked
+abbrev pub free_count : List (Option Link) → ℕ
+free_count [] = 0
+free_count (link ∷ links) = (if is_free link then 1 else 0) + free_count links
+
+-- links fit a graph where each linked holder observes its target, and there is a spare place for each other holder
+pub record Fits (links : List (Option Link)) (graph : GraphView) : Type 0 where
+  pub linked : (holder target : ℕ) → target_at links holder ≡ Some target → Observes graph holder target
+  pub spare : free_count links ≤ graph.spare
 
 -- the same of all holders but one
-abbrev pub FitsBut : ℕ → List (Option Link) → GraphView → Type 0
-FitsBut but links graph = (holder target : ℕ) → (holder ≡ but → ⊥) → target_at links holder ≡ Some target
-    → Observes graph holder target
+pub record FitsBut (but : ℕ) (links : List (Option Link)) (graph : GraphView) : Type 0 where
+  pub linked : (holder target : ℕ) → (holder ≡ but → ⊥) → target_at links holder ≡ Some target
+      → Observes graph holder target
+  pub spare : free_count (slice_set links but None) ≤ graph.spare
 
 -- the holder observes the new target and not the old one; every other pair, every node and every source stays
 pub record Relinks (old new : GraphView) (holder : ℕ) (was now : Option ℕ) : Type 0 where

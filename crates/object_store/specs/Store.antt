@@ -1,5 +1,5 @@
 -- What the calls of a store change.
-use Rattle.std.specs.Prelude.{◌≡◌, ◌≢◌, ◌↔◌, ◌⊎◌, ◌++◌, ℕ, Bool, true, false, List, [], ◌∷◌, length, Option, Some, None, slice_index_or, slice_set}
+use Rattle.std.specs.Prelude.{◌≡◌, ◌≢◌, ◌↔◌, ◌⊎◌, ◌≤◌, ◌++◌, ℕ, Bool, true, false, List, [], ◌∷◌, length, Option, Some, None, slice_index_or, slice_set}
 use Rattle.walks.specs.Walk.{Among, Below}
 use Rattle.desk_terms.specs.declared.terms.Part.{Part}
 use Rattle.desk_terms.specs.Terms.{part_references}
@@ -14,13 +14,14 @@ use Rattle.observer_graph.specs.Noticed.{IsRising, without}
 use Rattle.object_store.specs.Shape.{Shape, role_at, observed_by, registrations_of}
 use Rattle.object_store.specs.Slots.{Registry}
 
--- what is stored of each object, the graph of observers, whether notices are held back, and the watchers that were told
--- and not handed out since, by creation
+-- what is stored of each object, the graph of observers, whether notices are held back, the watchers that were told
+-- and not handed out since, by creation, and how many pairs more fit with no memory, by `watch_spare` alone
 pub record StoreView : Type 0 where
   pub kept : List Kept
   pub shape : Shape
   pub deferring : Bool
   pub noticed : List ℕ
+  pub spare : ℕ
 
 -- the registrations stand in the graph alone
 abbrev pub registry_of : StoreView → Registry
@@ -46,6 +47,7 @@ pub record AddsObject (role : Role) (named : List ℕ) (old new : StoreView) : T
   pub kept : new.kept ≡ old.kept ++ unpriced ∷ []
   pub switch : new.deferring ≡ old.deferring
   pub told : new.noticed ≡ old.noticed
+  pub spare : new.spare ≡ old.spare
   pub roles : new.shape.roles ≡ old.shape.roles ++ Some role ∷ []
   pub pairs : (x o : ℕ) → Among x (observed_by new.shape o) ↔ (Among x (observed_by old.shape o) ⊎ (Among x named × (o ≡ length old.kept)))
 
@@ -54,6 +56,7 @@ pub record TakesObject (object : ℕ) (old new : StoreView) : Type 0 where
   pub kept : new.kept ≡ slice_set old.kept object unpriced
   pub switch : new.deferring ≡ old.deferring
   pub told : new.noticed ≡ without object old.noticed
+  pub spare : old.spare ≤ new.spare
   pub roles : new.shape.roles ≡ slice_set old.shape.roles object None
   pub pairs : (x o : ℕ) → Among x (observed_by new.shape o) ↔ (Among x (observed_by old.shape o) × ((x ≡ object) ⊎ (o ≡ object) → ⊥))
 
@@ -94,6 +97,7 @@ pub record Notices (old new : StoreView) : Type 0 where
       ⊎ ((IsNotified old o → ⊥) × (stored_at new o ≡ notified_kept false (stored_at old o)))
   pub noticed : (w : ℕ) → Among w new.noticed ↔ (Among w old.noticed ⊎ ((role_at old.shape w ≡ Some Watcher) × IsNotified old w))
   pub rising : IsRising new.noticed
+  pub spare : new.spare ≡ old.spare
 
 -- a composite of these parts observes its members, and all else is as it was
 pub record IsRewatched (composite : ℕ) (parts : List Part) (old new : StoreView) : Type 0 where

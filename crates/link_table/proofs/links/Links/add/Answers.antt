@@ -1,5 +1,4 @@
 use Rattle.std.proofs.Common.{◌≡◌, ◌∙◌, ◌+◌, ◌≤◌, ℕ, max, List, Option, Some, None, ap, refl, sym, subst, arith}
-use Rattle.std.proofs.Sketches.{bounds}
 use Rattle.std.specs.Prelude.{slice_set}
 use Rattle.observer_graph.specs.GraphView.{GraphView}
 use Rattle.link_table.specs.declared.links.Link.{Link}
@@ -55,9 +54,9 @@ invariant_of-self-2 c = sym (all_counted c)
 pub overflow_add-self-inside : goal.overflow_add-self-inside
 overflow_add-self-inside c = let most = free_most c.self.inside.links.items in let count = c.self.invariant in
     let len = c.self.inside.links.ok.0 in let held = c.self.inside.links.ok.1 in let small = c.self.inside.links.small in
-    omega (arith, bounds)
+    omega arith
 
 pub overflow_add-self : goal.overflow_add-self
 overflow_add-self c = let most = free_most c.self.inside.links.items in let count = c.self.invariant in
     let len = c.self.inside.links.ok.0 in let held = c.self.inside.links.ok.1 in let small = c.self.inside.links.small in
-    omega (arith, bounds)
+    omega arith

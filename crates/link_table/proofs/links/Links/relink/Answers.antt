@@ -1,5 +1,4 @@
 use Rattle.std.proofs.Common.{◌≡◌, ◌∙◌, ◌+◌, ◌<◌, ◌≤◌, ℕ, List, Option, Some, ap, refl, sym, subst, arith}
-use Rattle.std.proofs.Sketches.{bounds}
 use Rattle.std.specs.Prelude.{slice_set, is_some, is_none}
 use Rattle.std.proofs.lemmas.Bool.{false≢true}
 use Rattle.link_table.specs.declared.links.Link.{Link}
@@ -97,4 +96,4 @@ pub recounted-self-inside-requires-clause-room : goal.recounted-self-inside-requ
 recounted-self-inside-requires-clause-room c =
     let most = free_most c.self.inside.links.items in let count = c.self.invariant in
     let len = c.self.inside.links.ok.0 in let held = c.self.inside.links.ok.1 in let small = c.self.inside.links.small in
-    omega (arith, bounds)
+    omega arith

@@ -1,5 +1,4 @@
 use Rattle.std.proofs.Common.{◌≡◌, ◌∙◌, ◌+◌, ◌<◌, ℕ, false, None, List, Option, ap, refl, sym, subst, arith}
-use Rattle.std.proofs.Sketches.{bounds}
 use Rattle.std.specs.Prelude.{is_none}
 use Rattle.link_table.specs.declared.links.Link.{Link}
 use Rattle.link_table.specs.Links.{FitsBut, IsHolder, free_count, target_at}
@@ -37,4 +36,4 @@ pub recounted-self-inside-requires-clause-room : goal.recounted-self-inside-requ
 recounted-self-inside-requires-clause-room c =
     let most = free_most c.self.inside.links.items in let count = c.self.invariant in
     let len = c.self.inside.links.ok.0 in let held = c.self.inside.links.ok.1 in let small = c.self.inside.links.small in
-    omega (arith, bounds)
+    omega arith

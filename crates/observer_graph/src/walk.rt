@@ -1,7 +1,7 @@
 // Whom a notice reaches: a set that grows until it is closed, and what becomes of them.
-ghost use Rattle.std.specs.Prelude.{◌≡◌, ◌↔◌, ◌⊎◌, ◌<◌, ◌≤◌, ℕ, vec_capacity, [], length, true, None, slice_index_or};
+ghost use Rattle.std.specs.Prelude.{◌≡◌, ◌↔◌, ◌⊎◌, ◌<◌, ◌≤◌, ℕ, vec_capacity, [], length, true, false, None, slice_index_or};
 ghost use Rattle.walks.specs.Walk.{Among};
-ghost use Rattle.observer_graph.specs.Lists.{is_marked, list_at, Extends};
+ghost use Rattle.observer_graph.specs.Lists.{list_at, Extends};
 ghost use Rattle.observer_graph.specs.Notice.{IsTold, passes_of, unsettled};
 ghost use Rattle.observer_graph.specs.GraphView.{IsWatcher};
 ghost use Rattle.observer_graph.specs.Noticed.{AreNoticed, IsRising, with_number};
@@ -14,8 +14,8 @@ use crate::rising::put_in;
 use desk_names::ObjId;
 
 /// A notice from the sources: those whom it reaches are put into an empty set and are no longer current, and the watchers
-/// among them are remembered. Each of them is looked at once, and each pair of a source, or of one that passes the notice
-/// on, once.
+/// among them are remembered. Each of them is looked at once, and so is each pair of a source and each of one that passes
+/// the notice on; those of a source that is told and passes it on are looked at twice.
 pub fn tell_all(
     pairs: &Pairs,
     nodes: &mut [Option<Node>],
@@ -60,8 +60,7 @@ fn tell_observers(pairs: &Pairs, sources: &NodeSet, wave: &mut NodeSet)
     }
 }
 
-// The observers of each that is told and passes the notice on are told, and it is no longer current. Those of a source
-// were told before.
+// The observers of each that is told and passes the notice on are told, and it is no longer current.
 fn pass_on(
     pairs: &Pairs,
     nodes: &mut [Option<Node>],
@@ -92,28 +91,22 @@ fn pass_on(
     while at < wave.len() {
         let told = wave.get(at);
         let node = &mut nodes[told.place()];
-        pass_notice(pairs, node, told, sources, wave);
+        let goes_on = passes(node);
         remember(node, told, noticed);
         unsettle_one(node);
+        pass_notice(pairs, goes_on, told, wave);
         at += 1;
     }
 }
 
-// The observers of a node that is told are told, if it passes the notice on and is no source.
-fn pass_notice(
-    pairs: &Pairs,
-    node: &Option<Node>,
-    told: ObjId,
-    sources: &NodeSet,
-    wave: &mut NodeSet,
-)
-    requires told { told < length sources.now.marks }
-    requires sources { length sources.now.marks ≡ length pairs.now.subjects }
+// The observers of a node that is told are told, if it passes the notice on.
+fn pass_notice(pairs: &Pairs, goes_on: bool, told: ObjId, wave: &mut NodeSet)
+    requires told { told < length pairs.now.subjects }
     requires room { length pairs.now.subjects ≡ length wave.old.marks }
-    ensures { ((passes_of node.now ≡ true) × Extends wave.old wave.new (λ o. Among told (list_at pairs.now.subjects o)))
-        ⊎ ((passes_of node.now ≡ true → is_marked sources.now.marks told ≡ true) × (wave.new ≡ wave.old)) }
+    ensures { ((goes_on ≡ true) × Extends wave.old wave.new (λ o. Among told (list_at pairs.now.subjects o)))
+        ⊎ ((goes_on ≡ false) × (wave.new ≡ wave.old)) }
 {
-    if passes(node) && !sources.contains(told) {
+    if goes_on {
         pairs.insert_observers(told, wave);
     }
 }

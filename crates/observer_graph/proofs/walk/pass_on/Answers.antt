@@ -1,5 +1,6 @@
 use Rattle.std.proofs.Common.{◌≡◌, ◌⊎◌, ◌<◌, ◌∙◌, ℕ, Bool, true, List, [], ◌∷◌, Option, None, inl, inr, length, take, sym, subst, ap, refl, arith}
 use Rattle.std.specs.Prelude.{◌↔◌, slice_index_or, slice_set}
+use Rattle.std.proofs.lemmas.Bool.{false≢true}
 use Rattle.std.proofs.lemmas.Option.{get_or_from_slice_get, slice_get_within}
 use Rattle.walks.specs.Walk.{Among}
 use Rattle.observer_graph.specs.Lists.{is_marked, list_at, Extends}
@@ -50,10 +51,7 @@ pass_notice-requires-clause-told c =
     let within : c.get-told.result < length c.args.nodes.now =
     let m = marked_within c.loop-at.wave.marks c.get-told.result (c.len.ensures.set.marked c.get-told.result here) in
     let r = c.loop-at.invariant.room in let w = c.requires.wave in omega arith in
-    let s = c.requires.sources in omega arith
-
-pub pass_notice-requires-clause-sources : goal.pass_notice-requires-clause-sources
-pass_notice-requires-clause-sources c = c.requires.sources ∙ sym c.requires.pairs
+    let s = c.requires.pairs in omega arith
 
 pub pass_notice-requires-clause-room : goal.pass_notice-requires-clause-room
 pass_notice-requires-clause-room c = c.requires.pairs ∙ sym (c.loop-at.invariant.room ∙ c.requires.wave)
@@ -88,10 +86,12 @@ loop-at-preserved c =
     let after : List (Option Node) = slice_set c.loop-at.nodes c.place.result c.unsettle_one.new.node in
     let read = ap (λ (n : ℕ). slice_index_or c.loop-at.nodes n None) c.place.ensures
     ∙ c.loop-at.invariant.settled.others c.get-told.result (not_before items c.loop-at.at c.get-told.result c.len.ensures.set.once low is) in
+    let goes : c.passes-goes_on.result ≡ P c.get-told.result = c.passes-goes_on.ensures ∙ ap passes_of read in
     let step = spread_step c.args.pairs.now.subjects from P c.loop-at.wave c.pass_notice.new.wave c.loop-at.at c.get-told.result
-    low is here (subst (λ (n : Option Node). ((passes_of n ≡ true) × Extends c.loop-at.wave c.pass_notice.new.wave
-    (λ o. Among c.get-told.result (list_at c.args.pairs.now.subjects o)))
-    ⊎ ((passes_of n ≡ true → from c.get-told.result ≡ true) × (c.pass_notice.new.wave ≡ c.loop-at.wave))) read c.pass_notice.ensures)
+    low is here (elim c.pass_notice.ensures [
+      | inl on ↦ inl (sym goes ∙ on.0, on.1)
+      | inr off ↦ inr ((λ yes. absurd (false≢true (sym off.0 ∙ goes ∙ yes))), off.1)
+    ])
     c.loop-at.invariant.spread in
     let watches = subst (λ (n : Option Node). (IsWatcher n × (c.remember.new.noticed.items ≡ with_number c.get-told.result c.loop-at.noticed.items))
     ⊎ ((IsWatcher n → ⊥) × (c.remember.new.noticed.items ≡ c.loop-at.noticed.items))) read c.remember.ensures.watcher in

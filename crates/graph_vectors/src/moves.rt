@@ -1,5 +1,5 @@
 // Rows `target,changed`: where a holder is moved to, one row after another, and whether that is a change.
-ghost use Rattle.std.specs.Prelude.{◌≡◌, ◌<◌, ℕ, None, Some, IfOk, IfSome, OnOk, []};
+ghost use Rattle.std.specs.Prelude.{◌≡◌, ◌<◌, ℕ, None, Some, IfOk, IfSome, []};
 ghost use Rattle.observer_graph.specs.GraphView.{IsLive};
 ghost use Rattle.link_table.specs.Links.{link_at};
 ghost use Rattle.graph_vectors.specs.Moves.{IsMovable};
@@ -32,7 +32,7 @@ pub(crate) fn moves_agree(alloc: Global, rows: &str) -> Option<bool> {
 
 // Two sources, and a holder that is not linked.
 fn start(links: &mut Links, graph: &mut Graph) -> Result<ObjId, AllocError>
-    requires graph { graph.old ≡ record { nodes = []; subjects = []; sources = []; noticed = [] } }
+    requires graph { graph.old ≡ record { nodes = []; subjects = []; sources = []; noticed = []; spare = 0 } }
     requires links { (h : ℕ) → link_at links.old h ≡ None }
     ensures { IfOk result (λ holder. IsMovable links.new graph.new holder) }
 {
@@ -49,7 +49,7 @@ fn move_agrees(links: &mut Links, graph: &mut Graph, holder: ObjId, row: &str) -
     ensures { IfSome result (λ _. IsMovable links.new graph.new holder) }
 {
     let wanted = move_of(row)?;
-    let changed = move_to(links, graph, holder, wanted.target).ok()?;
+    let changed = move_to(links, graph, holder, wanted.target);
     let held = links.target(holder);
     let is_over_a = reaches_source(graph, holder, 0) == (held == Some(ObjId(0)));
     let is_over_b = reaches_source(graph, holder, 1) == (held == Some(ObjId(1)));
@@ -57,18 +57,12 @@ fn move_agrees(links: &mut Links, graph: &mut Graph, holder: ObjId, row: &str) -
 }
 
 // The holder is moved to one of the sources, or to none; whether that is a change.
-fn move_to(
-    links: &mut Links,
-    graph: &mut Graph,
-    holder: ObjId,
-    target: Option<ObjId>,
-) -> Result<bool, AllocError>
+fn move_to(links: &mut Links, graph: &mut Graph, holder: ObjId, target: Option<ObjId>) -> bool
     requires movable { IsMovable links.old graph.old holder }
     requires target { (t : ℕ) → target ≡ Some t → t < 2 }
-    ensures { OnOk result (IsMovable links.new graph.new holder) }
+    ensures { IsMovable links.new graph.new holder }
 {
-    let changed = links.relink(graph, holder, target)?;
-    Ok(changed)
+    links.relink(graph, holder, target)
 }
 
 // Whether the holder reaches a source.

@@ -7,5 +7,4 @@ relink-requires-clause-new c =
 
 pub returns : goal.returns
 returns c = movable_moved c.args.links.now c.relink.new.self c.args.graph.now c.relink.new.graph c.args.holder
-    c.args.target c.requires.movable
-    c.in_ok-changed.ensures.ok c.in_ok-changed.ensures.pairs c.relink.ensures.fit
+    c.args.target c.requires.movable c.relink.ensures.ok c.relink.ensures.pairs c.relink.ensures.fit

@@ -111,15 +111,15 @@ pub fn compute_all<B: Bench>(
     ensures remembers { Remembers (market_of today objects.now) scratch.new.entries }
     ensures begun { Begun objects.now store.new.kept scratch.new.positions }
 {
-    let mut stack: Vec<ObjId> = Vec::new(alloc);
-    stack.push(object)?;
+    let mut waiting: Vec<ObjId> = Vec::new(alloc);
+    let mut top = object;
     let mut runs: u64 = 0;
-    while let Some(top) = stack.pop() {
+    loop {
         match next(alloc, today, objects, store, scratch, top)? {
             Next::Stops(cause) => return Ok(answered(Some(cause), mark, runs)),
             Next::First(needed) => {
-                stack.push(top)?;
-                stack.push(needed)?;
+                waiting.push(top)?;
+                top = needed;
             }
             Next::Ready(inputs) => {
                 let cause = compute(alloc, today, objects, store, top, &inputs, bench)?;
@@ -127,10 +127,13 @@ pub fn compute_all<B: Bench>(
                 if cause.is_some() {
                     return Ok(answered(cause, mark, runs));
                 }
+                match waiting.pop() {
+                    Some(under) => top = under,
+                    None => return Ok(answered(None, mark, runs)),
+                }
             }
         }
     }
-    Ok(answered(None, mark, runs))
 }
 
 /// One computation: the value is stored, or the cause is answered.

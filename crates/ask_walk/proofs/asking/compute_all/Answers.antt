@@ -14,11 +14,11 @@ use Rattle.ask_walk.proofs.Fronted.{on_err, stopped, stopped_in_bench}
 use Rattle.ask_walk.proofs.Fronts.{begun_valued, begun_refused}
 use Rattle.ask_walk.proofs.asking.compute_all.Goals as goal
 
-pub loop-top-init : goal.loop-top-init
-loop-top-init g c = (
+pub loop-waiting-init : goal.loop-waiting-init
+loop-waiting-init g c = (
   refl,
-  subst (λ (st : List ℕ). Asking (g.B.Bench.calc c.args.bench.now) (state_of c.args.today c.args.objects.now c.args.store.now.kept (registry_of c.args.store.now)) c.args.object (g.B.Bench.count c.args.bench.now) (g.B.Bench.log c.args.bench.now) st c.args.store.now.kept 0 (g.B.Bench.count c.args.bench.now) (g.B.Bench.log c.args.bench.now))
-      (sym (c.in_ok-push.ensures.items ∙ ap (λ (l : List ℕ). l ++ c.args.object ∷ []) c.new-stack.ensures.items))
+  subst (λ (st : List ℕ). Asking (g.B.Bench.calc c.args.bench.now) (state_of c.args.today c.args.objects.now c.args.store.now.kept (registry_of c.args.store.now)) c.args.object (g.B.Bench.count c.args.bench.now) (g.B.Bench.log c.args.bench.now) (st ++ c.args.object ∷ []) c.args.store.now.kept 0 (g.B.Bench.count c.args.bench.now) (g.B.Bench.log c.args.bench.now))
+      (sym c.new-waiting.ensures.items)
       (begins (g.B.Bench.calc c.args.bench.now) (state_of c.args.today c.args.objects.now c.args.store.now.kept (registry_of c.args.store.now)) c.args.object (g.B.Bench.count c.args.bench.now) (g.B.Bench.log c.args.bench.now) c.requires.may c.requires.free c.requires.stale),
   c.requires.remembers,
   c.requires.begun,
@@ -27,10 +27,10 @@ loop-top-init g c = (
 )
 
 pub returns-in_err-cause-clause-same : goal.returns-in_err-cause-clause-same
-returns-in_err-cause-clause-same g c = c.loop-top.invariant.0
+returns-in_err-cause-clause-same g c = c.loop-waiting.invariant.0
 
 pub returns-in-Stops-clause-same : goal.returns-in-Stops-clause-same
-returns-in-Stops-clause-same g c = c.loop-top.invariant.0
+returns-in-Stops-clause-same g c = c.loop-waiting.invariant.0
 
 pub returns-in-Stops-clause-walks : goal.returns-in-Stops-clause-walks
 returns-in-Stops-clause-walks g c =
@@ -38,42 +38,42 @@ returns-in-Stops-clause-walks g c =
     let s = state_of c.args.today c.args.objects.now c.args.store.now.kept (registry_of c.args.store.now) in
     let count0 = g.B.Bench.count c.args.bench.now in
     let log0 = g.B.Bench.log c.args.bench.now in
-    let stack = c.pop.new.self.items in
-    let a = subst (λ (st : List ℕ). Asking calc s c.args.object count0 log0 st c.loop-top.store.kept c.loop-top.runs (g.B.Bench.count c.loop-top.bench) (g.B.Bench.log c.loop-top.bench)) c.in-Some.ensures.items c.loop-top.invariant.1 in
-    stops calc s c.args.object count0 log0 stack c.in-Some.top c.loop-top.store.kept c.loop-top.runs (g.B.Bench.count c.loop-top.bench) (g.B.Bench.log c.loop-top.bench) a c.in-Stops.cause c.args.mark c.answered.result (sym c.in_ok-cause.ensures.next ∙ c.in-Stops.is) c.answered.ensures
+    let stack = c.loop-waiting.waiting.items in
+    let a = c.loop-waiting.invariant.1 in
+    stops calc s c.args.object count0 log0 stack c.loop-waiting.top c.loop-waiting.store.kept c.loop-waiting.runs (g.B.Bench.count c.loop-waiting.bench) (g.B.Bench.log c.loop-waiting.bench) a c.in-Stops.cause c.args.mark c.answered.result (sym c.in_ok-cause.ensures.next ∙ c.in-Stops.is) c.answered.ensures
 
-pub loop-top-smaller-in-Continue-branch-5 : goal.loop-top-smaller-in-Continue-branch-5
-loop-top-smaller-in-Continue-branch-5 g c =
+pub loop-waiting-smaller-in-First : goal.loop-waiting-smaller-in-First
+loop-waiting-smaller-in-First g c =
     let calc = g.B.Bench.calc c.args.bench.now in
     let s = state_of c.args.today c.args.objects.now c.args.store.now.kept (registry_of c.args.store.now) in
     let count0 = g.B.Bench.count c.args.bench.now in
     let log0 = g.B.Bench.log c.args.bench.now in
-    let stack = c.pop.new.self.items in
-    let a = subst (λ (st : List ℕ). Asking calc s c.args.object count0 log0 st c.loop-top.store.kept c.loop-top.runs (g.B.Bench.count c.loop-top.bench) (g.B.Bench.log c.loop-top.bench)) c.in-Some.ensures.items c.loop-top.invariant.1 in
-    measure_push (open_of c.loop-top.store.kept) (length c.args.objects.now) (length c.loop-top.stack.items) (length c.push-in-First-2.new.self.items)
-    (let e = ap length (c.in_ok-push-in-First-2.ensures.items ∙ ap (λ (l : List ℕ). l ++ c.in-First.needed ∷ []) c.in_ok-push-in-First.ensures.items) in
-    let x = length-append (stack ++ c.in-Some.top ∷ []) (c.in-First.needed ∷ []) in let y = ap length c.in-Some.ensures.items in omega arith)
-    (let b = stack_bound calc s c.args.object count0 log0 stack c.in-Some.top c.loop-top.store.kept c.loop-top.runs (g.B.Bench.count c.loop-top.bench) (g.B.Bench.log c.loop-top.bench) a in let y = ap length c.in-Some.ensures.items in let x = length-append stack (c.in-Some.top ∷ []) in omega arith)
+    let stack = c.loop-waiting.waiting.items in
+    let a = c.loop-waiting.invariant.1 in
+    let x = length-append stack (c.loop-waiting.top ∷ []) in
+    measure_push (open_of c.loop-waiting.store.kept) (length c.args.objects.now) (length stack + 1) (length c.push.new.self.items + 1)
+    (let e = ap length c.in_ok-push-in-First.ensures.items in omega arith)
+    (let b = stack_bound calc s c.args.object count0 log0 stack c.loop-waiting.top c.loop-waiting.store.kept c.loop-waiting.runs (g.B.Bench.count c.loop-waiting.bench) (g.B.Bench.log c.loop-waiting.bench) a in omega arith)
 
-pub loop-top-preserved-in-Continue-branch-5 : goal.loop-top-preserved-in-Continue-branch-5
-loop-top-preserved-in-Continue-branch-5 g c =
+pub loop-waiting-preserved-in-First : goal.loop-waiting-preserved-in-First
+loop-waiting-preserved-in-First g c =
     let calc = g.B.Bench.calc c.args.bench.now in
     let s = state_of c.args.today c.args.objects.now c.args.store.now.kept (registry_of c.args.store.now) in
     let count0 = g.B.Bench.count c.args.bench.now in
     let log0 = g.B.Bench.log c.args.bench.now in
-    let stack = c.pop.new.self.items in
-    let a = subst (λ (st : List ℕ). Asking calc s c.args.object count0 log0 st c.loop-top.store.kept c.loop-top.runs (g.B.Bench.count c.loop-top.bench) (g.B.Bench.log c.loop-top.bench)) c.in-Some.ensures.items c.loop-top.invariant.1 in (
-      c.loop-top.invariant.0,
-      subst (λ (st : List ℕ). Asking calc s c.args.object count0 log0 st c.loop-top.store.kept c.loop-top.runs (g.B.Bench.count c.loop-top.bench) (g.B.Bench.log c.loop-top.bench)) (sym (c.in_ok-push-in-First-2.ensures.items ∙ ap (λ (l : List ℕ). l ++ c.in-First.needed ∷ []) c.in_ok-push-in-First.ensures.items))
-          (pushes calc s c.args.object count0 log0 stack c.in-Some.top c.loop-top.store.kept c.loop-top.runs (g.B.Bench.count c.loop-top.bench) (g.B.Bench.log c.loop-top.bench) a c.in-First.needed (sym c.in_ok-cause.ensures.next ∙ c.in-First.is)),
+    let stack = c.loop-waiting.waiting.items in
+    let a = c.loop-waiting.invariant.1 in (
+      c.loop-waiting.invariant.0,
+      subst (λ (st : List ℕ). Asking (g.B.Bench.calc c.args.bench.now) (state_of c.args.today c.args.objects.now c.args.store.now.kept (registry_of c.args.store.now)) c.args.object (g.B.Bench.count c.args.bench.now) (g.B.Bench.log c.args.bench.now) (st ++ c.in-First.needed ∷ []) c.loop-waiting.store.kept c.loop-waiting.runs (g.B.Bench.count c.loop-waiting.bench) (g.B.Bench.log c.loop-waiting.bench)) (sym c.in_ok-push-in-First.ensures.items)
+          (pushes calc s c.args.object count0 log0 stack c.loop-waiting.top c.loop-waiting.store.kept c.loop-waiting.runs (g.B.Bench.count c.loop-waiting.bench) (g.B.Bench.log c.loop-waiting.bench) a c.in-First.needed (sym c.in_ok-cause.ensures.next ∙ c.in-First.is)),
       c.in_ok-cause.ensures.remembers,
       c.in_ok-cause.ensures.begun,
-      c.loop-top.invariant.4,
-      c.loop-top.invariant.5,
+      c.loop-waiting.invariant.4,
+      c.loop-waiting.invariant.5,
     )
 
-pub returns-in_err-push-in-First-2-clause-same : goal.returns-in_err-push-in-First-2-clause-same
-returns-in_err-push-in-First-2-clause-same g c = c.loop-top.invariant.0
+pub returns-in_err-push-in-First-clause-same : goal.returns-in_err-push-in-First-clause-same
+returns-in_err-push-in-First-clause-same g c = c.loop-waiting.invariant.0
 
 pub compute-requires-clause-fits : goal.compute-requires-clause-fits
 compute-requires-clause-fits g c =
@@ -81,15 +81,25 @@ compute-requires-clause-fits g c =
     let s = state_of c.args.today c.args.objects.now c.args.store.now.kept (registry_of c.args.store.now) in
     let count0 = g.B.Bench.count c.args.bench.now in
     let log0 = g.B.Bench.log c.args.bench.now in
-    let stack = c.pop.new.self.items in
-    let a = subst (λ (st : List ℕ). Asking calc s c.args.object count0 log0 st c.loop-top.store.kept c.loop-top.runs (g.B.Bench.count c.loop-top.bench) (g.B.Bench.log c.loop-top.bench)) c.in-Some.ensures.items c.loop-top.invariant.1 in
-    λ terms there. fits calc s c.args.object count0 log0 stack c.in-Some.top c.loop-top.store.kept c.loop-top.runs (g.B.Bench.count c.loop-top.bench) (g.B.Bench.log c.loop-top.bench) a c.in-Ready.inputs terms (sym c.in_ok-cause.ensures.next ∙ c.in-Ready.is) there
+    let stack = c.loop-waiting.waiting.items in
+    let a = c.loop-waiting.invariant.1 in
+    λ terms there. fits calc s c.args.object count0 log0 stack c.loop-waiting.top c.loop-waiting.store.kept c.loop-waiting.runs (g.B.Bench.count c.loop-waiting.bench) (g.B.Bench.log c.loop-waiting.bench) a c.in-Ready.inputs terms (sym c.in_ok-cause.ensures.next ∙ c.in-Ready.is) there
+
+pub compute-requires-clause-lazy : goal.compute-requires-clause-lazy
+compute-requires-clause-lazy g c =
+    let calc = g.B.Bench.calc c.args.bench.now in
+    let s = state_of c.args.today c.args.objects.now c.args.store.now.kept (registry_of c.args.store.now) in
+    let count0 = g.B.Bench.count c.args.bench.now in
+    let log0 = g.B.Bench.log c.args.bench.now in
+    let stack = c.loop-waiting.waiting.items in
+    let a = c.loop-waiting.invariant.1 in
+    top_lazy calc s c.args.object count0 log0 stack c.loop-waiting.top c.loop-waiting.store.kept c.loop-waiting.runs (g.B.Bench.count c.loop-waiting.bench) (g.B.Bench.log c.loop-waiting.bench) a
 
 pub returns-in_err-cause-in-Ready-clause-same : goal.returns-in_err-cause-in-Ready-clause-same
-returns-in_err-cause-in-Ready-clause-same g c = c.compute.ensures.same ∙ c.loop-top.invariant.0
+returns-in_err-cause-in-Ready-clause-same g c = c.compute.ensures.same ∙ c.loop-waiting.invariant.0
 
 pub returns-then-is_some-clause-same : goal.returns-then-is_some-clause-same
-returns-then-is_some-clause-same g c = c.compute.ensures.same ∙ c.loop-top.invariant.0
+returns-then-is_some-clause-same g c = c.compute.ensures.same ∙ c.loop-waiting.invariant.0
 
 pub returns-then-is_some-clause-walks : goal.returns-then-is_some-clause-walks
 returns-then-is_some-clause-walks g c =
@@ -97,70 +107,99 @@ returns-then-is_some-clause-walks g c =
     let s = state_of c.args.today c.args.objects.now c.args.store.now.kept (registry_of c.args.store.now) in
     let count0 = g.B.Bench.count c.args.bench.now in
     let log0 = g.B.Bench.log c.args.bench.now in
-    let stack = c.pop.new.self.items in
-    let a = subst (λ (st : List ℕ). Asking calc s c.args.object count0 log0 st c.loop-top.store.kept c.loop-top.runs (g.B.Bench.count c.loop-top.bench) (g.B.Bench.log c.loop-top.bench)) c.in-Some.ensures.items c.loop-top.invariant.1 in
-    faulted calc s c.args.object count0 log0 stack c.in-Some.top c.loop-top.store.kept c.loop-top.runs (g.B.Bench.count c.loop-top.bench) (g.B.Bench.log c.loop-top.bench) a c.in-Ready.inputs c.compute.new.store.kept c.in_ok-cause-in-Ready.cause (c.loop-top.runs + 1) (g.B.Bench.count c.compute.new.bench) (g.B.Bench.log c.compute.new.bench) c.args.mark c.answered-then-is_some.result (sym c.in_ok-cause.ensures.next ∙ c.in-Ready.is)
-    (subst (λ k. Computes k (market_of c.args.today c.args.objects.now) c.in-Some.top c.in-Ready.inputs c.loop-top.store.kept c.compute.new.store.kept c.in_ok-cause-in-Ready.cause (g.B.Bench.count c.loop-top.bench) (g.B.Bench.count c.compute.new.bench) (g.B.Bench.log c.loop-top.bench) (g.B.Bench.log c.compute.new.bench)) c.loop-top.invariant.0 c.in_ok-cause-in-Ready.ensures.computes) (sym c.is_some.ensures ∙ c.if-is_some.true) refl c.answered-then-is_some.ensures
+    let stack = c.loop-waiting.waiting.items in
+    let a = c.loop-waiting.invariant.1 in
+    faulted calc s c.args.object count0 log0 stack c.loop-waiting.top c.loop-waiting.store.kept c.loop-waiting.runs (g.B.Bench.count c.loop-waiting.bench) (g.B.Bench.log c.loop-waiting.bench) a c.in-Ready.inputs c.compute.new.store.kept c.in_ok-cause-in-Ready.cause (c.loop-waiting.runs + 1) (g.B.Bench.count c.compute.new.bench) (g.B.Bench.log c.compute.new.bench) c.args.mark c.answered-then-is_some.result (sym c.in_ok-cause.ensures.next ∙ c.in-Ready.is)
+    (subst (λ k. Computes k (market_of c.args.today c.args.objects.now) c.loop-waiting.top c.in-Ready.inputs c.loop-waiting.store.kept c.compute.new.store.kept c.in_ok-cause-in-Ready.cause (g.B.Bench.count c.loop-waiting.bench) (g.B.Bench.count c.compute.new.bench) (g.B.Bench.log c.loop-waiting.bench) (g.B.Bench.log c.compute.new.bench)) c.loop-waiting.invariant.0 c.in_ok-cause-in-Ready.ensures.computes) (sym c.is_some.ensures ∙ c.if-is_some.true) refl c.answered-then-is_some.ensures
 
-pub loop-top-smaller : goal.loop-top-smaller
-loop-top-smaller g c =
+pub loop-waiting-smaller : goal.loop-waiting-smaller
+loop-waiting-smaller g c =
     let calc = g.B.Bench.calc c.args.bench.now in
     let s = state_of c.args.today c.args.objects.now c.args.store.now.kept (registry_of c.args.store.now) in
     let count0 = g.B.Bench.count c.args.bench.now in
     let log0 = g.B.Bench.log c.args.bench.now in
-    let stack = c.pop.new.self.items in
-    let a = subst (λ (st : List ℕ). Asking calc s c.args.object count0 log0 st c.loop-top.store.kept c.loop-top.runs (g.B.Bench.count c.loop-top.bench) (g.B.Bench.log c.loop-top.bench)) c.in-Some.ensures.items c.loop-top.invariant.1 in
-    measure_value (open_of c.loop-top.store.kept) (open_of c.compute.new.store.kept) (length c.args.objects.now) (length c.loop-top.stack.items) (length stack) (valued calc s c.args.object count0 log0 stack c.in-Some.top c.loop-top.store.kept c.loop-top.runs (g.B.Bench.count c.loop-top.bench) (g.B.Bench.log c.loop-top.bench) a c.in-Ready.inputs c.compute.new.store.kept c.in_ok-cause-in-Ready.cause (c.loop-top.runs + 1) (g.B.Bench.count c.compute.new.bench) (g.B.Bench.log c.compute.new.bench) (sym c.in_ok-cause.ensures.next ∙ c.in-Ready.is)
-    (subst (λ k. Computes k (market_of c.args.today c.args.objects.now) c.in-Some.top c.in-Ready.inputs c.loop-top.store.kept c.compute.new.store.kept c.in_ok-cause-in-Ready.cause (g.B.Bench.count c.loop-top.bench) (g.B.Bench.count c.compute.new.bench) (g.B.Bench.log c.loop-top.bench) (g.B.Bench.log c.compute.new.bench)) c.loop-top.invariant.0 c.in_ok-cause-in-Ready.ensures.computes) (sym c.is_some.ensures ∙ c.if-is_some.false) refl).1
+    let stack = c.loop-waiting.waiting.items in
+    let a = c.loop-waiting.invariant.1 in
+    measure_value (open_of c.loop-waiting.store.kept) (open_of c.compute.new.store.kept) (length c.args.objects.now) (length stack + 1) (length c.pop.new.self.items + 1)
+    (valued calc s c.args.object count0 log0 stack c.loop-waiting.top c.loop-waiting.store.kept c.loop-waiting.runs (g.B.Bench.count c.loop-waiting.bench) (g.B.Bench.log c.loop-waiting.bench) a c.in-Ready.inputs c.compute.new.store.kept c.in_ok-cause-in-Ready.cause (c.loop-waiting.runs + 1) (g.B.Bench.count c.compute.new.bench) (g.B.Bench.log c.compute.new.bench) (sym c.in_ok-cause.ensures.next ∙ c.in-Ready.is)
+    (subst (λ k. Computes k (market_of c.args.today c.args.objects.now) c.loop-waiting.top c.in-Ready.inputs c.loop-waiting.store.kept c.compute.new.store.kept c.in_ok-cause-in-Ready.cause (g.B.Bench.count c.loop-waiting.bench) (g.B.Bench.count c.compute.new.bench) (g.B.Bench.log c.loop-waiting.bench) (g.B.Bench.log c.compute.new.bench)) c.loop-waiting.invariant.0 c.in_ok-cause-in-Ready.ensures.computes) (sym c.is_some.ensures ∙ c.if-is_some.false) refl).1
 
-pub loop-top-preserved : goal.loop-top-preserved
-loop-top-preserved g c =
+pub loop-waiting-preserved : goal.loop-waiting-preserved
+loop-waiting-preserved g c =
     let calc = g.B.Bench.calc c.args.bench.now in
     let s = state_of c.args.today c.args.objects.now c.args.store.now.kept (registry_of c.args.store.now) in
     let count0 = g.B.Bench.count c.args.bench.now in
     let log0 = g.B.Bench.log c.args.bench.now in
-    let stack = c.pop.new.self.items in
-    let a = subst (λ (st : List ℕ). Asking calc s c.args.object count0 log0 st c.loop-top.store.kept c.loop-top.runs (g.B.Bench.count c.loop-top.bench) (g.B.Bench.log c.loop-top.bench)) c.in-Some.ensures.items c.loop-top.invariant.1 in (
-      c.compute.ensures.same ∙ c.loop-top.invariant.0,
-      (valued calc s c.args.object count0 log0 stack c.in-Some.top c.loop-top.store.kept c.loop-top.runs (g.B.Bench.count c.loop-top.bench) (g.B.Bench.log c.loop-top.bench) a c.in-Ready.inputs c.compute.new.store.kept c.in_ok-cause-in-Ready.cause (c.loop-top.runs + 1) (g.B.Bench.count c.compute.new.bench) (g.B.Bench.log c.compute.new.bench) (sym c.in_ok-cause.ensures.next ∙ c.in-Ready.is)
-          (subst (λ k. Computes k (market_of c.args.today c.args.objects.now) c.in-Some.top c.in-Ready.inputs c.loop-top.store.kept c.compute.new.store.kept c.in_ok-cause-in-Ready.cause (g.B.Bench.count c.loop-top.bench) (g.B.Bench.count c.compute.new.bench) (g.B.Bench.log c.loop-top.bench) (g.B.Bench.log c.compute.new.bench)) c.loop-top.invariant.0 c.in_ok-cause-in-Ready.ensures.computes) (sym c.is_some.ensures ∙ c.if-is_some.false) refl).0,
+    let stack = c.loop-waiting.waiting.items in
+    let a = c.loop-waiting.invariant.1 in (
+      c.compute.ensures.same ∙ c.loop-waiting.invariant.0,
+      subst (λ (st : List ℕ). Asking (g.B.Bench.calc c.args.bench.now) (state_of c.args.today c.args.objects.now c.args.store.now.kept (registry_of c.args.store.now)) c.args.object (g.B.Bench.count c.args.bench.now) (g.B.Bench.log c.args.bench.now) st c.compute.new.store.kept (c.loop-waiting.runs + 1) (g.B.Bench.count c.compute.new.bench) (g.B.Bench.log c.compute.new.bench)) c.in-Some.ensures.items
+          (valued calc s c.args.object count0 log0 stack c.loop-waiting.top c.loop-waiting.store.kept c.loop-waiting.runs (g.B.Bench.count c.loop-waiting.bench) (g.B.Bench.log c.loop-waiting.bench) a c.in-Ready.inputs c.compute.new.store.kept c.in_ok-cause-in-Ready.cause (c.loop-waiting.runs + 1) (g.B.Bench.count c.compute.new.bench) (g.B.Bench.log c.compute.new.bench) (sym c.in_ok-cause.ensures.next ∙ c.in-Ready.is)
+          (subst (λ k. Computes k (market_of c.args.today c.args.objects.now) c.loop-waiting.top c.in-Ready.inputs c.loop-waiting.store.kept c.compute.new.store.kept c.in_ok-cause-in-Ready.cause (g.B.Bench.count c.loop-waiting.bench) (g.B.Bench.count c.compute.new.bench) (g.B.Bench.log c.loop-waiting.bench) (g.B.Bench.log c.compute.new.bench)) c.loop-waiting.invariant.0 c.in_ok-cause-in-Ready.ensures.computes) (sym c.is_some.ensures ∙ c.if-is_some.false) refl).0,
       c.in_ok-cause.ensures.remembers,
-      begun_valued calc c.args.today c.args.objects.now c.in-Some.top c.in-Ready.inputs c.loop-top.store.kept c.compute.new.store.kept c.next.new.scratch.positions c.in_ok-cause-in-Ready.cause (g.B.Bench.count c.loop-top.bench) (g.B.Bench.count c.compute.new.bench) (g.B.Bench.log c.loop-top.bench) (g.B.Bench.log c.compute.new.bench) c.in_ok-cause.ensures.begun
-          (top_within calc s c.args.object count0 log0 stack c.in-Some.top c.loop-top.store.kept c.loop-top.runs (g.B.Bench.count c.loop-top.bench) (g.B.Bench.log c.loop-top.bench) a) (top_lazy calc s c.args.object count0 log0 stack c.in-Some.top c.loop-top.store.kept c.loop-top.runs (g.B.Bench.count c.loop-top.bench) (g.B.Bench.log c.loop-top.bench) a)
-          (subst (λ k. Computes k (market_of c.args.today c.args.objects.now) c.in-Some.top c.in-Ready.inputs c.loop-top.store.kept c.compute.new.store.kept c.in_ok-cause-in-Ready.cause (g.B.Bench.count c.loop-top.bench) (g.B.Bench.count c.compute.new.bench) (g.B.Bench.log c.loop-top.bench) (g.B.Bench.log c.compute.new.bench)) c.loop-top.invariant.0 c.in_ok-cause-in-Ready.ensures.computes) (sym c.is_some.ensures ∙ c.if-is_some.false),
-      c.compute.ensures.shape ∙ c.loop-top.invariant.4,
-      c.compute.ensures.registry ∙ c.loop-top.invariant.5,
+      begun_valued calc c.args.today c.args.objects.now c.loop-waiting.top c.in-Ready.inputs c.loop-waiting.store.kept c.compute.new.store.kept c.next.new.scratch.positions c.in_ok-cause-in-Ready.cause (g.B.Bench.count c.loop-waiting.bench) (g.B.Bench.count c.compute.new.bench) (g.B.Bench.log c.loop-waiting.bench) (g.B.Bench.log c.compute.new.bench) c.in_ok-cause.ensures.begun
+          (top_within calc s c.args.object count0 log0 stack c.loop-waiting.top c.loop-waiting.store.kept c.loop-waiting.runs (g.B.Bench.count c.loop-waiting.bench) (g.B.Bench.log c.loop-waiting.bench) a) (top_lazy calc s c.args.object count0 log0 stack c.loop-waiting.top c.loop-waiting.store.kept c.loop-waiting.runs (g.B.Bench.count c.loop-waiting.bench) (g.B.Bench.log c.loop-waiting.bench) a)
+          (subst (λ k. Computes k (market_of c.args.today c.args.objects.now) c.loop-waiting.top c.in-Ready.inputs c.loop-waiting.store.kept c.compute.new.store.kept c.in_ok-cause-in-Ready.cause (g.B.Bench.count c.loop-waiting.bench) (g.B.Bench.count c.compute.new.bench) (g.B.Bench.log c.loop-waiting.bench) (g.B.Bench.log c.compute.new.bench)) c.loop-waiting.invariant.0 c.in_ok-cause-in-Ready.ensures.computes) (sym c.is_some.ensures ∙ c.if-is_some.false),
+      c.compute.ensures.shape ∙ c.loop-waiting.invariant.4,
+      c.compute.ensures.registry ∙ c.loop-waiting.invariant.5,
     )
 
-pub returns-clause-same : goal.returns-clause-same
-returns-clause-same g c = c.loop-top.invariant.0
+pub returns-in-None-clause-same : goal.returns-in-None-clause-same
+returns-in-None-clause-same g c = c.compute.ensures.same ∙ c.loop-waiting.invariant.0
 
-pub returns-clause-walks : goal.returns-clause-walks
-returns-clause-walks g c =
+pub returns-in-None-clause-walks : goal.returns-in-None-clause-walks
+returns-in-None-clause-walks g c =
     let calc = g.B.Bench.calc c.args.bench.now in
     let s = state_of c.args.today c.args.objects.now c.args.store.now.kept (registry_of c.args.store.now) in
-    ends calc s c.args.object (g.B.Bench.count c.args.bench.now) (g.B.Bench.log c.args.bench.now) c.loop-top.store.kept c.loop-top.runs (g.B.Bench.count c.loop-top.bench) (g.B.Bench.log c.loop-top.bench) c.args.mark c.answered-2.result
-    (subst (λ (st : List ℕ). Asking calc s c.args.object (g.B.Bench.count c.args.bench.now) (g.B.Bench.log c.args.bench.now) st c.loop-top.store.kept c.loop-top.runs (g.B.Bench.count c.loop-top.bench) (g.B.Bench.log c.loop-top.bench))
-    (c.in_default.ensures.items ∙ ap (λ (l : List ℕ). l ++ []) (c.in_default.ensures.rest ∙ ap (λ (n : ℕ). take (n - 1) c.loop-top.stack.items) c.in_default.ensures.cases.0)) c.loop-top.invariant.1)
-    c.answered-2.ensures
+    let count0 = g.B.Bench.count c.args.bench.now in
+    let log0 = g.B.Bench.log c.args.bench.now in
+    let stack = c.loop-waiting.waiting.items in
+    let a = c.loop-waiting.invariant.1 in
+    ends calc s c.args.object count0 log0 c.compute.new.store.kept (c.loop-waiting.runs + 1) (g.B.Bench.count c.compute.new.bench) (g.B.Bench.log c.compute.new.bench) c.args.mark c.answered-in-None.result
+    (subst (λ (st : List ℕ). Asking (g.B.Bench.calc c.args.bench.now) (state_of c.args.today c.args.objects.now c.args.store.now.kept (registry_of c.args.store.now)) c.args.object (g.B.Bench.count c.args.bench.now) (g.B.Bench.log c.args.bench.now) st c.compute.new.store.kept (c.loop-waiting.runs + 1) (g.B.Bench.count c.compute.new.bench) (g.B.Bench.log c.compute.new.bench))
+    (c.in-None.ensures.items ∙ ap (λ (l : List ℕ). l ++ []) (c.in-None.ensures.rest ∙ ap (λ (n : ℕ). take (n - 1) stack) c.in-None.ensures.cases.0))
+    (valued calc s c.args.object count0 log0 stack c.loop-waiting.top c.loop-waiting.store.kept c.loop-waiting.runs (g.B.Bench.count c.loop-waiting.bench) (g.B.Bench.log c.loop-waiting.bench) a c.in-Ready.inputs c.compute.new.store.kept c.in_ok-cause-in-Ready.cause (c.loop-waiting.runs + 1) (g.B.Bench.count c.compute.new.bench) (g.B.Bench.log c.compute.new.bench) (sym c.in_ok-cause.ensures.next ∙ c.in-Ready.is)
+    (subst (λ k. Computes k (market_of c.args.today c.args.objects.now) c.loop-waiting.top c.in-Ready.inputs c.loop-waiting.store.kept c.compute.new.store.kept c.in_ok-cause-in-Ready.cause (g.B.Bench.count c.loop-waiting.bench) (g.B.Bench.count c.compute.new.bench) (g.B.Bench.log c.loop-waiting.bench) (g.B.Bench.log c.compute.new.bench)) c.loop-waiting.invariant.0 c.in_ok-cause-in-Ready.ensures.computes) (sym c.is_some.ensures ∙ c.if-is_some.false) refl).0)
+    c.answered-in-None.ensures
+
+pub returns-in-None-clause-begun : goal.returns-in-None-clause-begun
+returns-in-None-clause-begun g c =
+    let calc = g.B.Bench.calc c.args.bench.now in
+    let s = state_of c.args.today c.args.objects.now c.args.store.now.kept (registry_of c.args.store.now) in
+    let count0 = g.B.Bench.count c.args.bench.now in
+    let log0 = g.B.Bench.log c.args.bench.now in
+    let stack = c.loop-waiting.waiting.items in
+    let a = c.loop-waiting.invariant.1 in
+    begun_valued calc c.args.today c.args.objects.now c.loop-waiting.top c.in-Ready.inputs c.loop-waiting.store.kept c.compute.new.store.kept c.next.new.scratch.positions c.in_ok-cause-in-Ready.cause (g.B.Bench.count c.loop-waiting.bench) (g.B.Bench.count c.compute.new.bench) (g.B.Bench.log c.loop-waiting.bench) (g.B.Bench.log c.compute.new.bench) c.in_ok-cause.ensures.begun
+    (top_within calc s c.args.object count0 log0 stack c.loop-waiting.top c.loop-waiting.store.kept c.loop-waiting.runs (g.B.Bench.count c.loop-waiting.bench) (g.B.Bench.log c.loop-waiting.bench) a) (top_lazy calc s c.args.object count0 log0 stack c.loop-waiting.top c.loop-waiting.store.kept c.loop-waiting.runs (g.B.Bench.count c.loop-waiting.bench) (g.B.Bench.log c.loop-waiting.bench) a)
+    (subst (λ k. Computes k (market_of c.args.today c.args.objects.now) c.loop-waiting.top c.in-Ready.inputs c.loop-waiting.store.kept c.compute.new.store.kept c.in_ok-cause-in-Ready.cause (g.B.Bench.count c.loop-waiting.bench) (g.B.Bench.count c.compute.new.bench) (g.B.Bench.log c.loop-waiting.bench) (g.B.Bench.log c.compute.new.bench)) c.loop-waiting.invariant.0 c.in_ok-cause-in-Ready.ensures.computes) (sym c.is_some.ensures ∙ c.if-is_some.false)
 
 pub next-requires-clause-linked : goal.next-requires-clause-linked
-next-requires-clause-linked g c = c.loop-top.invariant.1.may.whole.links
+next-requires-clause-linked g c = c.loop-waiting.invariant.1.may.whole.links
 
 pub returns-in_err-cause-clause-stays : goal.returns-in_err-cause-clause-stays
-returns-in_err-cause-clause-stays g c = left (g.B.Bench.calc c.args.bench.now) (state_of c.args.today c.args.objects.now c.args.store.now.kept (registry_of c.args.store.now)) c.args.object (g.B.Bench.count c.args.bench.now) (g.B.Bench.log c.args.bench.now) c.loop-top.stack.items c.loop-top.store.kept c.loop-top.runs (g.B.Bench.count c.loop-top.bench) (g.B.Bench.log c.loop-top.bench) c.loop-top.invariant.1
+returns-in_err-cause-clause-stays g c = left (g.B.Bench.calc c.args.bench.now) (state_of c.args.today c.args.objects.now c.args.store.now.kept (registry_of c.args.store.now)) c.args.object (g.B.Bench.count c.args.bench.now) (g.B.Bench.log c.args.bench.now) (c.loop-waiting.waiting.items ++ c.loop-waiting.top ∷ []) c.loop-waiting.store.kept c.loop-waiting.runs (g.B.Bench.count c.loop-waiting.bench) (g.B.Bench.log c.loop-waiting.bench) c.loop-waiting.invariant.1
 
 pub returns-in-Stops-clause-stays : goal.returns-in-Stops-clause-stays
-returns-in-Stops-clause-stays g c = left (g.B.Bench.calc c.args.bench.now) (state_of c.args.today c.args.objects.now c.args.store.now.kept (registry_of c.args.store.now)) c.args.object (g.B.Bench.count c.args.bench.now) (g.B.Bench.log c.args.bench.now) c.loop-top.stack.items c.loop-top.store.kept c.loop-top.runs (g.B.Bench.count c.loop-top.bench) (g.B.Bench.log c.loop-top.bench) c.loop-top.invariant.1
+returns-in-Stops-clause-stays g c = left (g.B.Bench.calc c.args.bench.now) (state_of c.args.today c.args.objects.now c.args.store.now.kept (registry_of c.args.store.now)) c.args.object (g.B.Bench.count c.args.bench.now) (g.B.Bench.log c.args.bench.now) (c.loop-waiting.waiting.items ++ c.loop-waiting.top ∷ []) c.loop-waiting.store.kept c.loop-waiting.runs (g.B.Bench.count c.loop-waiting.bench) (g.B.Bench.log c.loop-waiting.bench) c.loop-waiting.invariant.1
 
-pub returns-in_err-push-in-First-2-clause-stays : goal.returns-in_err-push-in-First-2-clause-stays
-returns-in_err-push-in-First-2-clause-stays g c = left (g.B.Bench.calc c.args.bench.now) (state_of c.args.today c.args.objects.now c.args.store.now.kept (registry_of c.args.store.now)) c.args.object (g.B.Bench.count c.args.bench.now) (g.B.Bench.log c.args.bench.now) c.loop-top.stack.items c.loop-top.store.kept c.loop-top.runs (g.B.Bench.count c.loop-top.bench) (g.B.Bench.log c.loop-top.bench) c.loop-top.invariant.1
+pub returns-in_err-push-in-First-clause-stays : goal.returns-in_err-push-in-First-clause-stays
+returns-in_err-push-in-First-clause-stays g c = left (g.B.Bench.calc c.args.bench.now) (state_of c.args.today c.args.objects.now c.args.store.now.kept (registry_of c.args.store.now)) c.args.object (g.B.Bench.count c.args.bench.now) (g.B.Bench.log c.args.bench.now) (c.loop-waiting.waiting.items ++ c.loop-waiting.top ∷ []) c.loop-waiting.store.kept c.loop-waiting.runs (g.B.Bench.count c.loop-waiting.bench) (g.B.Bench.log c.loop-waiting.bench) c.loop-waiting.invariant.1
 
-pub returns-clause-stays : goal.returns-clause-stays
-returns-clause-stays g c = left (g.B.Bench.calc c.args.bench.now) (state_of c.args.today c.args.objects.now c.args.store.now.kept (registry_of c.args.store.now)) c.args.object (g.B.Bench.count c.args.bench.now) (g.B.Bench.log c.args.bench.now) c.loop-top.stack.items c.loop-top.store.kept c.loop-top.runs (g.B.Bench.count c.loop-top.bench) (g.B.Bench.log c.loop-top.bench) c.loop-top.invariant.1
+pub returns-in-None-clause-stays : goal.returns-in-None-clause-stays
+returns-in-None-clause-stays g c =
+    let calc = g.B.Bench.calc c.args.bench.now in
+    let s = state_of c.args.today c.args.objects.now c.args.store.now.kept (registry_of c.args.store.now) in
+    let count0 = g.B.Bench.count c.args.bench.now in
+    let log0 = g.B.Bench.log c.args.bench.now in
+    let stack = c.loop-waiting.waiting.items in
+    let a = c.loop-waiting.invariant.1 in
+    left calc s c.args.object count0 log0 stack c.compute.new.store.kept (c.loop-waiting.runs + 1) (g.B.Bench.count c.compute.new.bench) (g.B.Bench.log c.compute.new.bench)
+    (valued calc s c.args.object count0 log0 stack c.loop-waiting.top c.loop-waiting.store.kept c.loop-waiting.runs (g.B.Bench.count c.loop-waiting.bench) (g.B.Bench.log c.loop-waiting.bench) a c.in-Ready.inputs c.compute.new.store.kept c.in_ok-cause-in-Ready.cause (c.loop-waiting.runs + 1) (g.B.Bench.count c.compute.new.bench) (g.B.Bench.log c.compute.new.bench) (sym c.in_ok-cause.ensures.next ∙ c.in-Ready.is)
+    (subst (λ k. Computes k (market_of c.args.today c.args.objects.now) c.loop-waiting.top c.in-Ready.inputs c.loop-waiting.store.kept c.compute.new.store.kept c.in_ok-cause-in-Ready.cause (g.B.Bench.count c.loop-waiting.bench) (g.B.Bench.count c.compute.new.bench) (g.B.Bench.log c.loop-waiting.bench) (g.B.Bench.log c.compute.new.bench)) c.loop-waiting.invariant.0 c.in_ok-cause-in-Ready.ensures.computes) (sym c.is_some.ensures ∙ c.if-is_some.false) refl).0
 
 pub returns-in_err-cause-in-Ready-clause-stays : goal.returns-in_err-cause-in-Ready-clause-stays
-returns-in_err-cause-in-Ready-clause-stays g c = subst (λ (k : List Kept). Stays (g.B.Bench.calc c.args.bench.now) (state_of c.args.today c.args.objects.now k (registry_of c.args.store.now))) (sym c.in_err-cause-in-Ready.ensures.err.0) (left (g.B.Bench.calc c.args.bench.now) (state_of c.args.today c.args.objects.now c.args.store.now.kept (registry_of c.args.store.now)) c.args.object (g.B.Bench.count c.args.bench.now) (g.B.Bench.log c.args.bench.now) c.loop-top.stack.items c.loop-top.store.kept c.loop-top.runs (g.B.Bench.count c.loop-top.bench) (g.B.Bench.log c.loop-top.bench) c.loop-top.invariant.1)
+returns-in_err-cause-in-Ready-clause-stays g c = subst (λ (k : List Kept). Stays (g.B.Bench.calc c.args.bench.now) (state_of c.args.today c.args.objects.now k (registry_of c.args.store.now))) (sym c.in_err-cause-in-Ready.ensures.err.0) (left (g.B.Bench.calc c.args.bench.now) (state_of c.args.today c.args.objects.now c.args.store.now.kept (registry_of c.args.store.now)) c.args.object (g.B.Bench.count c.args.bench.now) (g.B.Bench.log c.args.bench.now) (c.loop-waiting.waiting.items ++ c.loop-waiting.top ∷ []) c.loop-waiting.store.kept c.loop-waiting.runs (g.B.Bench.count c.loop-waiting.bench) (g.B.Bench.log c.loop-waiting.bench) c.loop-waiting.invariant.1)
 
 pub returns-then-is_some-clause-stays : goal.returns-then-is_some-clause-stays
 returns-then-is_some-clause-stays g c =
@@ -168,17 +207,17 @@ returns-then-is_some-clause-stays g c =
     let s = state_of c.args.today c.args.objects.now c.args.store.now.kept (registry_of c.args.store.now) in
     let count0 = g.B.Bench.count c.args.bench.now in
     let log0 = g.B.Bench.log c.args.bench.now in
-    let stack = c.pop.new.self.items in
-    let a = subst (λ (st : List ℕ). Asking calc s c.args.object count0 log0 st c.loop-top.store.kept c.loop-top.runs (g.B.Bench.count c.loop-top.bench) (g.B.Bench.log c.loop-top.bench)) c.in-Some.ensures.items c.loop-top.invariant.1 in
-    left_refused calc s c.in-Some.top c.in-Ready.inputs c.loop-top.store.kept c.compute.new.store.kept c.in_ok-cause-in-Ready.cause (g.B.Bench.count c.loop-top.bench) (g.B.Bench.count c.compute.new.bench) (g.B.Bench.log c.loop-top.bench) (g.B.Bench.log c.compute.new.bench)
-    (left (g.B.Bench.calc c.args.bench.now) (state_of c.args.today c.args.objects.now c.args.store.now.kept (registry_of c.args.store.now)) c.args.object (g.B.Bench.count c.args.bench.now) (g.B.Bench.log c.args.bench.now) c.loop-top.stack.items c.loop-top.store.kept c.loop-top.runs (g.B.Bench.count c.loop-top.bench) (g.B.Bench.log c.loop-top.bench) c.loop-top.invariant.1) (top_lazy calc s c.args.object count0 log0 stack c.in-Some.top c.loop-top.store.kept c.loop-top.runs (g.B.Bench.count c.loop-top.bench) (g.B.Bench.log c.loop-top.bench) a)
-    (subst (λ k. Computes k (market_of c.args.today c.args.objects.now) c.in-Some.top c.in-Ready.inputs c.loop-top.store.kept c.compute.new.store.kept c.in_ok-cause-in-Ready.cause (g.B.Bench.count c.loop-top.bench) (g.B.Bench.count c.compute.new.bench) (g.B.Bench.log c.loop-top.bench) (g.B.Bench.log c.compute.new.bench)) c.loop-top.invariant.0 c.in_ok-cause-in-Ready.ensures.computes) (sym c.is_some.ensures ∙ c.if-is_some.true)
+    let stack = c.loop-waiting.waiting.items in
+    let a = c.loop-waiting.invariant.1 in
+    left_refused calc s c.loop-waiting.top c.in-Ready.inputs c.loop-waiting.store.kept c.compute.new.store.kept c.in_ok-cause-in-Ready.cause (g.B.Bench.count c.loop-waiting.bench) (g.B.Bench.count c.compute.new.bench) (g.B.Bench.log c.loop-waiting.bench) (g.B.Bench.log c.compute.new.bench)
+    (left (g.B.Bench.calc c.args.bench.now) (state_of c.args.today c.args.objects.now c.args.store.now.kept (registry_of c.args.store.now)) c.args.object (g.B.Bench.count c.args.bench.now) (g.B.Bench.log c.args.bench.now) (c.loop-waiting.waiting.items ++ c.loop-waiting.top ∷ []) c.loop-waiting.store.kept c.loop-waiting.runs (g.B.Bench.count c.loop-waiting.bench) (g.B.Bench.log c.loop-waiting.bench) c.loop-waiting.invariant.1) (top_lazy calc s c.args.object count0 log0 stack c.loop-waiting.top c.loop-waiting.store.kept c.loop-waiting.runs (g.B.Bench.count c.loop-waiting.bench) (g.B.Bench.log c.loop-waiting.bench) a)
+    (subst (λ k. Computes k (market_of c.args.today c.args.objects.now) c.loop-waiting.top c.in-Ready.inputs c.loop-waiting.store.kept c.compute.new.store.kept c.in_ok-cause-in-Ready.cause (g.B.Bench.count c.loop-waiting.bench) (g.B.Bench.count c.compute.new.bench) (g.B.Bench.log c.loop-waiting.bench) (g.B.Bench.log c.compute.new.bench)) c.loop-waiting.invariant.0 c.in_ok-cause-in-Ready.ensures.computes) (sym c.is_some.ensures ∙ c.if-is_some.true)
 
 pub returns-in_err-cause-clause-stops : goal.returns-in_err-cause-clause-stops
-returns-in_err-cause-clause-stops g c = on_err _ (stopped (g.B.Bench.calc c.args.bench.now) (state_of c.args.today c.args.objects.now c.args.store.now.kept (registry_of c.args.store.now)) c.args.object (g.B.Bench.count c.args.bench.now) (g.B.Bench.log c.args.bench.now) c.loop-top.stack.items c.loop-top.store.kept c.loop-top.runs (g.B.Bench.count c.loop-top.bench) (g.B.Bench.log c.loop-top.bench) c.loop-top.invariant.1)
+returns-in_err-cause-clause-stops g c = on_err _ (stopped (g.B.Bench.calc c.args.bench.now) (state_of c.args.today c.args.objects.now c.args.store.now.kept (registry_of c.args.store.now)) c.args.object (g.B.Bench.count c.args.bench.now) (g.B.Bench.log c.args.bench.now) (c.loop-waiting.waiting.items ++ c.loop-waiting.top ∷ []) c.loop-waiting.store.kept c.loop-waiting.runs (g.B.Bench.count c.loop-waiting.bench) (g.B.Bench.log c.loop-waiting.bench) c.loop-waiting.invariant.1)
 
-pub returns-in_err-push-in-First-2-clause-stops : goal.returns-in_err-push-in-First-2-clause-stops
-returns-in_err-push-in-First-2-clause-stops g c = on_err _ (stopped (g.B.Bench.calc c.args.bench.now) (state_of c.args.today c.args.objects.now c.args.store.now.kept (registry_of c.args.store.now)) c.args.object (g.B.Bench.count c.args.bench.now) (g.B.Bench.log c.args.bench.now) c.loop-top.stack.items c.loop-top.store.kept c.loop-top.runs (g.B.Bench.count c.loop-top.bench) (g.B.Bench.log c.loop-top.bench) c.loop-top.invariant.1)
+pub returns-in_err-push-in-First-clause-stops : goal.returns-in_err-push-in-First-clause-stops
+returns-in_err-push-in-First-clause-stops g c = on_err _ (stopped (g.B.Bench.calc c.args.bench.now) (state_of c.args.today c.args.objects.now c.args.store.now.kept (registry_of c.args.store.now)) c.args.object (g.B.Bench.count c.args.bench.now) (g.B.Bench.log c.args.bench.now) (c.loop-waiting.waiting.items ++ c.loop-waiting.top ∷ []) c.loop-waiting.store.kept c.loop-waiting.runs (g.B.Bench.count c.loop-waiting.bench) (g.B.Bench.log c.loop-waiting.bench) c.loop-waiting.invariant.1)
 
 pub returns-in_err-cause-in-Ready-clause-stops : goal.returns-in_err-cause-in-Ready-clause-stops
 returns-in_err-cause-in-Ready-clause-stops g c =
@@ -186,15 +225,11 @@ returns-in_err-cause-in-Ready-clause-stops g c =
     let s = state_of c.args.today c.args.objects.now c.args.store.now.kept (registry_of c.args.store.now) in
     let count0 = g.B.Bench.count c.args.bench.now in
     let log0 = g.B.Bench.log c.args.bench.now in
-    let stack = c.pop.new.self.items in
-    let a = subst (λ (st : List ℕ). Asking calc s c.args.object count0 log0 st c.loop-top.store.kept c.loop-top.runs (g.B.Bench.count c.loop-top.bench) (g.B.Bench.log c.loop-top.bench)) c.in-Some.ensures.items c.loop-top.invariant.1 in
-    let t = lazy_terms (terms_at (market_of c.args.today c.args.objects.now) c.in-Some.top) (top_lazy calc s c.args.object count0 log0 stack c.in-Some.top c.loop-top.store.kept c.loop-top.runs (g.B.Bench.count c.loop-top.bench) (g.B.Bench.log c.loop-top.bench) a) in
-    on_err _ (stopped_in_bench calc s c.args.object count0 log0 stack c.in-Some.top c.loop-top.store.kept c.loop-top.runs (g.B.Bench.count c.loop-top.bench) (g.B.Bench.log c.loop-top.bench) a c.in-Ready.inputs t.0 c.compute.new.store.kept (g.B.Bench.count c.compute.new.bench) (g.B.Bench.log c.compute.new.bench)
+    let stack = c.loop-waiting.waiting.items in
+    let a = c.loop-waiting.invariant.1 in
+    let t = lazy_terms (terms_at (market_of c.args.today c.args.objects.now) c.loop-waiting.top) (top_lazy calc s c.args.object count0 log0 stack c.loop-waiting.top c.loop-waiting.store.kept c.loop-waiting.runs (g.B.Bench.count c.loop-waiting.bench) (g.B.Bench.log c.loop-waiting.bench) a) in
+    on_err _ (stopped_in_bench calc s c.args.object count0 log0 stack c.loop-waiting.top c.loop-waiting.store.kept c.loop-waiting.runs (g.B.Bench.count c.loop-waiting.bench) (g.B.Bench.log c.loop-waiting.bench) a c.in-Ready.inputs t.0 c.compute.new.store.kept (g.B.Bench.count c.compute.new.bench) (g.B.Bench.log c.compute.new.bench)
     (sym c.in_ok-cause.ensures.next ∙ c.in-Ready.is) t.1 c.in_err-cause-in-Ready.ensures.err.0 c.in_err-cause-in-Ready.ensures.err.1 c.in_err-cause-in-Ready.ensures.err.2)
-
-pub returns-in_err-push-clause-stops : goal.returns-in_err-push-clause-stops
-returns-in_err-push-clause-stops g c = on_err _ (stopped (g.B.Bench.calc c.args.bench.now) (state_of c.args.today c.args.objects.now c.args.store.now.kept (registry_of c.args.store.now)) c.args.object (g.B.Bench.count c.args.bench.now) (g.B.Bench.log c.args.bench.now) (c.args.object ∷ []) c.args.store.now.kept 0 (g.B.Bench.count c.args.bench.now) (g.B.Bench.log c.args.bench.now)
-    (begins (g.B.Bench.calc c.args.bench.now) (state_of c.args.today c.args.objects.now c.args.store.now.kept (registry_of c.args.store.now)) c.args.object (g.B.Bench.count c.args.bench.now) (g.B.Bench.log c.args.bench.now) c.requires.may c.requires.free c.requires.stale))
 
 pub compute-requires-clause-role : goal.compute-requires-clause-role
 compute-requires-clause-role g c =
@@ -202,28 +237,28 @@ compute-requires-clause-role g c =
     let s = state_of c.args.today c.args.objects.now c.args.store.now.kept (registry_of c.args.store.now) in
     let count0 = g.B.Bench.count c.args.bench.now in
     let log0 = g.B.Bench.log c.args.bench.now in
-    let stack = c.pop.new.self.items in
-    let a = subst (λ (st : List ℕ). Asking calc s c.args.object count0 log0 st c.loop-top.store.kept c.loop-top.runs (g.B.Bench.count c.loop-top.bench) (g.B.Bench.log c.loop-top.bench)) c.in-Some.ensures.items c.loop-top.invariant.1 in
-    ap (λ (h : Shape). role_at h c.in-Some.top) c.loop-top.invariant.4
-    ∙ lazy_there (market_of c.args.today c.args.objects.now) c.args.store.now.shape c.requires.joined c.in-Some.top (top_lazy calc s c.args.object count0 log0 stack c.in-Some.top c.loop-top.store.kept c.loop-top.runs (g.B.Bench.count c.loop-top.bench) (g.B.Bench.log c.loop-top.bench) a)
+    let stack = c.loop-waiting.waiting.items in
+    let a = c.loop-waiting.invariant.1 in
+    ap (λ (h : Shape). role_at h c.loop-waiting.top) c.loop-waiting.invariant.4
+    ∙ lazy_there (market_of c.args.today c.args.objects.now) c.args.store.now.shape c.requires.joined c.loop-waiting.top (top_lazy calc s c.args.object count0 log0 stack c.loop-waiting.top c.loop-waiting.store.kept c.loop-waiting.runs (g.B.Bench.count c.loop-waiting.bench) (g.B.Bench.log c.loop-waiting.bench) a)
 
 pub returns-in_err-cause-clause-shape : goal.returns-in_err-cause-clause-shape
-returns-in_err-cause-clause-shape g c = c.loop-top.invariant.4
+returns-in_err-cause-clause-shape g c = c.loop-waiting.invariant.4
 
 pub returns-in-Stops-clause-shape : goal.returns-in-Stops-clause-shape
-returns-in-Stops-clause-shape g c = c.loop-top.invariant.4
+returns-in-Stops-clause-shape g c = c.loop-waiting.invariant.4
 
-pub returns-in_err-push-in-First-2-clause-shape : goal.returns-in_err-push-in-First-2-clause-shape
-returns-in_err-push-in-First-2-clause-shape g c = c.loop-top.invariant.4
+pub returns-in_err-push-in-First-clause-shape : goal.returns-in_err-push-in-First-clause-shape
+returns-in_err-push-in-First-clause-shape g c = c.loop-waiting.invariant.4
 
 pub returns-in_err-cause-in-Ready-clause-shape : goal.returns-in_err-cause-in-Ready-clause-shape
-returns-in_err-cause-in-Ready-clause-shape g c = c.compute.ensures.shape ∙ c.loop-top.invariant.4
+returns-in_err-cause-in-Ready-clause-shape g c = c.compute.ensures.shape ∙ c.loop-waiting.invariant.4
 
 pub returns-then-is_some-clause-shape : goal.returns-then-is_some-clause-shape
-returns-then-is_some-clause-shape g c = c.compute.ensures.shape ∙ c.loop-top.invariant.4
+returns-then-is_some-clause-shape g c = c.compute.ensures.shape ∙ c.loop-waiting.invariant.4
 
-pub returns-clause-shape : goal.returns-clause-shape
-returns-clause-shape g c = c.loop-top.invariant.4
+pub returns-in-None-clause-shape : goal.returns-in-None-clause-shape
+returns-in-None-clause-shape g c = c.compute.ensures.shape ∙ c.loop-waiting.invariant.4
 
 pub overflow_add-runs : goal.overflow_add-runs
 overflow_add-runs g c =
@@ -231,13 +266,13 @@ overflow_add-runs g c =
     let s = state_of c.args.today c.args.objects.now c.args.store.now.kept (registry_of c.args.store.now) in
     let count0 = g.B.Bench.count c.args.bench.now in
     let log0 = g.B.Bench.log c.args.bench.now in
-    let stack = c.pop.new.self.items in
-    let a = subst (λ (st : List ℕ). Asking calc s c.args.object count0 log0 st c.loop-top.store.kept c.loop-top.runs (g.B.Bench.count c.loop-top.bench) (g.B.Bench.log c.loop-top.bench)) c.in-Some.ensures.items c.loop-top.invariant.1 in
-    let f = few calc s c.args.object count0 log0 (stack ++ c.in-Some.top ∷ []) c.loop-top.store.kept c.loop-top.runs (g.B.Bench.count c.loop-top.bench) (g.B.Bench.log c.loop-top.bench) a in
+    let stack = c.loop-waiting.waiting.items in
+    let a = c.loop-waiting.invariant.1 in
+    let f = few calc s c.args.object count0 log0 (stack ++ c.loop-waiting.top ∷ []) c.loop-waiting.store.kept c.loop-waiting.runs (g.B.Bench.count c.loop-waiting.bench) (g.B.Bench.log c.loop-waiting.bench) a in
     omega (arith, f)
 
 pub next-requires-clause-kinds : goal.next-requires-clause-kinds
-next-requires-clause-kinds g c = c.loop-top.invariant.1.may.kinds
+next-requires-clause-kinds g c = c.loop-waiting.invariant.1.may.kinds
 
 pub returns-then-is_some-clause-begun : goal.returns-then-is_some-clause-begun
 returns-then-is_some-clause-begun g c =
@@ -245,41 +280,49 @@ returns-then-is_some-clause-begun g c =
     let s = state_of c.args.today c.args.objects.now c.args.store.now.kept (registry_of c.args.store.now) in
     let count0 = g.B.Bench.count c.args.bench.now in
     let log0 = g.B.Bench.log c.args.bench.now in
-    let stack = c.pop.new.self.items in
-    let a = subst (λ (st : List ℕ). Asking calc s c.args.object count0 log0 st c.loop-top.store.kept c.loop-top.runs (g.B.Bench.count c.loop-top.bench) (g.B.Bench.log c.loop-top.bench)) c.in-Some.ensures.items c.loop-top.invariant.1 in
-    begun_refused calc c.args.today c.args.objects.now c.in-Some.top c.in-Ready.inputs c.loop-top.store.kept c.compute.new.store.kept c.next.new.scratch.positions c.in_ok-cause-in-Ready.cause (g.B.Bench.count c.loop-top.bench) (g.B.Bench.count c.compute.new.bench) (g.B.Bench.log c.loop-top.bench) (g.B.Bench.log c.compute.new.bench) c.in_ok-cause.ensures.begun
-    (top_lazy calc s c.args.object count0 log0 stack c.in-Some.top c.loop-top.store.kept c.loop-top.runs (g.B.Bench.count c.loop-top.bench) (g.B.Bench.log c.loop-top.bench) a)
-    (subst (λ k. Computes k (market_of c.args.today c.args.objects.now) c.in-Some.top c.in-Ready.inputs c.loop-top.store.kept c.compute.new.store.kept c.in_ok-cause-in-Ready.cause (g.B.Bench.count c.loop-top.bench) (g.B.Bench.count c.compute.new.bench) (g.B.Bench.log c.loop-top.bench) (g.B.Bench.log c.compute.new.bench)) c.loop-top.invariant.0 c.in_ok-cause-in-Ready.ensures.computes) (sym c.is_some.ensures ∙ c.if-is_some.true)
+    let stack = c.loop-waiting.waiting.items in
+    let a = c.loop-waiting.invariant.1 in
+    begun_refused calc c.args.today c.args.objects.now c.loop-waiting.top c.in-Ready.inputs c.loop-waiting.store.kept c.compute.new.store.kept c.next.new.scratch.positions c.in_ok-cause-in-Ready.cause (g.B.Bench.count c.loop-waiting.bench) (g.B.Bench.count c.compute.new.bench) (g.B.Bench.log c.loop-waiting.bench) (g.B.Bench.log c.compute.new.bench) c.in_ok-cause.ensures.begun
+    (top_lazy calc s c.args.object count0 log0 stack c.loop-waiting.top c.loop-waiting.store.kept c.loop-waiting.runs (g.B.Bench.count c.loop-waiting.bench) (g.B.Bench.log c.loop-waiting.bench) a)
+    (subst (λ k. Computes k (market_of c.args.today c.args.objects.now) c.loop-waiting.top c.in-Ready.inputs c.loop-waiting.store.kept c.compute.new.store.kept c.in_ok-cause-in-Ready.cause (g.B.Bench.count c.loop-waiting.bench) (g.B.Bench.count c.compute.new.bench) (g.B.Bench.log c.loop-waiting.bench) (g.B.Bench.log c.compute.new.bench)) c.loop-waiting.invariant.0 c.in_ok-cause-in-Ready.ensures.computes) (sym c.is_some.ensures ∙ c.if-is_some.true)
 
 pub returns-in-Stops-clause-few : goal.returns-in-Stops-clause-few
 returns-in-Stops-clause-few g c =
-    let f = few (g.B.Bench.calc c.args.bench.now) (state_of c.args.today c.args.objects.now c.args.store.now.kept (registry_of c.args.store.now)) c.args.object (g.B.Bench.count c.args.bench.now) (g.B.Bench.log c.args.bench.now) c.loop-top.stack.items c.loop-top.store.kept c.loop-top.runs (g.B.Bench.count c.loop-top.bench) (g.B.Bench.log c.loop-top.bench) c.loop-top.invariant.1 in
+    let f = few (g.B.Bench.calc c.args.bench.now) (state_of c.args.today c.args.objects.now c.args.store.now.kept (registry_of c.args.store.now)) c.args.object (g.B.Bench.count c.args.bench.now) (g.B.Bench.log c.args.bench.now) (c.loop-waiting.waiting.items ++ c.loop-waiting.top ∷ []) c.loop-waiting.store.kept c.loop-waiting.runs (g.B.Bench.count c.loop-waiting.bench) (g.B.Bench.log c.loop-waiting.bench) c.loop-waiting.invariant.1 in
     let said = ap (λ (a : Asked). a.runs) c.answered.ensures in omega (arith, f, said)
 
 pub returns-then-is_some-clause-few : goal.returns-then-is_some-clause-few
 returns-then-is_some-clause-few g c =
-    let f = few (g.B.Bench.calc c.args.bench.now) (state_of c.args.today c.args.objects.now c.args.store.now.kept (registry_of c.args.store.now)) c.args.object (g.B.Bench.count c.args.bench.now) (g.B.Bench.log c.args.bench.now) c.loop-top.stack.items c.loop-top.store.kept c.loop-top.runs (g.B.Bench.count c.loop-top.bench) (g.B.Bench.log c.loop-top.bench) c.loop-top.invariant.1 in
+    let f = few (g.B.Bench.calc c.args.bench.now) (state_of c.args.today c.args.objects.now c.args.store.now.kept (registry_of c.args.store.now)) c.args.object (g.B.Bench.count c.args.bench.now) (g.B.Bench.log c.args.bench.now) (c.loop-waiting.waiting.items ++ c.loop-waiting.top ∷ []) c.loop-waiting.store.kept c.loop-waiting.runs (g.B.Bench.count c.loop-waiting.bench) (g.B.Bench.log c.loop-waiting.bench) c.loop-waiting.invariant.1 in
     let said = ap (λ (a : Asked). a.runs) c.answered-then-is_some.ensures in omega (arith, f, said)
 
-pub returns-clause-few : goal.returns-clause-few
-returns-clause-few g c =
-    let f = few (g.B.Bench.calc c.args.bench.now) (state_of c.args.today c.args.objects.now c.args.store.now.kept (registry_of c.args.store.now)) c.args.object (g.B.Bench.count c.args.bench.now) (g.B.Bench.log c.args.bench.now) c.loop-top.stack.items c.loop-top.store.kept c.loop-top.runs (g.B.Bench.count c.loop-top.bench) (g.B.Bench.log c.loop-top.bench) c.loop-top.invariant.1 in
-    let said = ap (λ (a : Asked). a.runs) c.answered-2.ensures in omega (arith, f, said)
+pub returns-in-None-clause-few : goal.returns-in-None-clause-few
+returns-in-None-clause-few g c =
+    let calc = g.B.Bench.calc c.args.bench.now in
+    let s = state_of c.args.today c.args.objects.now c.args.store.now.kept (registry_of c.args.store.now) in
+    let count0 = g.B.Bench.count c.args.bench.now in
+    let log0 = g.B.Bench.log c.args.bench.now in
+    let stack = c.loop-waiting.waiting.items in
+    let a = c.loop-waiting.invariant.1 in
+    let f = few calc s c.args.object count0 log0 stack c.compute.new.store.kept (c.loop-waiting.runs + 1) (g.B.Bench.count c.compute.new.bench) (g.B.Bench.log c.compute.new.bench)
+    (valued calc s c.args.object count0 log0 stack c.loop-waiting.top c.loop-waiting.store.kept c.loop-waiting.runs (g.B.Bench.count c.loop-waiting.bench) (g.B.Bench.log c.loop-waiting.bench) a c.in-Ready.inputs c.compute.new.store.kept c.in_ok-cause-in-Ready.cause (c.loop-waiting.runs + 1) (g.B.Bench.count c.compute.new.bench) (g.B.Bench.log c.compute.new.bench) (sym c.in_ok-cause.ensures.next ∙ c.in-Ready.is)
+    (subst (λ k. Computes k (market_of c.args.today c.args.objects.now) c.loop-waiting.top c.in-Ready.inputs c.loop-waiting.store.kept c.compute.new.store.kept c.in_ok-cause-in-Ready.cause (g.B.Bench.count c.loop-waiting.bench) (g.B.Bench.count c.compute.new.bench) (g.B.Bench.log c.loop-waiting.bench) (g.B.Bench.log c.compute.new.bench)) c.loop-waiting.invariant.0 c.in_ok-cause-in-Ready.ensures.computes) (sym c.is_some.ensures ∙ c.if-is_some.false) refl).0 in
+    let said = ap (λ (a : Asked). a.runs) c.answered-in-None.ensures in omega (arith, f, said)
 
 pub returns-in_err-cause-clause-registry : goal.returns-in_err-cause-clause-registry
-returns-in_err-cause-clause-registry g c = c.loop-top.invariant.5
+returns-in_err-cause-clause-registry g c = c.loop-waiting.invariant.5
 
 pub returns-in-Stops-clause-registry : goal.returns-in-Stops-clause-registry
-returns-in-Stops-clause-registry g c = c.loop-top.invariant.5
+returns-in-Stops-clause-registry g c = c.loop-waiting.invariant.5
 
-pub returns-in_err-push-in-First-2-clause-registry : goal.returns-in_err-push-in-First-2-clause-registry
-returns-in_err-push-in-First-2-clause-registry g c = c.loop-top.invariant.5
+pub returns-in_err-push-in-First-clause-registry : goal.returns-in_err-push-in-First-clause-registry
+returns-in_err-push-in-First-clause-registry g c = c.loop-waiting.invariant.5
 
 pub returns-in_err-cause-in-Ready-clause-registry : goal.returns-in_err-cause-in-Ready-clause-registry
-returns-in_err-cause-in-Ready-clause-registry g c = c.compute.ensures.registry ∙ c.loop-top.invariant.5
+returns-in_err-cause-in-Ready-clause-registry g c = c.compute.ensures.registry ∙ c.loop-waiting.invariant.5
 
 pub returns-then-is_some-clause-registry : goal.returns-then-is_some-clause-registry
-returns-then-is_some-clause-registry g c = c.compute.ensures.registry ∙ c.loop-top.invariant.5
+returns-then-is_some-clause-registry g c = c.compute.ensures.registry ∙ c.loop-waiting.invariant.5
 
-pub returns-clause-registry : goal.returns-clause-registry
-returns-clause-registry g c = c.loop-top.invariant.5
+pub returns-in-None-clause-registry : goal.returns-in-None-clause-registry
+returns-in-None-clause-registry g c = c.compute.ensures.registry ∙ c.loop-waiting.invariant.5

@@ -2,3 +2,4 @@ pub mod Asks
 pub mod Begun
 pub mod Reads
 pub mod Recalcs
+pub mod Steps

@@ -17,10 +17,9 @@ ghost use Rattle.ask_walk.specs.Reads.{Remembers};
 ghost use Rattle.ask_walk.specs.Begun.{Begun};
 ghost use Rattle.ask_walk.specs.Asks.{Asks, Walks, Stops, MayAsk, Stays, Computes, lacking, walk_mark};
 
-use crate::steps::next;
+use crate::steps::{Step, next};
 use crate::uses::index_named;
 use day_number::Day;
-use desk_model::Next;
 use desk_names::ObjId;
 use desk_terms::{Asked, Bench, Cause, InputList, Job, Mark, Terms, Value};
 use object_store::{Objects, Scratch, Store};
@@ -112,16 +111,17 @@ pub fn compute_all<B: Bench>(
     ensures begun { Begun objects.now store.new.kept scratch.new.positions }
 {
     let mut waiting: Vec<ObjId> = Vec::new(alloc);
+    let mut inputs = InputList::new(alloc);
     let mut top = object;
     let mut runs: u64 = 0;
     loop {
-        match next(alloc, today, objects, store, scratch, top)? {
-            Next::Stops(cause) => return Ok(answered(Some(cause), mark, runs)),
-            Next::First(needed) => {
+        match next(alloc, today, objects, store, scratch, top, &mut inputs)? {
+            Step::Stops(cause) => return Ok(answered(Some(cause), mark, runs)),
+            Step::First(needed) => {
                 waiting.push(top)?;
                 top = needed;
             }
-            Next::Ready(inputs) => {
+            Step::Ready => {
                 let cause = compute(alloc, today, objects, store, top, &inputs, bench)?;
                 runs += 1;
                 if cause.is_some() {

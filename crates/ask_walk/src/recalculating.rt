@@ -12,11 +12,10 @@ ghost use Rattle.ask_walk.specs.Recalcs.{Recalcs, RecalcEnds, RecalcStops, Repri
 
 use crate::asking::{answered, compute, compute_all};
 use crate::recalced::Recalced;
-use crate::steps::next;
+use crate::steps::{Step, next};
 use day_number::Day;
-use desk_model::Next;
 use desk_names::ObjId;
-use desk_terms::{Asked, Bench, Mark};
+use desk_terms::{Asked, Bench, InputList, Mark};
 use object_store::{Objects, Scratch, Store};
 use std::alloc::{AllocError, Global};
 
@@ -118,11 +117,12 @@ fn reprice<B: Bench>(
     ensures registry { registry_of store.new ≡ registry_of store.old }
     ensures long { (length scratch.new.entries ≡ length objects.now) × (length scratch.new.positions ≡ length objects.now) }
 {
+    let mut inputs = InputList::new(alloc);
     let mut runs: u64 = 0;
     loop {
-        match next(alloc, today, objects, store, scratch, object)? {
-            Next::Stops(cause) => return Ok(answered(Some(cause), Mark::Recalc, runs)),
-            Next::First(needed) => {
+        match next(alloc, today, objects, store, scratch, object, &mut inputs)? {
+            Step::Stops(cause) => return Ok(answered(Some(cause), Mark::Recalc, runs)),
+            Step::First(needed) => {
                 let answer = compute_all(
                     alloc,
                     today,
@@ -138,7 +138,7 @@ fn reprice<B: Bench>(
                     return Ok(answered(answer.cause, Mark::Recalc, runs));
                 }
             }
-            Next::Ready(inputs) => {
+            Step::Ready => {
                 let cause = compute(alloc, today, objects, store, object, &inputs, bench)?;
                 return Ok(answered(cause, Mark::Recalc, runs + 1));
             }

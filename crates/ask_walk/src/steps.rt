@@ -1,5 +1,5 @@
 // What an ask does next at an object.
-ghost use Rattle.std.specs.Prelude.{◌≡◌, true, ◌<◌, ◌≤◌, take, length, Some, None, Ok, Err, IfOk, slice_index_or};
+ghost use Rattle.std.specs.Prelude.{◌≡◌, true, ◌<◌, ◌≤◌, take, length, Some, None, Ok, Err, IfOk, OnOk, [], ◌∷◌, ◌++◌, slice_index_or};
 ghost use Rattle.desk_terms.specs.declared.value.Value.{Value};
 ghost use Rattle.desk_model.specs.Uses.{member_entries, uses};
 ghost use Rattle.desk_model.specs.Fresh.{input_of};
@@ -7,25 +7,40 @@ ghost use Rattle.desk_model.specs.Next.{next_of};
 ghost use Rattle.desk_model.specs.Links.{IsLinked, IsKinded, is_lazy_at};
 ghost use Rattle.ask_walk.specs.Reads.{Remembers};
 ghost use Rattle.ask_walk.specs.Begun.{AreSettled, Begun};
+ghost use Rattle.ask_walk.specs.Steps.{next_with};
 ghost use Rattle.object_store.specs.Slots.{market_of, answer_of, answered, answered_of, is_at_hand};
 
 use crate::reader::read;
 use crate::uses::{flow_entries, helper_entries};
 use curve_points::copy_curve;
 use day_number::Day;
-use desk_model::{Entry, Next};
+use desk_model::Entry;
 use desk_names::ObjId;
 use desk_terms::{Cause, Input, InputList, Part, Terms, Value};
 use object_store::{Objects, Scratch, Store};
 use std::alloc::{AllocError, Global};
 
-// A value as the input of another price.
-fn as_input(alloc: Global, value: &Value) -> Result<Input, AllocError>
-    ensures { IfOk result (λ input. input ≡ input_of value.now) }
+/// What an ask does next at an object.
+#[derive(Clone, Copy, Debug, PartialEq, Eq)]
+pub enum Step {
+    /// Its price takes the inputs that were read.
+    Ready,
+    /// This object has to be computed first.
+    First(ObjId),
+    /// The ask ends by this cause.
+    Stops(Cause),
+}
+
+// The value of another object is an input more.
+fn push_value(alloc: Global, value: &Value, inputs: &mut InputList) -> Result<(), AllocError>
+    ensures { OnOk result (inputs.new ≡ inputs.old ++ input_of value.now ∷ []) }
 {
     match value {
-        Value::Money(amount) => Ok(Input::Money(*amount)),
-        Value::Curve(curve) => Ok(Input::Curve(copy_curve(alloc, curve)?)),
+        Value::Money(amount) => inputs.push(Input::Money(*amount)),
+        Value::Curve(curve) => {
+            let copy = copy_curve(alloc, curve)?;
+            inputs.push(Input::Curve(copy))
+        }
     }
 }
 
@@ -43,72 +58,94 @@ fn answer(store: &Store, object: ObjId) -> Option<Result<&Value, Cause>>
 }
 
 // What an ask does next at a composite of these parts, of which the first were read and are settled. It reads on from
-// there, and all of them once more when all are settled.
+// there, and all of them once more when all are settled; where none was read yet, once.
 fn next_member(
     alloc: Global,
     store: &Store,
     parts: &[Part],
     begun: &mut usize,
-) -> Result<Next, AllocError>
+    inputs: &mut InputList,
+) -> Result<Step, AllocError>
     requires low { begun.old ≤ length parts.now }
     requires settled { AreSettled store.now.kept (take begun.old parts.now) }
-    ensures next { IfOk result (λ next. next ≡ next_of (is_at_hand store.now.kept) (answer_of store.now.kept) (member_entries parts.now)) }
+    ensures next { IfOk result (λ step. next_with inputs.new step ≡ next_of (is_at_hand store.now.kept) (answer_of store.now.kept) (member_entries parts.now)) }
     ensures low { begun.new ≤ length parts.now }
     ensures settled { AreSettled store.now.kept (take begun.new parts.now) }
 {
+    if *begun == 0 {
+        return all_members(alloc, store, parts, begun, inputs);
+    }
     while *begun < parts.len() {
         let part = &parts[*begun];
         match answer(store, part.member) {
             Some(outcome) => match outcome {
                 Ok(_) => *begun += 1,
-                Err(cause) => return Ok(Next::Stops(cause)),
+                Err(cause) => return Ok(Step::Stops(cause)),
             },
-            None => return Ok(Next::First(part.member)),
+            None => return Ok(Step::First(part.member)),
         }
     }
-    all_members(alloc, store, parts)
+    all_members(alloc, store, parts, begun, inputs)
 }
 
-// What an ask does next at a composite of these parts.
-fn all_members(alloc: Global, store: &Store, parts: &[Part]) -> Result<Next, AllocError>
-    ensures { IfOk result (λ next. next ≡ next_of (is_at_hand store.now.kept) (answer_of store.now.kept) (member_entries parts.now)) }
+// What an ask does next at a composite of these parts, all of which it reads, up to the first that has to be computed.
+fn all_members(
+    alloc: Global,
+    store: &Store,
+    parts: &[Part],
+    begun: &mut usize,
+    inputs: &mut InputList,
+) -> Result<Step, AllocError>
+    requires low { begun.old ≤ length parts.now }
+    requires settled { AreSettled store.now.kept (take begun.old parts.now) }
+    ensures next { IfOk result (λ step. next_with inputs.new step ≡ next_of (is_at_hand store.now.kept) (answer_of store.now.kept) (member_entries parts.now)) }
+    ensures low { begun.new ≤ length parts.now }
+    ensures settled { AreSettled store.now.kept (take begun.new parts.now) }
 {
-    let mut inputs = InputList::new(alloc);
+    inputs.truncate(0);
     for at in 0..parts.len() {
         let part = &parts[at];
         match answer(store, part.member) {
             Some(outcome) => match outcome {
-                Ok(value) => inputs.push(as_input(alloc, value)?)?,
-                Err(cause) => return Ok(Next::Stops(cause)),
+                Ok(value) => push_value(alloc, value, inputs)?,
+                Err(cause) => return Ok(Step::Stops(cause)),
             },
-            None => return Ok(Next::First(part.member)),
+            None => {
+                *begun = at;
+                return Ok(Step::First(part.member));
+            }
         }
     }
-    Ok(Next::Ready(inputs))
+    Ok(Step::Ready)
 }
 
 // What an ask does next where a price takes these entries.
-fn next_entries(alloc: Global, store: &Store, entries: &[Entry]) -> Result<Next, AllocError>
-    ensures { IfOk result (λ next. next ≡ next_of (is_at_hand store.now.kept) (answer_of store.now.kept) entries.now) }
+fn next_entries(
+    alloc: Global,
+    store: &Store,
+    entries: &[Entry],
+    inputs: &mut InputList,
+) -> Result<Step, AllocError>
+    ensures { IfOk result (λ step. next_with inputs.new step ≡ next_of (is_at_hand store.now.kept) (answer_of store.now.kept) entries.now) }
 {
-    let mut inputs = InputList::new(alloc);
+    inputs.truncate(0);
     for at in 0..entries.len() {
         match entries[at] {
             Entry::Gives(rate) => inputs.push(Input::Rate(rate))?,
-            Entry::Refuses(cause) => return Ok(Next::Stops(cause)),
+            Entry::Refuses(cause) => return Ok(Step::Stops(cause)),
             Entry::Needs(object) => match answer(store, object) {
                 Some(outcome) => match outcome {
-                    Ok(held) => inputs.push(as_input(alloc, held)?)?,
-                    Err(cause) => return Ok(Next::Stops(cause)),
+                    Ok(held) => push_value(alloc, held, inputs)?,
+                    Err(cause) => return Ok(Step::Stops(cause)),
                 },
-                None => return Ok(Next::First(object)),
+                None => return Ok(Step::First(object)),
             },
         }
     }
-    Ok(Next::Ready(inputs))
+    Ok(Step::Ready)
 }
 
-/// What an ask does next at a lazy object.
+/// What an ask does next at a lazy object. The inputs are those that its price takes, where it is ready.
 pub fn next(
     alloc: Global,
     today: Day,
@@ -116,7 +153,8 @@ pub fn next(
     store: &Store,
     scratch: &mut Scratch,
     object: ObjId,
-) -> Result<Next, AllocError>
+    inputs: &mut InputList,
+) -> Result<Step, AllocError>
     requires lazy { is_lazy_at (market_of today objects.now) object ≡ true }
     requires kinds { IsKinded (market_of today objects.now) }
     requires linked { IsLinked (market_of today objects.now) }
@@ -124,31 +162,35 @@ pub fn next(
     requires begun { Begun objects.now store.now.kept scratch.old.positions }
     ensures remembers { Remembers (market_of today objects.now) scratch.new.entries }
     ensures begun { Begun objects.now store.now.kept scratch.new.positions }
-    ensures next { IfOk result (λ next. next ≡ next_of (is_at_hand store.now.kept) (answer_of store.now.kept) (uses (market_of today objects.now) object)) }
+    ensures next { IfOk result (λ step. next_with inputs.new step ≡ next_of (is_at_hand store.now.kept) (answer_of store.now.kept) (uses (market_of today objects.now) object)) }
 {
     match objects.own_terms(object) {
         Terms::Stock { quote } => {
             let entry = read(alloc, today, objects, scratch, *quote)?;
-            next_entries(alloc, store, &[entry])
+            next_entries(alloc, store, &[entry], inputs)
         }
         Terms::Composite(parts) => {
-            let mut at = scratch.position(object);
-            let next = next_member(alloc, store, parts.items(), &mut at)?;
+            let was = scratch.position(object);
+            let mut at = was;
+            let step = next_member(alloc, store, parts.items(), &mut at, inputs)?;
+            if at == was {
+                return Ok(step);
+            }
             scratch.advance(object, at)?;
-            Ok(next)
+            Ok(step)
         }
         Terms::Implied { curve, .. } => {
             let entry = read(alloc, today, objects, scratch, *curve)?;
-            next_entries(alloc, store, &[entry])
+            next_entries(alloc, store, &[entry], inputs)
         }
         Terms::Curve(curve) => {
             let helpers = curve.helpers.items();
             let entries = helper_entries(alloc, today, objects, scratch, helpers)?;
-            next_entries(alloc, store, &entries)
+            next_entries(alloc, store, &entries, inputs)
         }
         Terms::Flows(flows, engine) => {
             let entries = flow_entries(alloc, today, objects, scratch, object, flows, *engine)?;
-            next_entries(alloc, store, &entries)
+            next_entries(alloc, store, &entries, inputs)
         }
         Terms::Quote(_)
         | Terms::Derived { .. }

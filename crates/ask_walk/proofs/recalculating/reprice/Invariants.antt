@@ -7,13 +7,13 @@ use Rattle.ask_walk.proofs.Loop.{open_of}
 use Rattle.ask_walk.proofs.Settling.{Settling}
 use Rattle.ask_walk.proofs.recalculating.reprice.Given as goal
 
-abbrev pub invariant-loop-cause : goal.invariant-loop-cause
-invariant-loop-cause g l = (g.B.Bench.calc l.bench ≡ g.B.Bench.calc l.initial.bench)
+abbrev pub invariant-loop-inputs : goal.invariant-loop-inputs
+invariant-loop-inputs g l = (g.B.Bench.calc l.bench ≡ g.B.Bench.calc l.initial.bench)
     × Settling (g.B.Bench.calc l.initial.bench) (state_of l.today l.objects l.initial.store.kept (registry_of l.initial.store)) l.fn.object (g.B.Bench.count l.initial.bench) (g.B.Bench.log l.initial.bench) l.store.kept l.runs (g.B.Bench.count l.bench) (g.B.Bench.log l.bench)
     × Remembers (market_of l.today l.objects) l.scratch.entries
     × Begun l.objects l.store.kept l.scratch.positions
     × (l.store.shape ≡ l.initial.store.shape)
     × (registry_of l.store ≡ registry_of l.initial.store)
 
-abbrev pub decreases-loop-cause : goal.decreases-loop-cause
-decreases-loop-cause g l = open_of l.store.kept
+abbrev pub decreases-loop-inputs : goal.decreases-loop-inputs
+decreases-loop-inputs g l = open_of l.store.kept

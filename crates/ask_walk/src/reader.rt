@@ -26,7 +26,7 @@ pub enum Look {
     First(ObjId),
 }
 
-/// What an object gives where another names it. What was read before is remembered.
+/// What an object gives where another names it. What one look tells is answered at once; what took more is remembered.
 pub fn read(
     alloc: Global,
     today: Day,
@@ -45,6 +45,28 @@ pub fn read(
         Some(entry) => return Ok(entry),
         None => {}
     }
+    match look_at(objects, scratch, object) {
+        Look::Is(entry) => Ok(entry),
+        Look::First(_) => read_through(alloc, today, objects, scratch, object),
+    }
+}
+
+// What an object gives that is not remembered. What is read for it is, and so is this.
+fn read_through(
+    alloc: Global,
+    today: Day,
+    objects: &Objects,
+    scratch: &mut Scratch,
+    object: ObjId,
+) -> Result<Entry, AllocError>
+    requires linked { IsLinked (market_of today objects.now) }
+    requires within { object < length objects.now }
+    requires remembers { Remembers (market_of today objects.now) scratch.old.entries }
+    requires unread { recalled scratch.old.entries object ≡ None }
+    ensures entry { IfOk result (λ entry. entry ≡ input_at (market_of today objects.now) object) }
+    ensures remembers { Remembers (market_of today objects.now) scratch.new.entries }
+    ensures positions { scratch.new.positions ≡ scratch.old.positions }
+{
     let mut stack: Vec<ObjId> = Vec::new(alloc);
     stack.push(object)?;
     while let Some(top) = stack.pop() {

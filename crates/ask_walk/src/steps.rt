@@ -32,6 +32,7 @@ pub enum Step {
 }
 
 // The value of another object is an input more.
+#[inline(always)]
 fn push_value(alloc: Global, value: &Value, inputs: &mut InputList) -> Result<(), AllocError>
     ensures { OnOk result (inputs.new ≡ inputs.old ++ input_of value.now ∷ []) }
 {
@@ -45,6 +46,7 @@ fn push_value(alloc: Global, value: &Value, inputs: &mut InputList) -> Result<()
 }
 
 // The last value of an object that is at hand, or that it has none; none where it has to be computed first.
+#[inline(always)]
 fn answer(store: &Store, object: ObjId) -> Option<Result<&Value, Cause>>
     ensures { answered result ≡ answered_of (is_at_hand store.now.kept object) (answer_of store.now.kept object) }
 {
@@ -59,6 +61,7 @@ fn answer(store: &Store, object: ObjId) -> Option<Result<&Value, Cause>>
 
 // What an ask does next at a composite of these parts, of which the first were read and are settled. It reads on from
 // there, and all of them once more when all are settled; where none was read yet, once.
+#[inline(always)]
 fn next_member(
     alloc: Global,
     store: &Store,
@@ -89,6 +92,7 @@ fn next_member(
 }
 
 // What an ask does next at a composite of these parts, all of which it reads, up to the first that has to be computed.
+#[inline(always)]
 fn all_members(
     alloc: Global,
     store: &Store,

@@ -1,4 +1,4 @@
-use Rattle.std.proofs.Common.{arith, sym, ◌∙◌, ap, Some, ◌++◌, ◌∷◌, [], List, drop, ◌+◌}
+use Rattle.std.proofs.Common.{arith, sym, ◌∙◌, ap, Some, List, drop, ◌+◌}
 use Rattle.desk_terms.specs.declared.value.Input as input
 use Rattle.desk_model.specs.Uses.{member_entries}
 use Rattle.desk_model.specs.Next.{next_of}

@@ -1,8 +1,8 @@
 -- Asks that are answered at once, and what makes a walk an ask: its mark.
 use Rattle.std.proofs.Common.{◌≡◌, ℕ, suc, Bool, true, false, List, [], length, Option, Some, None, refl, sym, ◌∙◌, ap, subst}
-use Rattle.std.specs.Prelude.{◌||◌, is_some, if◌then◌else◌}
+use Rattle.std.specs.Prelude.{◌||◌, is_some, IfSome, if◌then◌else◌}
 use Rattle.std.proofs.lemmas.List.{append-nil}
-use Rattle.std.proofs.lemmas.Bool.{or_left, or_right}
+use Rattle.std.proofs.lemmas.Bool.{or_left, or_right, or_parts}
 use Rattle.desk_terms.specs.declared.value.Value.{Value}
 use Rattle.desk_terms.specs.declared.asked.Asked.{Asked}
 use Rattle.desk_terms.specs.declared.asked.Mark.{Mark}
@@ -17,7 +17,7 @@ use Rattle.desk_model.specs.Visit.{Visit, log_of, is_idle, stored, runs, asked}
 use Rattle.desk_model.proofs.Shown.{free_held, seen_held, shows_last}
 use Rattle.desk_model.proofs.Steps.{idle_visit}
 use Rattle.desk_model.proofs.Clear.{shows_seen}
-use Rattle.ask_walk.specs.Asks.{Asks, Walks, MayAsk, lacking, walk_mark}
+use Rattle.ask_walk.specs.Asks.{Asks, Walks, MayAsk, lacking, walk_mark, held_answer, AnswersIdly}
 use Rattle.ask_walk.proofs.Loop.{each_id, fit_of, current_last}
 
 -- the marks
@@ -100,6 +100,95 @@ module _ (calc : Calc) (s : State) (o : ℕ) (count0 : ℕ) (log0 : Option (List
       (subst (λ (l : Option Value). Shows None l (seen calc s o)) (sym last.1)
       (shows_last calc s may.whole.links (fit_of calc s o may) may.sound.current o current free ∙ ap (last_of o) last.1)))
       (ap (λ (a : Asked). a.mark) said ∙ marks) (ap (λ (a : Asked). a.runs) said)
+
+-- what is answered without a computation
+module _ (s : State) (o : ℕ) where
+  abbrev answered_by : Bool → Bool → Bool → Option Asked
+  answered_by frozen late current =
+      if frozen || late
+      then Some (record { cause = lacking o (kept_at s o).last; mark = mark_of s o; runs = 0 })
+      else if current
+      then Some (record { cause = None; mark = mark_of s o; runs = 0 })
+      else None
+
+  held_as : (frozen late current : Bool) → (kept_at s o).frozen ≡ frozen → is_late s o ≡ late → (kept_at s o).current ≡ current
+      → held_answer s o ≡ answered_by frozen late current
+  unfolding held_answer is_frozen
+  held_as frozen late current f l c = λ i. answered_by (f i) (l i) (c i)
+
+  pub answers_frozen : (kept_at s o).frozen ≡ true → (answer : Asked)
+      → answer ≡ record { cause = lacking o (kept_at s o).last; mark = Frozen; runs = 0 } → Some answer ≡ held_answer s o
+  answers_frozen frozen answer said =
+      ap Some (said ∙ ap (λ (m : Mark). let a : Asked = record { cause = lacking o (kept_at s o).last; mark = m; runs = 0 } in a) (sym (frozen_mark s o frozen)))
+      ∙ sym (held_as true (is_late s o) (kept_at s o).current frozen refl refl)
+
+  pub answers_late : (kept_at s o).frozen ≡ false → is_late s o ≡ true → (answer : Asked)
+      → answer ≡ record { cause = lacking o (kept_at s o).last; mark = Late; runs = 0 } → Some answer ≡ held_answer s o
+  answers_late thawed late answer said =
+      ap Some (said ∙ ap (λ (m : Mark). let a : Asked = record { cause = lacking o (kept_at s o).last; mark = m; runs = 0 } in a) (sym (late_mark s o thawed late)))
+      ∙ sym (held_as false true (kept_at s o).current thawed late refl)
+
+  pub answers_current : (kept_at s o).frozen ≡ false → is_late s o ≡ false → (kept_at s o).current ≡ true → (mark : Mark) → mark ≡ mark_of s o
+      → (answer : Asked) → answer ≡ record { cause = None; mark = mark; runs = 0 } → Some answer ≡ held_answer s o
+  answers_current thawed early current mark marks answer said =
+      ap Some (said ∙ ap (λ (m : Mark). let a : Asked = record { cause = None; mark = m; runs = 0 } in a) marks)
+      ∙ sym (held_as false false true thawed early current)
+
+  pub answers_none : (kept_at s o).frozen ≡ false → is_late s o ≡ false → (kept_at s o).current ≡ false → None ≡ held_answer s o
+  answers_none thawed early stale = sym (held_as false false false thawed early stale)
+
+  -- nothing is answered exactly of an object that is neither frozen nor late nor current
+  pub answers_where : is_some (held_answer s o) ≡ (is_frozen s o || (is_late s o || (kept_at s o).current))
+  unfolding held_answer
+  answers_where = by (is_frozen s o) (is_late s o) (kept_at s o).current
+    where
+      by : (frozen late current : Bool) → is_some (answered_by frozen late current) ≡ (frozen || (late || current))
+      by true late current = refl
+      by false true current = refl
+      by false false true = refl
+      by false false false = refl
+
+-- it is what an ask answers
+module _ (calc : Calc) (s : State) (o : ℕ) (may : MayAsk calc s o) (answer : Asked) (count : ℕ) (log : Option (List (ℕ × Bool))) where
+  some_same : {a b : Asked} → Some a ≡ Some b → b ≡ a
+  some_same e = cc
+
+  none_some : {a : Asked} → None ≡ Some a → ⊥
+  none_some e = cc
+
+  pub held_is_asked : held_answer s o ≡ Some answer → Asks calc o s s answer count count log log
+  unfolding is_frozen
+  held_is_asked is = by (is_frozen s o) (is_late s o) (kept_at s o).current refl refl refl
+    where
+      by : (frozen late current : Bool) → is_frozen s o ≡ frozen → is_late s o ≡ late → (kept_at s o).current ≡ current
+          → Asks calc o s s answer count count log log
+      by true late current f l c = held_asks calc s o count log may (or_left (is_frozen s o) (is_late s o) f) (mark_of s o) refl answer
+          (some_same (sym (held_as s o true late current f l c) ∙ is))
+      by false true current f l c = held_asks calc s o count log may (or_right (is_frozen s o) (is_late s o) l) (mark_of s o) refl answer
+          (some_same (sym (held_as s o false true current f l c) ∙ is))
+      by false false true f l c = current_asks calc s o count log may (not_held s o f l) c (mark_of s o) refl answer
+          (some_same (sym (held_as s o false false true f l c) ∙ is))
+      by false false false f l c = absurd (none_some (sym (held_as s o false false false f l c) ∙ is))
+
+pub answers_idly : (calc : Calc) (s : State) (o : ℕ) → MayAsk calc s o → (result : Option Asked) → result ≡ held_answer s o
+    → IfSome result (AnswersIdly calc o s)
+answers_idly calc s o may None is = tt
+answers_idly calc s o may (Some answer) is = λ count log. held_is_asked calc s o may answer count log (sym is)
+
+-- where it is not answered, the object is to be computed
+module _ (s : State) (o : ℕ) (none : held_answer s o ≡ None) where
+  rest : (is_frozen s o || (is_late s o || (kept_at s o).current)) ≡ false
+  rest = sym (answers_where s o) ∙ ap is_some none
+
+  pub asked_thawed : (kept_at s o).frozen ≡ false
+  unfolding is_frozen
+  asked_thawed = (or_parts (is_frozen s o) _ rest).0
+
+  pub asked_early : is_late s o ≡ false
+  asked_early = (or_parts (is_late s o) _ (or_parts (is_frozen s o) _ rest).1).0
+
+  pub asked_stale : (kept_at s o).current ≡ false
+  asked_stale = (or_parts (is_late s o) _ (or_parts (is_frozen s o) _ rest).1).1
 
 -- a walk with the mark of the object is an ask of it
 pub walks_ask : (calc : Calc) (s : State) (o : ℕ) (new : State) (mark : Mark) (count0 : ℕ) (log0 : Option (List (ℕ × Bool))) (count : ℕ) (log : Option (List (ℕ × Bool))) → IsLinked s.market → mark ≡ mark_of s o

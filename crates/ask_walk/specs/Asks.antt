@@ -1,5 +1,5 @@
 -- What one ask does.
-use Rattle.std.specs.Prelude.{◌≡◌, ◌≢◌, ◌⊎◌, ◌++◌, ◌+◌, ◌≤◌, ◌^◌, ℕ, Bool, true, List, [], ◌∷◌, length, Option, Some, None, Ok, Err, slice_index_or, slice_set, is_none, if◌then◌else◌}
+use Rattle.std.specs.Prelude.{◌≡◌, ◌≢◌, ◌⊎◌, ◌++◌, ◌+◌, ◌≤◌, ◌^◌, ℕ, Bool, true, List, [], ◌∷◌, length, Option, Some, None, Ok, Err, slice_index_or, slice_set, is_none, if◌then◌else◌, ◌||◌}
 use Rattle.desk_terms.specs.declared.terms.Terms.{Terms}
 use Rattle.desk_terms.specs.declared.value.Value.{Value}
 use Rattle.desk_terms.specs.declared.value.Input as input
@@ -14,7 +14,7 @@ use Rattle.desk_terms.specs.Bench.{counted, logged}
 use Rattle.desk_model.specs.declared.kept.Kept.{Kept}
 use Rattle.desk_model.specs.Market.{Market, terms_at}
 use Rattle.desk_model.specs.Uses.{reading_at}
-use Rattle.desk_model.specs.State.{State, kept_at, unpriced, seen, shows, mark_of}
+use Rattle.desk_model.specs.State.{State, kept_at, unpriced, seen, shows, mark_of, is_frozen, is_late}
 use Rattle.desk_model.specs.Visit.{log_of, with_value, runs, stored, asked}
 use Rattle.desk_model.specs.Links.{IsWhole, IsKinded, AreRanged, is_lazy_at}
 use Rattle.desk_model.specs.Sound.{IsSound}
@@ -46,6 +46,22 @@ lacking o None = Some (Unpriced o)
 -- the mark of an object that is neither frozen nor late
 abbrev pub walk_mark : Bool → Mark
 walk_mark clear = if clear then Fresh else Held
+
+-- WHAT IS ANSWERED WITHOUT A COMPUTATION: an object that is frozen or late shows its last value or that it has none, any
+-- other that is current its last value, each with its mark; nothing is answered of an object that is none of these
+-- (QuantLib's `LazyObject::calculate`, which does nothing where the object is calculated or frozen)
+unfoldable pub held_answer : State → ℕ → Option Asked
+held_answer s o =
+    if is_frozen s o || is_late s o
+    then Some (record { cause = lacking o (kept_at s o).last; mark = mark_of s o; runs = 0 })
+    else if (kept_at s o).current
+    then Some (record { cause = None; mark = mark_of s o; runs = 0 })
+    else None
+
+-- it is what an ask answers, which leaves the state as it is and makes no call of the bench, whatever that has counted and
+-- told before
+abbrev pub AnswersIdly : Calc → ℕ → State → Asked → Type 0
+AnswersIdly calc o s answer = (count : ℕ) (log : Option (List (ℕ × Bool))) → Asks calc o s s answer count count log log
 
 -- An ask for which memory ran out: a front of its calls was made, and what they computed stays. Where the bench itself ran
 -- out of memory, it counts one call more.

@@ -1,11 +1,12 @@
 // An ask: what it uses and has no current value is computed, by an explicit stack.
-ghost use Rattle.std.specs.Prelude.{◌≡◌, ◌≢◌, ◌⊎◌, ◌<◌, ◌^◌, true, false, length, None, Some, Ok, Err, IsOk, IfOk, OnErr, slice_index_or};
+ghost use Rattle.std.specs.Prelude.{◌≡◌, ◌≢◌, ◌⊎◌, ◌<◌, ◌^◌, ℤ, true, false, List, length, None, Some, Ok, Err, IsOk, IfOk, OnErr, slice_index_or, is_some};
 ghost use Rattle.std.specs.Option.{option_copied};
 ghost use Rattle.desk_terms.specs.declared.terms.Terms.{Terms};
 ghost use Rattle.desk_terms.specs.Bench.{counted};
 ghost use Rattle.desk_terms.specs.Reading.{IsWellFormed};
 ghost use Rattle.desk_model.specs.Market.{terms_at};
-ghost use Rattle.desk_model.specs.Links.{is_lazy_at};
+ghost use Rattle.desk_model.specs.declared.slot.Slot.{Slot};
+ghost use Rattle.desk_model.specs.Links.{is_lazy_at, IsWhole};
 ghost use Rattle.desk_model.specs.Uses.{reading_at};
 ghost use Rattle.desk_model.specs.State.{unpriced, held};
 ghost use Rattle.object_store.specs.Slots.{market_of, state_of, is_now};
@@ -15,7 +16,7 @@ ghost use Rattle.object_store.specs.Shape.{IsJoined, role_at};
 ghost use Rattle.observer_graph.specs.declared.node.Role.TheVariants as role;
 ghost use Rattle.ask_walk.specs.Reads.{Remembers};
 ghost use Rattle.ask_walk.specs.Begun.{Begun};
-ghost use Rattle.ask_walk.specs.Asks.{Asks, Walks, Stops, MayAsk, Stays, Computes, lacking, walk_mark};
+ghost use Rattle.ask_walk.specs.Asks.{Asks, Walks, Stops, MayAsk, Stays, Computes, lacking, walk_mark, held_answer};
 
 use crate::steps::{Step, next};
 use crate::uses::index_named;
@@ -49,19 +50,35 @@ pub fn ask<B: Bench>(
     ensures shape { store.new.shape ≡ store.old.shape }
     ensures registry { registry_of store.new ≡ registry_of store.old }
 {
-    if store.is_frozen(object) {
-        return Ok(last_answer(store, object, Mark::Frozen));
-    }
-    if store.late(object).is_some() {
-        return Ok(last_answer(store, object, Mark::Late));
+    if let Some(answer) = ask_held(store, object) {
+        return Ok(answer);
     }
     let mark = walk_mark(store.clear(object));
-    if store.is_current(object) {
-        return Ok(answered(None, mark, 0));
-    }
     let answer = compute_all(alloc, today, objects, store, scratch, object, mark, bench);
     scratch.clear();
     answer
+}
+
+/// What an ask answers of an object without a computation. None exactly where the object is neither frozen nor late nor
+/// current. It takes no memory.
+pub fn ask_held(store: &mut Store, object: ObjId) -> Option<Asked>
+    requires there { is_some (role_at store.old.shape object) ≡ true }
+    ensures answer { (today : ℤ) (slots : List Slot) → IsWhole (state_of today slots store.old.kept (registry_of store.old))
+        → IsJoined (market_of today slots) store.old.shape
+        → result ≡ held_answer (state_of today slots store.old.kept (registry_of store.old)) object }
+    ensures same { store.new ≡ store.old }
+{
+    if store.is_frozen(object) {
+        return Some(last_answer(store, object, Mark::Frozen));
+    }
+    if store.late(object).is_some() {
+        return Some(last_answer(store, object, Mark::Late));
+    }
+    if store.is_current(object) {
+        let clear = store.clear(object);
+        return Some(answered(None, walk_mark(clear), 0));
+    }
+    None
 }
 
 // The mark of an object that is neither frozen nor late.

@@ -1,7 +1,7 @@
 //! The walk of an ask: it computes what an object uses and has no current value, by a stack of its own, and so does a
 //! recalculation over the object's inputs.
 //!
-//! `ask`, `recalc`, `Recalced`. Words of `specs/`: `Asks`, `Stops`, `RecalcEnds`, `RecalcStops`.
+//! `ask`, `ask_held`, `recalc`, `Recalced`. Words of `specs/`: `Asks`, `Stops`, `RecalcEnds`, `RecalcStops`.
 #![tactic(auto)]
 
 mod asking;
@@ -11,6 +11,6 @@ mod recalculating;
 mod steps;
 mod uses;
 
-pub use asking::ask;
+pub use asking::{ask, ask_held};
 pub use recalced::Recalced;
 pub use recalculating::recalc;

@@ -1,11 +1,11 @@
 // The objects of a session. A clause sees the desk as its state.
-ghost use Rattle.std.specs.Prelude.{◌≡◌, ◌≢◌, ◌↔◌, ℕ, ℤ, Option, Err, ◌⊎◌, ◌<◌, ◌^◌, ◌==◌, ◌||◌, [], ◌∷◌, not, if◌then◌else◌, true, false, pos, Some, None, length, IsOk, IfOk, IfSome, IfNone, OnOk, OnErr, ◌≤◌};
+ghost use Rattle.std.specs.Prelude.{◌≡◌, ◌≢◌, ◌↔◌, ℕ, ℤ, Option, Err, ◌⊎◌, ◌<◌, ◌^◌, ◌==◌, ◌||◌, [], ◌∷◌, not, if◌then◌else◌, true, false, pos, Some, None, length, IsOk, IfOk, is_some, IfSome, IfNone, OnOk, OnErr, ◌≤◌};
 ghost use Rattle.std.specs.Option.{option_copied};
-ghost use Rattle.desk_terms.specs.Reading.{Calc, AreInRange};
+ghost use Rattle.desk_terms.specs.Reading.{Calc, AreInRange, IsFitting};
 ghost use Rattle.desk_model.specs.Market.{kind_at, terms_at, slot_at, is_given, is_watcher, is_observable, least_user};
 ghost use Rattle.desk_model.specs.Told.{is_registered, is_watching};
 ghost use Rattle.desk_model.specs.Uses.{index_at, fixings_in};
-ghost use Rattle.desk_model.specs.State.{kept_at, held, least_source};
+ghost use Rattle.desk_model.specs.State.{kept_at, held, is_frozen, is_late, least_source};
 ghost use Rattle.desk_model.specs.Sound.{IsSound, KeepsCurrent};
 ghost use Rattle.desk_model.specs.Links.{AreOfKind, Serve, is_lazy_at, reaches, serves_as};
 ghost use Rattle.desk_model.specs.Effect.{start, made, quote_set, relinked, engine_set, member_set, fixing_added, today_set, dropped, watching, registered_with, unregistered, handed_out, frozen_set, thawed, forward_set, deferred, resumed};
@@ -20,13 +20,13 @@ ghost use Rattle.desk_model.specs.Laws.{MayLink};
 ghost use Rattle.object_store.specs.Slots.{is_handle, engine_in};
 ghost use Rattle.object_store.specs.Parts.{parts_in};
 ghost use Rattle.desk_model.specs.Held.{changeable, weight_of};
-ghost use Rattle.ask_walk.specs.Asks.{Asks, Stops};
+ghost use Rattle.ask_walk.specs.Asks.{Asks, Stops, AnswersIdly, held_answer};
 ghost use Rattle.ask_walk.specs.Recalcs.{RecalcEnds, RecalcStops};
 
 use crate::changes::{revise, tell_changed};
 use crate::links::{link_of, unwatch_any, watch_any, watch_instead};
 use crate::weights::{has_weight, parts_of, rewatch, with_member};
-use ask_walk::{Recalced, ask, recalc};
+use ask_walk::{Recalced, ask, ask_held, recalc};
 use day_number::Day;
 use desk_names::ObjId;
 use desk_terms::{Asked, Bench, FixFault, Kind, Terms, Value};
@@ -420,6 +420,19 @@ impl Desk {
             object,
             bench,
         )
+    }
+
+    /// What an ask answers of an object that is frozen, late or current: its last value, or that it has none. None exactly
+    /// where the object is none of these. Nothing is computed, and it takes no memory.
+    pub fn ask_held(&mut self, object: ObjId) -> Option<Asked>
+        requires lazy { is_lazy_at self.old.market object ≡ true }
+        ensures answer { result ≡ held_answer self.old object }
+        ensures none { is_some result ≡ (is_frozen self.old object || (is_late self.old object || (kept_at self.old object).current)) }
+        // It is what an ask answers, of every bench for which the desk is sound.
+        ensures asks { (calc : Calc) → IsFitting calc → IsSound calc self.old → IfSome result (AnswersIdly calc object self.old) }
+        ensures same { self.new ≡ self.old }
+    {
+        ask_held(&mut self.store, object)
     }
 
     /// The least deferred source that makes an object late, if any does. It takes no memory.

@@ -3,3 +3,4 @@ pub mod Afresh
 pub mod Moments
 pub mod Rooms
 pub mod Ends
+pub mod Quieted

@@ -4,6 +4,7 @@ pub mod Standing
 pub mod Change
 pub mod Pricing
 pub mod Resolve
+pub mod Quiet
 pub mod Turn
 pub mod Course
 pub mod Ends

@@ -1,8 +1,8 @@
 //! What a session with names does, said without the code that does it: what a command resolves to, what it changes, the
 //! lines and the computations that it gives, whom it tells and whose actions run then, and the transcript of all its rounds.
 //!
-//! `Act` with `Change`, `Growth` and `How`, `Place`, `MOST_LIVE`, `MOST_NUMBERS`. Words of `specs/`: `Standing`,
-//! `resolve`, `changed`, `pricing_of`, `step`, `Turn`, `turn`, `Running`, `done`, `run`, `round_of`, `rounds`, `transcript`,
+//! `Act` with `Change`, `Growth` and `How`, `Place`, `is_quiet`, `MOST_LIVE`, `MOST_NUMBERS`. Words of `specs/`:
+//! `Standing`, `resolve`, `changed`, `pricing_of`, `step`, `Turn`, `turn`, `Running`, `done`, `run`, `round_of`, `rounds`, `transcript`,
 //! `calls_of`.
 //! Its functions without a body are laws: their contracts are what is proved.
 #![tactic(auto)]
@@ -11,6 +11,7 @@ mod act;
 mod laws;
 mod limits;
 mod place;
+mod quiet;
 mod room_rows;
 mod rows;
 mod watch_rows;
@@ -21,6 +22,7 @@ pub use laws::{
 };
 pub use limits::{MOST_LIVE, MOST_NUMBERS};
 pub use place::Place;
+pub use quiet::is_quiet;
 pub use room_rows::{
     beginnings_are_worked_through, discount_factors_are_computed, forwarding_is_worked_through,
     room_is_worked_through,

@@ -26,7 +26,8 @@ use Rattle.session_model.specs.declared.act.How.TheVariants as how
 use Rattle.session_model.specs.Change.{changed, grown}
 use Rattle.session_model.specs.Pricing.{Pricing, discount_in, priced_line}
 use Rattle.session_model.specs.Standing.{Standing}
-use Rattle.session_model.specs.Turn.{Turn, step, effect_of, done_as}
+use Rattle.session_model.specs.Resolve.{resolve}
+use Rattle.session_model.specs.Turn.{Turn, step, effect_of, done_as, turn}
 use Rattle.session_core.specs.Pricing.{Prices, StopsShort}
 use Rattle.session_core.specs.Steps.{with_object, with_watcher, with_state, Does, Ends, Carries, survivors_of, takes_no_memory}
 
@@ -222,6 +223,22 @@ pub growth_carries : (calc : Calc) (growth : Growth) (old new : Standing) (lines
 unfolding effect_of step
 growth_carries calc growth old new lines count log is =
     quiet_carries calc (act.Grow growth) old new lines count log refl refl is
+
+-- A quiet command does its turn: what it resolves to is done, or it is refused.
+pub change_is : (calc : Calc) (p new : Standing) (change : Change) → new ≡ with_state (changed change p.state) p
+    → new ≡ (effect_of calc p (act.Quiet change)).next
+unfolding effect_of step
+change_is calc p new change made = made
+
+pub act_turns : (calc : Calc) (p new : Standing) (c : Command) (a : Act) → resolve p c ≡ Ok a → new ≡ (effect_of calc p a).next
+    → new ≡ (turn calc p c).next
+unfolding turn
+act_turns calc p new c a is made = made ∙ ap (λ (r : Result Act Refusal). (done_as calc p c r).next) (sym is)
+
+pub refusal_turns : (calc : Calc) (p : Standing) (c : Command) (refusal : Refusal) → resolve p c ≡ Err refusal
+    → p ≡ (turn calc p c).next
+unfolding turn
+refusal_turns calc p c refusal is = ap (λ (r : Result Act Refusal). (done_as calc p c r).next) (sym is)
 
 -- what holds holds also where a call ended so
 pub on_err : {A E P : Type 0} (result : Result A E) → P → OnErr result P

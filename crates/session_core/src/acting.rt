@@ -151,7 +151,7 @@ impl Session {
                 Err(fault) => Err(fault),
             },
             Act::Watch(name, action) => self.watch(name, action),
-            Act::Quiet(change) => self.change(change),
+            Act::Quiet(change) => self.apply(change),
             Act::Grow(growth) => self.grow(growth),
             Act::Price(name, object, how) => self.price(name, object, &how, bench, lines),
         }

@@ -1,23 +1,77 @@
 // Changes of what is there, and changes that are stored beside it.
-ghost use Rattle.std.specs.Prelude.{◌≡◌, true, is_ok, OnOk, OnErr};
+ghost use Rattle.std.specs.Prelude.{◌≡◌, true, false, is_ok, IfOk, IfSome, OnOk, OnErr};
+ghost use Rattle.std.specs.Result.{result_err};
 ghost use Rattle.desk_terms.specs.Reading.{Calc};
-ghost use Rattle.desk_model.specs.Sound.{IsSound};
+ghost use Rattle.desk_model.specs.Sound.{IsSound, KeepsCurrent};
 ghost use Rattle.session_model.specs.Change.{changed, grown};
-ghost use Rattle.session_core.specs.Allowed.{MayChange, MayGrow};
-ghost use Rattle.session_core.specs.Steps.{with_state, takes_none};
+ghost use Rattle.session_model.specs.Standing.{IsKnown};
+ghost use Rattle.session_model.specs.Quiet.{is_quiet, is_quiet_act};
+ghost use Rattle.session_model.specs.Resolve.{resolve};
+ghost use Rattle.session_model.specs.Turn.{turn, effect_of};
+ghost use Rattle.session_core.specs.Allowed.{IsAllowed, MayChange, MayGrow};
+ghost use Rattle.session_core.specs.Steps.{with_state, takes_none, takes_no_memory};
 
 use crate::Session;
-use session_model::{Change, Growth};
+use session_commands::{Command, Refusal};
+use session_model::{Act, Change, Growth};
 use std::alloc::AllocError;
 
 impl Session {
-    // Makes a change. After want of memory the session is as it was.
+    /// Does a quiet command by itself, and answers why it is refused, if it is: a refused command changes nothing. The
+    /// notices that it gives are kept for `next_told`. It computes nothing, writes no line and takes no memory.
+    pub fn change(&mut self, command: &Command) -> Option<Refusal>
+        requires running { self.old.stopped ≡ false }
+        requires known { IsKnown self.old command.now }
+        requires quiet { is_quiet command.now ≡ true }
+        // A target and an engine that are given may want memory yet.
+        requires ready { IfOk (resolve self.old command.now) (λ act. takes_no_memory act ≡ true) }
+        // It does the turn of the command, which is that of every bench.
+        ensures turns { (calc : Calc) → self.new ≡ (turn calc self.old command.now).next }
+        ensures refusal { result ≡ result_err (resolve self.old command.now) }
+        ensures same { IfSome result (λ _. self.new ≡ self.old) }
+        // Of the session the state alone changes.
+        ensures alike { self.new ≡ record self.old { state = self.new.state } }
+        ensures keeps { KeepsCurrent self.old.state self.new.state }
+        ensures sound { (calc : Calc) → IsSound calc self.old.state → IsSound calc self.new.state }
+    {
+        match self.resolve(command) {
+            Ok(act) => {
+                self.carry_change(&act);
+                None
+            }
+            Err(refusal) => Some(refusal),
+        }
+    }
+
+    // Makes the change that a quiet command resolved to.
+    fn carry_change(&mut self, act: &Act)
+        requires quiet { is_quiet_act act.now ≡ true }
+        requires ready { takes_no_memory act.now ≡ true }
+        requires allowed { IsAllowed self.old act.now }
+        ensures next { (calc : Calc) → self.new ≡ (effect_of calc self.old act.now).next }
+        ensures alike { self.new ≡ record self.old { state = self.new.state } }
+        ensures keeps { KeepsCurrent self.old.state self.new.state }
+        ensures sound { (calc : Calc) → IsSound calc self.old.state → IsSound calc self.new.state }
+    {
+        match act {
+            Act::Quiet(change) => match self.apply(*change) {
+                Ok(()) => {}
+                Err(_) => unreachable!(),
+            },
+            Act::Make(_, _) | Act::Watch(_, _) | Act::Grow(_) | Act::Price(_, _, _) => {
+                unreachable!()
+            }
+        }
+    }
+
+    // Makes a change, by itself or in a turn. After want of memory the session is as it was.
     #[tactic(auto, unfolding(session_model::specs::Change::changed))]
-    pub(crate) fn change(&mut self, change: Change) -> Result<(), AllocError>
+    pub(crate) fn apply(&mut self, change: Change) -> Result<(), AllocError>
         requires may { MayChange self.old change }
         ensures set { OnOk result (self.new ≡ with_state (changed change self.old.state) self.old) }
         ensures err { OnErr result (self.new ≡ self.old) }
         ensures ready { takes_none change ≡ true → is_ok result ≡ true }
+        ensures keeps { KeepsCurrent self.old.state self.new.state }
         ensures sound { (calc : Calc) → IsSound calc self.old.state → IsSound calc self.new.state }
     {
         match change {

@@ -326,6 +326,7 @@ impl Session {
     pub(crate) fn unregister(&mut self, watcher: ObjId, object: ObjId)
         requires pair { MayPair self.old watcher object }
         ensures set { self.new ≡ with_state (unregistered watcher object self.old.state) self.old }
+        ensures keeps { KeepsCurrent self.old.state self.new.state }
         ensures sound { (calc : Calc) → IsSound calc self.old.state → IsSound calc self.new.state }
     {
         self.desk.unregister(watcher, object);
@@ -335,6 +336,7 @@ impl Session {
     pub(crate) fn set(&mut self, quote: ObjId, value: Option<Rate>)
         requires quote { kind_at self.old.state.market quote ≡ Some kind.Quote }
         ensures set { self.new ≡ with_state (quote_set quote value self.old.state) self.old }
+        ensures keeps { KeepsCurrent self.old.state self.new.state }
         ensures sound { (calc : Calc) → IsSound calc self.old.state → IsSound calc self.new.state }
     {
         self.desk.set_quote(quote, value);
@@ -364,6 +366,7 @@ impl Session {
         ensures err { OnErr result (self.new ≡ self.old) }
         // No memory is wanted for none.
         ensures ready { is_none target ≡ true → is_ok result ≡ true }
+        ensures keeps { KeepsCurrent self.old.state self.new.state }
         ensures sound { (calc : Calc) → IsSound calc self.old.state → IsSound calc self.new.state }
     {
         self.desk.relink(handle, target)
@@ -380,6 +383,7 @@ impl Session {
         ensures err { OnErr result (self.new ≡ self.old) }
         // No memory is wanted for none.
         ensures ready { is_none engine ≡ true → is_ok result ≡ true }
+        ensures keeps { KeepsCurrent self.old.state self.new.state }
         ensures sound { (calc : Calc) → IsSound calc self.old.state → IsSound calc self.new.state }
     {
         self.desk.set_engine(instrument, engine)
@@ -388,6 +392,7 @@ impl Session {
     // Moves the evaluation date.
     pub(crate) fn move_today(&mut self, day: Day)
         ensures set { self.new ≡ with_state (today_set day self.old.state) self.old }
+        ensures keeps { KeepsCurrent self.old.state self.new.state }
         ensures sound { (calc : Calc) → IsSound calc self.old.state → IsSound calc self.new.state }
     {
         self.desk.set_today(day);
@@ -412,6 +417,7 @@ impl Session {
         requires taken { takes_found place.Droppable (kind_at self.old.state.market object) ≡ true }
         requires unused { least_user self.old.state.market object ≡ None }
         ensures dropped { self.new ≡ with_state (dropped object self.old.state) self.old }
+        ensures keeps { KeepsCurrent self.old.state self.new.state }
         ensures sound { (calc : Calc) → IsSound calc self.old.state → IsSound calc self.new.state }
     {
         let name = self.of_object.items()[object.place()];
@@ -433,6 +439,7 @@ impl Session {
     pub(crate) fn freeze(&mut self, object: ObjId)
         requires lazy { is_lazy_at self.old.state.market object ≡ true }
         ensures set { self.new ≡ with_state (frozen_set object self.old.state) self.old }
+        ensures keeps { KeepsCurrent self.old.state self.new.state }
         ensures sound { (calc : Calc) → IsSound calc self.old.state → IsSound calc self.new.state }
     {
         self.desk.freeze(object);
@@ -442,6 +449,7 @@ impl Session {
     pub(crate) fn thaw(&mut self, object: ObjId)
         requires lazy { is_lazy_at self.old.state.market object ≡ true }
         ensures set { self.new ≡ with_state (thawed object self.old.state) self.old }
+        ensures keeps { KeepsCurrent self.old.state self.new.state }
         ensures sound { (calc : Calc) → IsSound calc self.old.state → IsSound calc self.new.state }
     {
         self.desk.thaw(object);
@@ -451,6 +459,7 @@ impl Session {
     pub(crate) fn forward(&mut self, object: ObjId, is_on: bool)
         requires lazy { is_lazy_at self.old.state.market object ≡ true }
         ensures set { self.new ≡ with_state (forward_set object is_on self.old.state) self.old }
+        ensures keeps { KeepsCurrent self.old.state self.new.state }
         ensures sound { (calc : Calc) → IsSound calc self.old.state → IsSound calc self.new.state }
     {
         self.desk.forward(object, is_on);
@@ -459,6 +468,7 @@ impl Session {
     // Holds notices back.
     pub(crate) fn defer(&mut self)
         ensures set { self.new ≡ with_state (deferred self.old.state) self.old }
+        ensures keeps { KeepsCurrent self.old.state self.new.state }
         ensures sound { (calc : Calc) → IsSound calc self.old.state → IsSound calc self.new.state }
     {
         self.desk.defer();
@@ -467,6 +477,7 @@ impl Session {
     // Gives the notices that are held back.
     pub(crate) fn resume(&mut self)
         ensures set { self.new ≡ with_state (resumed self.old.state) self.old }
+        ensures keeps { KeepsCurrent self.old.state self.new.state }
         ensures sound { (calc : Calc) → IsSound calc self.old.state → IsSound calc self.new.state }
     {
         self.desk.resume();

@@ -45,22 +45,22 @@ returns-in-Watch-clause-sound g c = c.watch.ensures.sound (g.B.Bench.calc c.args
 pub returns-in-Quiet-clause-steps : goal.returns-in-Quiet-clause-steps
 returns-in-Quiet-clause-steps g c =
     let calc : Calc = g.B.Bench.calc c.args.bench.now in
-    on_ok c.change.result (λ is. rw c.in-Quiet.is (change_carries calc c.in-Quiet.change c.args.self.now c.change.new.self
+    on_ok c.apply.result (λ is. rw c.in-Quiet.is (change_carries calc c.in-Quiet.change c.args.self.now c.apply.new.self
     c.args.lines.now.items (g.B.Bench.count c.args.bench.now) (g.B.Bench.log c.args.bench.now) is))
-    c.change.ensures.set
+    c.apply.ensures.set
 
 pub returns-in-Quiet-clause-stops : goal.returns-in-Quiet-clause-stops
 returns-in-Quiet-clause-stops g c =
-    on_err_of c.change.result
-    (λ same. ends_at_once _ _ c.args.self.now c.change.new.self c.args.lines.now.items c.args.lines.now.items
-    (g.B.Bench.count c.args.bench.now) (g.B.Bench.log c.args.bench.now) same refl) c.change.ensures.err
+    on_err_of c.apply.result
+    (λ same. ends_at_once _ _ c.args.self.now c.apply.new.self c.args.lines.now.items c.args.lines.now.items
+    (g.B.Bench.count c.args.bench.now) (g.B.Bench.log c.args.bench.now) same refl) c.apply.ensures.err
 
 pub returns-in-Quiet-clause-ends : goal.returns-in-Quiet-clause-ends
 returns-in-Quiet-clause-ends g c = λ yes.
-    c.change.ensures.ready (subst (λ (a : Act). takes_no_memory a ≡ true) c.in-Quiet.is yes)
+    c.apply.ensures.ready (subst (λ (a : Act). takes_no_memory a ≡ true) c.in-Quiet.is yes)
 
 pub returns-in-Quiet-clause-sound : goal.returns-in-Quiet-clause-sound
-returns-in-Quiet-clause-sound g c = c.change.ensures.sound (g.B.Bench.calc c.args.bench.now) c.requires.sound
+returns-in-Quiet-clause-sound g c = c.apply.ensures.sound (g.B.Bench.calc c.args.bench.now) c.requires.sound
 
 pub returns-in-Grow-clause-steps : goal.returns-in-Grow-clause-steps
 returns-in-Grow-clause-steps g c =

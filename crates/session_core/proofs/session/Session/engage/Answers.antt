@@ -3,7 +3,7 @@ use Rattle.desk_terms.specs.declared.kind.Kind.TheVariants as kind
 use Rattle.session_model.specs.Standing.{Standing}
 use Rattle.session_core.specs.Allowed.{MayEngage}
 use Rattle.session_core.proofs.Naming.{names_alike}
-use Rattle.session_core.proofs.Alike.{there_of_kind, engine_alike, sound_as}
+use Rattle.session_core.proofs.Alike.{there_of_kind, engine_alike, sound_as, keeps_as}
 use Rattle.session_core.proofs.Linking.{none_ready}
 use Rattle.session_core.proofs.session.Session.engage.Goals as goal
 
@@ -29,3 +29,6 @@ returns-clause-sound c = sound_as _ c.args.self.now c.set_engine.new.self c.self
 
 pub returns-clause-ready : goal.returns-clause-ready
 returns-clause-ready c = none_ready c.args.engine c.set_engine.result c.set_engine.ensures.ready
+
+pub returns-clause-keeps : goal.returns-clause-keeps
+returns-clause-keeps c = keeps_as _ c.args.self.now c.set_engine.new.self c.self.view_is c.set_engine.ensures.keeps

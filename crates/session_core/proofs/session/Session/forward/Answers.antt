@@ -1,5 +1,5 @@
 use Rattle.session_core.proofs.Naming.{names_alike}
-use Rattle.session_core.proofs.Alike.{forward_alike, sound_as}
+use Rattle.session_core.proofs.Alike.{forward_alike, sound_as, keeps_as}
 use Rattle.session_core.proofs.session.Session.forward.Goals as goal
 
 pub invariant_of-self : goal.invariant_of-self
@@ -10,3 +10,6 @@ invariant_of-self c =
 
 pub returns-clause-sound : goal.returns-clause-sound
 returns-clause-sound c = sound_as _ c.args.self.now c.forward.new.self c.self.view_is c.forward.ensures.sound
+
+pub returns-clause-keeps : goal.returns-clause-keeps
+returns-clause-keeps c = keeps_as _ c.args.self.now c.forward.new.self c.self.view_is c.forward.ensures.keeps

@@ -2,7 +2,7 @@ use Rattle.std.proofs.Common.{sym, subst}
 use Rattle.session_model.specs.Standing.{Standing}
 use Rattle.session_core.specs.Allowed.{MayRelink}
 use Rattle.session_core.proofs.Naming.{names_alike}
-use Rattle.session_core.proofs.Alike.{link_alike, sound_as}
+use Rattle.session_core.proofs.Alike.{link_alike, sound_as, keeps_as}
 use Rattle.session_core.proofs.Linking.{handle_there, handle_stays, handle_ready, may_link, target_kinds}
 use Rattle.session_core.proofs.session.Session.link.Goals as goal
 
@@ -36,3 +36,6 @@ pub returns-clause-ready : goal.returns-clause-ready
 returns-clause-ready c =
     let may = subst (λ (p : Standing). MayRelink p c.args.handle c.args.target) (sym c.self.view_is) c.requires.may in
     handle_ready c.self.inside.desk.market c.args.handle c.args.target c.relink.result may.handle c.relink.ensures.ready
+
+pub returns-clause-keeps : goal.returns-clause-keeps
+returns-clause-keeps c = keeps_as _ c.args.self.now c.relink.new.self c.self.view_is c.relink.ensures.keeps

@@ -1,5 +1,5 @@
 use Rattle.std.proofs.Common.{◌<◌, length, sym, arith, rules}
-use Rattle.session_core.proofs.Alike.{may_remove, names_removed, sound_as}
+use Rattle.session_core.proofs.Alike.{may_remove, names_removed, sound_as, keeps_as}
 use Rattle.session_core.proofs.session.Session.remove.Goals as goal
 
 pub index_mut-requires : goal.index_mut-requires
@@ -35,3 +35,6 @@ invariant_of-self c =
 
 pub returns-clause-sound : goal.returns-clause-sound
 returns-clause-sound c = sound_as _ c.args.self.now c.remove.new.self c.self.view_is c.remove.ensures.sound
+
+pub returns-clause-keeps : goal.returns-clause-keeps
+returns-clause-keeps c = keeps_as _ c.args.self.now c.remove.new.self c.self.view_is c.remove.ensures.keeps

@@ -3,7 +3,7 @@ use Rattle.desk_terms.specs.declared.kind.Kind.TheVariants as kind
 use Rattle.desk_model.specs.Market.{kind_at}
 use Rattle.session_model.specs.Standing.{Standing}
 use Rattle.session_core.proofs.Naming.{names_alike}
-use Rattle.session_core.proofs.Alike.{there_of_kind, quote_alike, sound_as}
+use Rattle.session_core.proofs.Alike.{there_of_kind, quote_alike, sound_as, keeps_as}
 use Rattle.session_core.proofs.session.Session.set.Goals as goal
 
 pub invariant_of-self : goal.invariant_of-self
@@ -17,3 +17,6 @@ invariant_of-self c =
 
 pub returns-clause-sound : goal.returns-clause-sound
 returns-clause-sound c = sound_as _ c.args.self.now c.set_quote.new.self c.self.view_is c.set_quote.ensures.sound
+
+pub returns-clause-keeps : goal.returns-clause-keeps
+returns-clause-keeps c = keeps_as _ c.args.self.now c.set_quote.new.self c.self.view_is c.set_quote.ensures.keeps

@@ -2,7 +2,7 @@ use Rattle.std.proofs.Common.{subst, sym}
 use Rattle.session_model.specs.Standing.{Standing}
 use Rattle.session_core.specs.Allowed.{MayPair}
 use Rattle.session_core.proofs.Naming.{names_alike}
-use Rattle.session_core.proofs.Alike.{unregistered_alike, sound_as}
+use Rattle.session_core.proofs.Alike.{unregistered_alike, sound_as, keeps_as}
 use Rattle.session_core.proofs.session.Session.unregister.Goals as goal
 
 pub unregister-requires-clause-watcher : goal.unregister-requires-clause-watcher
@@ -21,3 +21,6 @@ invariant_of-self c =
 
 pub returns-clause-sound : goal.returns-clause-sound
 returns-clause-sound c = sound_as _ c.args.self.now c.unregister.new.self c.self.view_is c.unregister.ensures.sound
+
+pub returns-clause-keeps : goal.returns-clause-keeps
+returns-clause-keeps c = keeps_as _ c.args.self.now c.unregister.new.self c.self.view_is c.unregister.ensures.keeps

@@ -4,6 +4,7 @@
 #![tactic(auto)]
 
 mod acting;
+mod changing;
 mod idle;
 mod playing;
 mod session;

@@ -1,0 +1,40 @@
+// Quiet commands by themselves, without a round.
+ghost use Rattle.std.specs.Prelude.{◌≡◌, true, false, IfOk};
+ghost use Rattle.std.specs.Result.{result_err};
+ghost use Rattle.desk_terms.specs.Reading.{Calc};
+ghost use Rattle.desk_model.specs.Sound.{IsSound, KeepsCurrent};
+ghost use Rattle.session_model.specs.Standing.{IsKnown};
+ghost use Rattle.session_model.specs.Quiet.{is_quiet};
+ghost use Rattle.session_model.specs.Resolve.{resolve};
+ghost use Rattle.session_model.specs.Turn.{turn};
+ghost use Rattle.session_model.specs.Course.{taken};
+ghost use Rattle.session_core.specs.Steps.{takes_no_memory};
+
+use crate::WatchedSession;
+use crate::idle::forget_idle;
+use session_commands::{Command, Refusal};
+use watch_rounds::Picker;
+
+impl<P: Picker> WatchedSession<P> {
+    /// Does a quiet command by itself, and answers why it is refused, if it is: a refused command changes nothing. No
+    /// watcher runs and no line is written. The notices that it gives are kept, and forgotten as the next step begins its
+    /// round. It computes nothing and takes no memory.
+    pub fn change(&mut self, command: &Command) -> Option<Refusal>
+        requires running { self.old.standing.stopped ≡ false }
+        requires known { IsKnown self.old.standing command.now }
+        requires quiet { is_quiet command.now ≡ true }
+        // A target and an engine that are given may want memory yet.
+        requires ready { IfOk (resolve self.old.standing command.now) (λ act. takes_no_memory act ≡ true) }
+        // It does what a step of the command does before its notices are handed out.
+        ensures turns { (calc : Calc) → self.new ≡ (taken (turn calc self.old.standing command.now) self.old).next }
+        ensures refusal { result ≡ result_err (resolve self.old.standing command.now) }
+        ensures running { self.new.standing.stopped ≡ false }
+        ensures keeps { KeepsCurrent self.old.standing.state self.new.standing.state }
+        ensures sound { (calc : Calc) → IsSound calc self.old.standing.state → IsSound calc self.new.standing.state }
+    {
+        self.session.watchers();
+        let refusal = self.session.change(command);
+        forget_idle(&mut self.rounds, &self.session);
+        refusal
+    }
+}

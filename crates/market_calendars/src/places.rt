@@ -120,7 +120,10 @@ impl<'a> Element for KnownElement<'a> {
 
     ghost made = { λ e. known_pass e.earlier.now };
 
-    fn element(&self, value: &Value) -> Result<(), TableFault> {
+    fn element(&self, value: &Value) -> Result<(), TableFault>
+        ensures given { Gives (λ made. made) result (known_pass self.now.earlier.now (view value.now)) }
+        ensures exact { Says (λ _. tt) result (known_pass self.now.earlier.now (view value.now)) }
+    {
         test_known(self.earlier, value)
     }
 }
@@ -138,7 +141,10 @@ impl<'a> Element for SingleElement<'a> {
 
     ghost made = { λ e. single_pass e.earlier.now };
 
-    fn element(&self, value: &Value) -> Result<(), TableFault> {
+    fn element(&self, value: &Value) -> Result<(), TableFault>
+        ensures given { Gives (λ made. made) result (single_pass self.now.earlier.now (view value.now)) }
+        ensures exact { Says (λ _. tt) result (single_pass self.now.earlier.now (view value.now)) }
+    {
         test_single(self.earlier, value)
     }
 }

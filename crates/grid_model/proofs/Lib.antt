@@ -1,0 +1,3 @@
+mod Alone
+mod Least
+pub mod Moved

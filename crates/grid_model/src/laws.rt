@@ -1,0 +1,18 @@
+// What is proved of the definitions, for every bench and every market.
+ghost use Rattle.grid_model.specs.Laws.{ScenariosStandAlone, ScenariosAreAfresh, WorstIsLeast};
+
+/// The lines of a scenario, its computations and the values that it shows are those of its own block and of the asks,
+/// whatever other blocks a script has.
+pub fn scenarios_stand_alone()
+    ensures { ScenariosStandAlone }
+{}
+
+/// Each ask of a scenario is answered by the price afresh from the market after the moves.
+pub fn scenarios_are_priced_afresh()
+    ensures { ScenariosAreAfresh }
+{}
+
+/// The worst value is one that is shown, none that is shown is less, and each before it is more.
+pub fn a_worst_value_is_the_least()
+    ensures { WorstIsLeast }
+{}

@@ -1,0 +1,12 @@
+// Grids that are worked through by hand.
+ghost use Rattle.grid_model.specs.Rows.{IsWorked, AreRefused};
+
+// A stock under moves of its quote.
+fn a_stock_is_worked_through()
+    ensures { IsWorked }
+{}
+
+// Moves and asks that are refused.
+fn refusals_are_worked_through()
+    ensures { AreRefused }
+{}

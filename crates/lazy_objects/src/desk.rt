@@ -7,7 +7,7 @@ ghost use Rattle.desk_model.specs.Told.{is_registered, is_watching};
 ghost use Rattle.desk_model.specs.Uses.{index_at, fixings_in};
 ghost use Rattle.desk_model.specs.State.{kept_at, held, is_frozen, is_late, least_source};
 ghost use Rattle.desk_model.specs.Sound.{IsSound, KeepsCurrent};
-ghost use Rattle.desk_model.specs.Links.{AreOfKind, Serve, is_lazy_at, reaches, serves_as};
+ghost use Rattle.desk_model.specs.Links.{AreOfKind, IsWhole, Serve, is_lazy_at, reaches, serves_as};
 ghost use Rattle.desk_model.specs.Effect.{start, made, quote_set, relinked, engine_set, member_set, fixing_added, today_set, dropped, watching, registered_with, unregistered, handed_out, frozen_set, thawed, forward_set, deferred, resumed};
 ghost use Rattle.desk_terms.specs.declared.kind.Kind.TheVariants.{Quote, Index, Composite, Flows};
 ghost use Rattle.desk_terms.specs.declared.kind.Wanted.TheVariants.{Member, Engine};
@@ -497,6 +497,20 @@ impl Desk {
         ensures { option_copied result ≡ (kept_at self.now object).last }
     {
         self.store.last(object)
+    }
+
+    /// Whether the last value of an object is current: nothing that it was computed from has changed since.
+    pub fn is_current(&self, object: ObjId) -> bool
+        ensures { result ≡ (kept_at self.now object).current }
+    {
+        self.store.is_current(object)
+    }
+
+    /// Does nothing: what is known of the shape of every desk.
+    pub fn shape(&self)
+        ensures { IsWhole self.now }
+    {
+        let _ = &self.scratch;
     }
 
     /// The rate that an index has stored for a day; none where it has none, and where the object is no index.

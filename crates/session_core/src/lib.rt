@@ -11,6 +11,7 @@ mod pricing;
 mod resolving;
 mod session;
 mod telling;
+mod values;
 
 pub use fault::MakeFault;
 pub use laws::asks_leave_stored;

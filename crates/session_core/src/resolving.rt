@@ -42,8 +42,8 @@ impl Session {
             Command::Handle(name, is_curve) => self.handle(*name, *is_curve),
             Command::Composite(name) => self.composite(*name),
             Command::Member(composite, member, weight) => self.member(*composite, *member, *weight),
-            Command::Set(quote, value) => self.value(*quote, Some(*value)),
-            Command::Unset(quote) => self.value(*quote, None),
+            Command::Set(quote, value) => self.revalued(*quote, Some(*value)),
+            Command::Unset(quote) => self.revalued(*quote, None),
             Command::Link(handle, target) => self.linked(*handle, *target),
             Command::Unlink(handle) => self.unlinked(*handle),
             Command::Engine(instrument, engine) => self.engaging(*instrument, *engine),
@@ -66,7 +66,7 @@ impl Session {
 
     // The object that a name stands for, where it is of a kind that the place takes.
     #[tactic(auto, unfolding(session_model::specs::Resolve::find))]
-    fn find(&self, place: Place, name: NameId) -> Result<ObjId, Refusal>
+    pub(crate) fn find(&self, place: Place, name: NameId) -> Result<ObjId, Refusal>
         ensures { result ≡ find place self.now name }
     {
         match self.named(name) {
@@ -263,7 +263,7 @@ impl Session {
     }
 
     #[tactic(auto, unfolding(session_model::specs::Resolve::with_found))]
-    fn value(&self, quote: NameId, value: Option<Rate>) -> Result<Act, Refusal>
+    fn revalued(&self, quote: NameId, value: Option<Rate>) -> Result<Act, Refusal>
         ensures { result ≡ with_found (find place.Quote self.now quote) (λ x. Ok (act.Quiet (change.Set x value))) }
     {
         let quote = self.find(Place::Quote, quote)?;

@@ -5,7 +5,7 @@ ghost use Rattle.desk_terms.specs.Reading.{Calc, AreInRange};
 ghost use Rattle.desk_terms.specs.declared.kind.Kind.TheVariants as kind;
 ghost use Rattle.desk_terms.specs.declared.kind.Wanted.TheVariants as wanted;
 ghost use Rattle.desk_model.specs.Market.{slot_at, is_given, is_watcher, kind_at, least_user};
-ghost use Rattle.desk_model.specs.Links.{AreOfKind, serves_as, is_lazy_at};
+ghost use Rattle.desk_model.specs.Links.{AreOfKind, IsWhole, serves_as, is_lazy_at};
 ghost use Rattle.desk_model.specs.Sound.{IsSound, KeepsCurrent};
 ghost use Rattle.desk_terms.specs.Asked.{Shows};
 ghost use Rattle.desk_terms.specs.Reading.{Outcome};
@@ -168,6 +168,13 @@ impl Session {
         let _ = &self.of_name;
     }
 
+    /// Does nothing: what is known of the shape of the objects of every session.
+    pub fn shape(&self)
+        ensures { IsWhole self.now.state }
+    {
+        self.desk.shape();
+    }
+
     /// Its names.
     pub fn names(&self) -> &Names
         ensures { result.now ≡ self.now.names }
@@ -215,6 +222,20 @@ impl Session {
         ensures { result ≡ kind_at self.now.state.market object }
     {
         self.desk.kind(object)
+    }
+
+    // The last value of an object, if it has one.
+    pub(crate) fn last(&self, object: ObjId) -> Option<&Value>
+        ensures { option_copied result ≡ (kept_at self.now.state object).last }
+    {
+        self.desk.last(object)
+    }
+
+    // Whether the last value of an object is current.
+    pub(crate) fn is_settled(&self, object: ObjId) -> bool
+        ensures { result ≡ (kept_at self.now.state object).current }
+    {
+        self.desk.is_current(object)
     }
 
     // Whether there is no room for one object more.

@@ -259,6 +259,12 @@ pub plain_afresh : {P : Type 0} → (m : Meaning P) (r : Running P) (commands : 
     → All (λ moment. AreAskedAfresh m.calc moment.standing) (moments m r commands)
 plain_afresh m r commands none is actions = rounds_plain m r commands is (record { unheld = none; actions = actions })
 
+-- the round of such a command leaves a session in which nothing is held back
+pub round_unheld : {P : Type 0} → (m : Meaning P) (r : Running P) (c : Command) → holds_nothing c ≡ true
+    → HoldsNothing r.standing.state → All (λ action. All (λ d. holds_nothing d ≡ true) action) r.standing.actions
+    → HoldsNothing (round_of m r c).next.standing.state
+round_unheld m r c is none actions = (round_plain m r c is (record { unheld = none; actions = actions })).next.unheld
+
 -- at each moment, whatever is held back
 all_of_each : (Q : Moment → Type 0) → ((x : Moment) → Q x) → (xs : List Moment) → All Q xs
 all_of_each Q each [] = All-nil Q

@@ -1,5 +1,5 @@
 mod Fitting
-mod Going
+pub mod Going
 mod Hearing
 mod Known
 mod Live

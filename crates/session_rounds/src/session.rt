@@ -62,6 +62,13 @@ impl<P: Picker> WatchedSession<P> {
         self.session.is_stopped()
     }
 
+    /// The session, with its objects and their names.
+    pub fn session(&self) -> &Session
+        ensures { result.now ≡ self.now.standing }
+    {
+        &self.session
+    }
+
     /// Runs the round of a command: the command with its notices, and the runs of the watchers that are due, one at a
     /// time, until none is. After want of memory a front of the round's lines was appended, a front of its computations
     /// was begun, all of which ended but the last one at most, and the session is stopped.

@@ -2,7 +2,6 @@
 use Rattle.std.proofs.Common.{◌≡◌, ℕ, zero, suc, List, [], ◌∷◌, Option, Some, None, refl, sym, ◌∙◌, ap, slice_get}
 use Rattle.std.specs.Prelude.{option_map}
 use Rattle.desk_terms.specs.Reading.{Calc}
-use Rattle.price_report.specs.Namer.{name_text}
 use Rattle.session_commands.specs.declared.command.Command.{Command}
 use Rattle.session_commands.specs.declared.script.Script.{Script}
 use Rattle.grid_model.specs.Scenario.{Basis, Scenario, scenario_calls, scenario_values}
@@ -10,44 +9,44 @@ use Rattle.grid_model.specs.Grid.{blocks, scenario_text}
 use Rattle.grid_model.specs.Laws.{Agree, IsAlike, scenario_at}
 
 -- a name and moves, where both are there
-abbrev with_moves : List (List ℕ) → ℕ → Option (List Command) → Option Scenario
-with_moves names name None = None
-with_moves names name (Some moves) = Some (record { label = name_text names name; moves = moves })
+abbrev with_moves : ℕ → Option (List Command) → Option Scenario
+with_moves name None = None
+with_moves name (Some moves) = Some (record { name = Some name; moves = moves })
 
-abbrev scenario_by : List (List ℕ) → Option ℕ → Option (List Command) → Option Scenario
-scenario_by names None moves = None
-scenario_by names (Some name) moves = with_moves names name moves
+abbrev scenario_by : Option ℕ → Option (List Command) → Option Scenario
+scenario_by None moves = None
+scenario_by (Some name) moves = with_moves name moves
 
-none_by : (names : List (List ℕ)) (name : Option ℕ) → scenario_by names name None ≡ None
-none_by names None = refl
-none_by names (Some name) = refl
+none_by : (name : Option ℕ) → scenario_by name None ≡ None
+none_by None = refl
+none_by (Some name) = refl
 
-block_at : (names : List (List ℕ)) (names_of : List ℕ) (actions : List (List Command)) (i : ℕ)
-    → slice_get (blocks names names_of actions) i ≡ scenario_by names (slice_get names_of i) (slice_get actions i)
-block_at names [] actions i = refl
-block_at names (name ∷ others) [] i = sym (none_by names (slice_get (name ∷ others) i))
-block_at names (name ∷ others) (moves ∷ actions) zero = refl
-block_at names (name ∷ others) (moves ∷ actions) (suc i) = block_at names others actions i
+block_at : (names : List ℕ) (actions : List (List Command)) (i : ℕ)
+    → slice_get (blocks names actions) i ≡ scenario_by (slice_get names i) (slice_get actions i)
+block_at [] actions i = refl
+block_at (name ∷ others) [] i = sym (none_by (slice_get (name ∷ others) i))
+block_at (name ∷ others) (moves ∷ actions) zero = refl
+block_at (name ∷ others) (moves ∷ actions) (suc i) = block_at others actions i
 
-module _ (names : List (List ℕ)) (one other : Script) (i j : ℕ) (agree : Agree one other i j) where
-  same_scenario : scenario_at names one i ≡ scenario_at names other j
+module _ (one other : Script) (i j : ℕ) (agree : Agree one other i j) where
+  same_scenario : scenario_at one i ≡ scenario_at other j
   same_scenario =
-      block_at names one.action_names one.actions i
-      ∙ ap (λ (name : Option ℕ). scenario_by names name (slice_get one.actions i)) agree.name
-      ∙ ap (λ (moves : Option (List Command)). scenario_by names (slice_get other.action_names j) moves) agree.moves
-      ∙ sym (block_at names other.action_names other.actions j)
+      block_at one.action_names one.actions i
+      ∙ ap (λ (name : Option ℕ). scenario_by name (slice_get one.actions i)) agree.name
+      ∙ ap (λ (moves : Option (List Command)). scenario_by (slice_get other.action_names j) moves) agree.moves
+      ∙ sym (block_at other.action_names other.actions j)
 
   -- what asks and a scenario give is the same
   same_of : {X : Type 0} → (f : List Command → Scenario → X)
-      → option_map (f one.commands) (scenario_at names one i) ≡ option_map (f other.commands) (scenario_at names other j)
+      → option_map (f one.commands) (scenario_at one i) ≡ option_map (f other.commands) (scenario_at other j)
   same_of f =
-      ap (λ (asks : List Command). option_map (f asks) (scenario_at names one i)) agree.asks
+      ap (λ (asks : List Command). option_map (f asks) (scenario_at one i)) agree.asks
       ∙ ap (λ (scenario : Option Scenario). option_map (f other.commands) scenario) same_scenario
 
 pub stand_alone : (calc : Calc) (basis : Basis) (one other : Script) (i j : ℕ) → Agree one other i j
     → IsAlike calc basis one other i j
 stand_alone calc basis one other i j agree = record {
-  text = same_of basis.names one other i j agree (scenario_text calc basis);
-  calls = same_of basis.names one other i j agree (scenario_calls calc basis);
-  values = same_of basis.names one other i j agree (scenario_values calc basis);
+  text = same_of one other i j agree (scenario_text calc basis);
+  calls = same_of one other i j agree (scenario_calls calc basis);
+  values = same_of one other i j agree (scenario_values calc basis);
 }

@@ -6,65 +6,65 @@ use Rattle.grid_model.specs.Laws.{ShowsNone, TellsWorst}
 use Rattle.grid_model.specs.Worst.{Worst, lower, worst_of, IsWorst}
 
 abbrev Entries : Type 0
-Entries = List (List ℕ × Option ℤ)
+Entries = List (Option ℕ × Option ℤ)
 
-abbrev worst : List ℕ → ℤ → Worst
-worst label amount = record { label = label; amount = amount }
+abbrev worst : Option ℕ → ℤ → Worst
+worst label amount = record { name = label; amount = amount }
 
 -- what an entry shows
-abbrev amount_in : Option (List ℕ × Option ℤ) → Option ℤ
+abbrev amount_in : Option (Option ℕ × Option ℤ) → Option ℤ
 amount_in None = None
 amount_in (Some entry) = entry.1
 
-abbrev shown : List ℕ → Option ℤ → Option (List ℕ × Option ℤ)
+abbrev shown : Option ℕ → Option ℤ → Option (Option ℕ × Option ℤ)
 shown label amount = Some (label, amount)
 
-same_amount : (l label : List ℕ) (a amount : ℤ) → shown l (Some a) ≡ shown label (Some amount) → a ≡ amount
+same_amount : (l label : Option ℕ) (a amount : ℤ) → shown l (Some a) ≡ shown label (Some amount) → a ≡ amount
 same_amount l label a amount e = let same : Some a ≡ Some amount = ap amount_in e in cc
 
-no_amount : (l label : List ℕ) (amount : ℤ) → shown l None ≡ shown label (Some amount) → ⊥
+no_amount : (l label : Option ℕ) (amount : ℤ) → shown l None ≡ shown label (Some amount) → ⊥
 no_amount l label amount e = let same : None ≡ Some amount = ap amount_in e in cc
 
 -- ---- an entry that shows nothing
 
-behind_none : (label : List ℕ) (entries : Entries) (w : Worst) → IsWorst entries w → IsWorst ((label, None) ∷ entries) w
+behind_none : (label : Option ℕ) (entries : Entries) (w : Worst) → IsWorst entries w → IsWorst ((label, None) ∷ entries) w
 behind_none label entries w is = record { at = suc is.at; there = is.there; least = least; first = first }
   where
-    least : (i : ℕ) (l : List ℕ) (a : ℤ) → slice_get ((label, None) ∷ entries) i ≡ Some (l, Some a) → w.amount ≤ℤ a
+    least : (i : ℕ) (l : Option ℕ) (a : ℤ) → slice_get ((label, None) ∷ entries) i ≡ Some (l, Some a) → w.amount ≤ℤ a
     least zero l a e = absurd (no_amount label l a e)
     least (suc i) l a e = is.least i l a e
 
-    first : (i : ℕ) (l : List ℕ) (a : ℤ) → i < suc is.at → slice_get ((label, None) ∷ entries) i ≡ Some (l, Some a) → w.amount <ℤ a
+    first : (i : ℕ) (l : Option ℕ) (a : ℤ) → i < suc is.at → slice_get ((label, None) ∷ entries) i ≡ Some (l, Some a) → w.amount <ℤ a
     first zero l a within e = absurd (no_amount label l a e)
     first (suc i) l a within e = is.first i l a (omega (arith, within)) e
 
 -- ---- an entry that shows more than the worst behind it
 
-behind_more : (label : List ℕ) (amount : ℤ) (entries : Entries) (w : Worst) → w.amount <ℤ amount → IsWorst entries w
+behind_more : (label : Option ℕ) (amount : ℤ) (entries : Entries) (w : Worst) → w.amount <ℤ amount → IsWorst entries w
     → IsWorst ((label, Some amount) ∷ entries) w
 behind_more label amount entries w less is = record { at = suc is.at; there = is.there; least = least; first = first }
   where
-    least : (i : ℕ) (l : List ℕ) (a : ℤ) → slice_get ((label, Some amount) ∷ entries) i ≡ Some (l, Some a) → w.amount ≤ℤ a
+    least : (i : ℕ) (l : Option ℕ) (a : ℤ) → slice_get ((label, Some amount) ∷ entries) i ≡ Some (l, Some a) → w.amount ≤ℤ a
     least zero l a e = let same = same_amount label l amount a e in omega (arith, ints, same, less)
     least (suc i) l a e = is.least i l a e
 
-    first : (i : ℕ) (l : List ℕ) (a : ℤ) → i < suc is.at → slice_get ((label, Some amount) ∷ entries) i ≡ Some (l, Some a)
+    first : (i : ℕ) (l : Option ℕ) (a : ℤ) → i < suc is.at → slice_get ((label, Some amount) ∷ entries) i ≡ Some (l, Some a)
         → w.amount <ℤ a
     first zero l a within e = let same = same_amount label l amount a e in subst (λ (b : ℤ). w.amount <ℤ b) same less
     first (suc i) l a within e = is.first i l a (omega (arith, within)) e
 
 -- ---- an entry that shows no more than those behind it
 
-in_front : (label : List ℕ) (amount : ℤ) (entries : Entries)
-    → ((i : ℕ) (l : List ℕ) (a : ℤ) → slice_get entries i ≡ Some (l, Some a) → amount ≤ℤ a)
+in_front : (label : Option ℕ) (amount : ℤ) (entries : Entries)
+    → ((i : ℕ) (l : Option ℕ) (a : ℤ) → slice_get entries i ≡ Some (l, Some a) → amount ≤ℤ a)
     → IsWorst ((label, Some amount) ∷ entries) (worst label amount)
 in_front label amount entries bound = record { at = zero; there = refl; least = least; first = first }
   where
-    least : (i : ℕ) (l : List ℕ) (a : ℤ) → slice_get ((label, Some amount) ∷ entries) i ≡ Some (l, Some a) → amount ≤ℤ a
+    least : (i : ℕ) (l : Option ℕ) (a : ℤ) → slice_get ((label, Some amount) ∷ entries) i ≡ Some (l, Some a) → amount ≤ℤ a
     least zero l a e = let same = same_amount label l amount a e in omega (arith, ints, same)
     least (suc i) l a e = bound i l a e
 
-    first : (i : ℕ) (l : List ℕ) (a : ℤ) → i < zero → slice_get ((label, Some amount) ∷ entries) i ≡ Some (l, Some a)
+    first : (i : ℕ) (l : Option ℕ) (a : ℤ) → i < zero → slice_get ((label, Some amount) ∷ entries) i ≡ Some (l, Some a)
         → amount <ℤ a
     first i l a within e = absurd (omega (arith, within))
 
@@ -86,9 +86,9 @@ shows_none ((l, Some a) ∷ entries) e i label amount there = lower_some (worst 
 
 -- ---- the worst
 
-module _ (label : List ℕ) (amount : ℤ) (entries : Entries) (rest : TellsWorst entries) where
+module _ (label : Option ℕ) (amount : ℤ) (entries : Entries) (rest : TellsWorst entries) where
   no_more : (other : Worst) → worst_of entries ≡ Some other → amount ≤ℤ other.amount
-      → (i : ℕ) (l : List ℕ) (a : ℤ) → slice_get entries i ≡ Some (l, Some a) → amount ≤ℤ a
+      → (i : ℕ) (l : Option ℕ) (a : ℤ) → slice_get entries i ≡ Some (l, Some a) → amount ≤ℤ a
   no_more other is within i l a there = let least = (rest other is).least i l a there in omega (arith, ints, within, least)
 
   chosen : (w other : Worst) → worst_of entries ≡ Some other → (b : Bool) → int_le amount other.amount ≡ b

@@ -9,25 +9,29 @@ use Rattle.grid_shape.specs.Kinds.{asked_name}
 use Rattle.grid_model.specs.Scenario.{Basis, Scenario, scenario_lines, scenario_calls, scenario_values}
 use Rattle.grid_model.specs.Worst.{Worst, worst_of}
 
+-- the name of a scenario: that of its block, or `base`
+abbrev pub label_text : List (List ℕ) → Option ℕ → List ℕ
+label_text names None = codes "base"
+label_text names (Some name) = name_text names name
+
 -- the scenario without moves
 abbrev pub base : Scenario
-base = record { label = codes "base"; moves = [] }
+base = record { name = None; moves = [] }
 
 -- each block with its name, in order
-abbrev pub blocks : List (List ℕ) → List ℕ → List (List Command) → List Scenario
-blocks names [] actions = []
-blocks names (name ∷ others) [] = []
-blocks names (name ∷ others) (moves ∷ actions) =
-    record { label = name_text names name; moves = moves } ∷ blocks names others actions
+abbrev pub blocks : List ℕ → List (List Command) → List Scenario
+blocks [] actions = []
+blocks (name ∷ others) [] = []
+blocks (name ∷ others) (moves ∷ actions) = record { name = Some name; moves = moves } ∷ blocks others actions
 
 -- THE SCENARIOS of a script: that without moves, and each block
-abbrev pub scenarios_of : List (List ℕ) → Script → List Scenario
-scenarios_of names script = base ∷ blocks names script.action_names script.actions
+abbrev pub scenarios_of : Script → List Scenario
+scenarios_of script = base ∷ blocks script.action_names script.actions
 
 -- `scenario NAME`, and the lines of the scenario
 abbrev pub scenario_text : Calc → Basis → List Command → Scenario → List ℕ
 scenario_text calc basis asks scenario =
-    codes "scenario " ++ scenario.label ++ codes "\n" ++ scenario_lines calc basis asks scenario
+    codes "scenario " ++ label_text basis.names scenario.name ++ codes "\n" ++ scenario_lines calc basis asks scenario
 
 unfoldable pub scenario_texts : Calc → Basis → List Command → List Scenario → List ℕ
 scenario_texts calc basis asks [] = []
@@ -42,18 +46,18 @@ scenarios_calls calc basis asks (scenario ∷ scenarios) =
 
 -- a scenario's name, and the values that it shows
 pub record Row : Type 0 where
-  pub label : List ℕ
+  pub name : Option ℕ
   pub values : List (Option ℤ)
 
 unfoldable pub rows_of : Calc → Basis → List Command → List Scenario → List Row
 rows_of calc basis asks [] = []
 rows_of calc basis asks (scenario ∷ scenarios) =
-    record { label = scenario.label; values = scenario_values calc basis asks scenario } ∷ rows_of calc basis asks scenarios
+    record { name = scenario.name; values = scenario_values calc basis asks scenario } ∷ rows_of calc basis asks scenarios
 
 -- what each scenario shows for one ask
-abbrev pub column : ℕ → List Row → List (List ℕ × Option ℤ)
+abbrev pub column : ℕ → List Row → List (Option ℕ × Option ℤ)
 column k [] = []
-column k (row ∷ rows) = (row.label, slice_index_or row.values k None) ∷ column k rows
+column k (row ∷ rows) = (row.name, slice_index_or row.values k None) ∷ column k rows
 
 -- the name that is asked for
 abbrev pub asked_text : List (List ℕ) → Option ℕ → List ℕ
@@ -61,13 +65,13 @@ asked_text names (Some name) = name_text names name
 asked_text names None = []
 
 -- the scenario's name and the amount with six places, or `none`
-abbrev pub worst_text : Option Worst → List ℕ
-worst_text (Some worst) = worst.label ++ codes " " ++ decimal_text worst.amount 6
-worst_text None = codes "none"
+abbrev pub worst_text : List (List ℕ) → Option Worst → List ℕ
+worst_text names (Some worst) = label_text names worst.name ++ codes " " ++ decimal_text worst.amount 6
+worst_text names None = codes "none"
 
 -- `worst NAME SCENARIO AMOUNT` or `worst NAME none`
 unfoldable pub worst_line : List (List ℕ) → Option ℕ → Option Worst → List ℕ
-worst_line names name worst = codes "worst " ++ asked_text names name ++ codes " " ++ worst_text worst ++ codes "\n"
+worst_line names name worst = codes "worst " ++ asked_text names name ++ codes " " ++ worst_text names worst ++ codes "\n"
 
 -- the line of each ask, from the one at place k on
 unfoldable pub worst_lines : List (List ℕ) → List Row → ℕ → List Command → List ℕ
@@ -82,7 +86,7 @@ grid_over calc basis asks scenarios =
 
 -- THE GRID of a script, and its computations
 abbrev pub grid : Calc → Basis → Script → List ℕ
-grid calc basis script = grid_over calc basis script.commands (scenarios_of basis.names script)
+grid calc basis script = grid_over calc basis script.commands (scenarios_of script)
 
 abbrev pub grid_calls : Calc → Basis → Script → List (ℕ × Bool)
-grid_calls calc basis script = scenarios_calls calc basis script.commands (scenarios_of basis.names script)
+grid_calls calc basis script = scenarios_calls calc basis script.commands (scenarios_of script)

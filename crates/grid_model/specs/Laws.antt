@@ -18,17 +18,17 @@ pub record Agree (one other : Script) (i j : ℕ) : Type 0 where
   pub moves : slice_get one.actions i ≡ slice_get other.actions j
 
 -- the scenario of a script's block
-abbrev pub scenario_at : List (List ℕ) → Script → ℕ → Option Scenario
-scenario_at names script i = slice_get (blocks names script.action_names script.actions) i
+abbrev pub scenario_at : Script → ℕ → Option Scenario
+scenario_at script i = slice_get (blocks script.action_names script.actions) i
 
 -- a scenario is the same in both
 pub record IsAlike (calc : Calc) (basis : Basis) (one other : Script) (i j : ℕ) : Type 0 where
-  pub text : option_map (scenario_text calc basis one.commands) (scenario_at basis.names one i)
-      ≡ option_map (scenario_text calc basis other.commands) (scenario_at basis.names other j)
-  pub calls : option_map (scenario_calls calc basis one.commands) (scenario_at basis.names one i)
-      ≡ option_map (scenario_calls calc basis other.commands) (scenario_at basis.names other j)
-  pub values : option_map (scenario_values calc basis one.commands) (scenario_at basis.names one i)
-      ≡ option_map (scenario_values calc basis other.commands) (scenario_at basis.names other j)
+  pub text : option_map (scenario_text calc basis one.commands) (scenario_at one i)
+      ≡ option_map (scenario_text calc basis other.commands) (scenario_at other j)
+  pub calls : option_map (scenario_calls calc basis one.commands) (scenario_at one i)
+      ≡ option_map (scenario_calls calc basis other.commands) (scenario_at other j)
+  pub values : option_map (scenario_values calc basis one.commands) (scenario_at one i)
+      ≡ option_map (scenario_values calc basis other.commands) (scenario_at other j)
 
 -- A SCENARIO STANDS ALONE: two scripts over the same names that agree in a block and in the asks have the same text for
 -- it, whatever their other blocks hold and wherever the block stands
@@ -43,11 +43,11 @@ ScenariosAreAfresh = (calc : Calc) (basis : Basis) (asks : List Command) (scenar
     → All (λ moment. AreAskedAfresh calc moment.standing) (moments (ordered calc) (first_of basis) (scenario.moves ++ asks))
 
 -- no amount is shown
-abbrev pub ShowsNone : List (List ℕ × Option ℤ) → Type 0
-ShowsNone entries = (i : ℕ) (label : List ℕ) (amount : ℤ) → slice_get entries i ≡ Some (label, Some amount) → ⊥
+abbrev pub ShowsNone : List (Option ℕ × Option ℤ) → Type 0
+ShowsNone entries = (i : ℕ) (name : Option ℕ) (amount : ℤ) → slice_get entries i ≡ Some (name, Some amount) → ⊥
 
-abbrev pub TellsWorst : List (List ℕ × Option ℤ) → Type 0
+abbrev pub TellsWorst : List (Option ℕ × Option ℤ) → Type 0
 TellsWorst entries = (worst : Worst) → worst_of entries ≡ Some worst → IsWorst entries worst
 
 abbrev pub WorstIsLeast : Type 0
-WorstIsLeast = (entries : List (List ℕ × Option ℤ)) → TellsWorst entries
+WorstIsLeast = (entries : List (Option ℕ × Option ℤ)) → TellsWorst entries

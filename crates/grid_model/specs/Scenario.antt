@@ -22,9 +22,9 @@ pub record Basis : Type 0 where
   pub today : ℤ
   pub made : List (ℕ × Terms)
 
--- the name of a block, and its moves
+-- a scenario: the name of its block, none of the one without moves, and its moves
 pub record Scenario : Type 0 where
-  pub label : List ℕ
+  pub name : Option ℕ
   pub moves : List Command
 
 -- what the bench computes; of watchers the first would run first, but a scenario has none

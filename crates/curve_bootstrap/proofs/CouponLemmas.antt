@@ -1,6 +1,7 @@
 -- Lemmas on coupons in the order of time.
 use Rattle.std.proofs.Common.{◌≡◌, ℕ, zero, suc, ◌+◌, ◌-◌, ◌<◌, ◌≤◌, arith, refl, sym, ap, subst, Bool, ℤ, pos, ◌<ℤ◌, ◌≤ℤ◌, int_le, true, List, [], ◌∷◌, ◌++◌, length, get_or, take, Option, Some, None, Ok}
 use Rattle.std.proofs.lemmas.Int.{ints, by_lt_z}
+use Rattle.std.proofs.lemmas.List.Elements.{All-nil, All-cons}
 use Rattle.std.specs.declared.cmp.Ordering.{Ordering}
 use Rattle.std.specs.declared.cmp.Ordering.TheVariants.{Less}
 use Rattle.std.specs.Cmp.{int_ranks}
@@ -146,6 +147,18 @@ periods_are counter business reference (day ∷ days) sorted first few =
       after = λ _. period_after counter business reference reference days (omega (arith, ints)) rising;
       parts = period_parts counter business reference days;
     })
+
+-- one coupon of a period, paid at its end
+pub only_is : (from day : ℤ) (parts : ℕ) → from ≤ℤ day → AreCoupons from day (record { day = day; parts = pos parts } ∷ [])
+only_is from day parts h =
+    let one : Coupon = record { day = day; parts = pos parts } in
+    record {
+      few = omega arith;
+      ordered = (h, tt);
+      up_to = All-cons (λ (c : Coupon). c.day ≤ℤ day) one [] (omega (arith, ints)) (All-nil (λ (c : Coupon). c.day ≤ℤ day));
+      after = λ runs. All-cons (λ (c : Coupon). from <ℤ c.day) one [] runs (All-nil (λ (c : Coupon). from <ℤ c.day));
+      parts = All-cons (λ (c : Coupon). pos 0 ≤ℤ c.parts) one [] (omega (arith, ints)) (All-nil (λ (c : Coupon). pos 0 ≤ℤ c.parts));
+    }
 
 -- the coupons of a helper of its kind
 pub coupons_are : (calendar : Calendar) (reference : ℤ) (helper : Helper) (every : Option Tenor) → helper.every ≡ every → coupons_by calendar reference helper every ≡ coupons_of calendar reference helper

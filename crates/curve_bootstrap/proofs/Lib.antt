@@ -9,4 +9,5 @@ pub mod LawLemmas
 pub mod Rows
 pub mod NodesLaw
 pub mod LedLemmas
+pub mod MemoryLemmas
 pub mod BuiltRows

@@ -1,5 +1,6 @@
 -- The curve of its terms (QuantLib's PiecewiseYieldCurve, DepositRateHelper and SwapRateHelper).
 use Rattle.std.specs.Prelude.{◌≡◌, ℕ, suc, Bool, false, ℤ, pos, List, [], ◌∷◌, ◌++◌, Option, Some, None, is_some, Result, Ok, Err, if◌then◌else◌}
+use Rattle.std.specs.Result.{is_ok}
 use Rattle.day_number.specs.declared.tenors.Unit.TheVariants.{Days}
 use Rattle.day_number.specs.declared.tenors.Tenor.{Tenor}
 use Rattle.day_number.specs.declared.conventions.Convention.TheVariants.{Following}
@@ -62,6 +63,11 @@ abbrev pub deposit_to : Counter → (ℤ → Bool) → ℤ → Option ℤ → Re
 deposit_to counter business reference (Some day) =
     Ok (record { day = day; parts = pos (frac counter business reference day) } ∷ [])
 deposit_to counter business reference None = Err DateRange
+
+-- a coupon that is the only one
+abbrev pub alone : Result Coupon HelperFault → Result (List Coupon) HelperFault
+alone (Ok coupon) = Ok (coupon ∷ [])
+alone (Err fault) = Err fault
 
 -- the coupons of a schedule
 abbrev pub swap_over : Counter → (ℤ → Bool) → Result (List ℤ) PlanFault → Result (List Coupon) HelperFault
@@ -183,6 +189,29 @@ curve_from owner terms rates None = Err build.DateRange
 -- the curve of terms and rates on an evaluation date, or why there is none
 unfoldable pub built_curve : ℕ → CurveTerms → ℤ → List ℤ → Result Curve BuildFault
 built_curve owner terms today rates = curve_from owner terms rates (reference_day terms today)
+
+-- whether memory is taken for a helper behind nodes that are there: of a deposit none until its node stands, and of a
+-- swap none where its end is no day
+abbrev pub takes_for : Calendar → CurveNode → List CurveNode → ℤ → Helper → Option Tenor → Bool
+takes_for calendar from nodes rate helper None = is_ok (node_by from nodes rate (coupons_of calendar from.day helper))
+takes_for calendar from nodes rate helper (Some every) = is_some (swap_end calendar from.day helper)
+
+-- the same of the first of helpers, which stands behind none
+abbrev pub first_takes : Calendar → ℤ → List Helper → List ℤ → Bool
+first_takes calendar reference [] rates = false
+first_takes calendar reference (helper ∷ helpers) [] = false
+first_takes calendar reference (helper ∷ helpers) (rate ∷ rates) =
+    takes_for calendar (origin reference) [] rate helper helper.every
+
+-- the same of a curve from its reference day, where there is one
+abbrev pub takes_from : CurveTerms → List ℤ → Option ℤ → Bool
+takes_from terms rates None = false
+takes_from terms rates (Some reference) = first_takes terms.cal reference terms.helpers rates
+
+-- whether memory is taken before a curve of terms and rates is built or refused: not where the reference day is none, nor
+-- where the first helper is refused without
+abbrev pub takes_memory : CurveTerms → ℤ → List ℤ → Bool
+takes_memory terms today rates = takes_from terms rates (reference_day terms today)
 
 -- what a call answers that gives a definition's value or fault of a helper, or is refused for want of memory
 abbrev pub GivesHelper : {X Y : Type 0} → (X → Y) → Result Y HelperFault → Result X HelperFault → Type 0

@@ -1,9 +1,10 @@
 // A curve from its terms.
-ghost use Rattle.std.specs.Prelude.{◌≡◌, ◌≤◌, length, [], ◌<ℤ◌, IfOk, IfSome, IfNone, Ok, Err};
+ghost use Rattle.std.specs.Prelude.{◌≡◌, ◌≤◌, length, false, [], ◌<ℤ◌, IfOk, IfSome, IfNone, Some, None, Ok, Err};
 ghost use Rattle.std.specs.List.{All};
 ghost use Rattle.day_shift.specs.Business.{IsBusinessDay};
 ghost use Rattle.holiday_calendars.specs.Calendar.{is_business_day};
-ghost use Rattle.curve_terms.specs.Terms.{IsInRange, IsHelper};
+ghost use Rattle.day_number.specs.Tenor.{IsTenor};
+ghost use Rattle.curve_terms.specs.Terms.{IsInRange, IsHelper, IsOfMonths};
 ghost use Rattle.curve_points.specs.Curve.{IsRisingFrom, origin};
 ghost use Rattle.curve_bootstrap.specs.Coupon.{AreCoupons};
 ghost use Rattle.curve_bootstrap.specs.Node.{last_of};
@@ -11,12 +12,12 @@ ghost use Rattle.curve_bootstrap.specs.Built as due;
 ghost use Rattle.curve_bootstrap.specs.Laws.{IsBuilt};
 
 use crate::faults::{HelperFault, numbered};
-use crate::helpers::coupons_of;
+use crate::helpers::{deposit_coupon, swap_coupons};
 use crate::nodes::node;
 use crate::{BuildFault, Coupon};
 use curve_points::{CurveNode, CurveValue, NodeList, ONE};
 use curve_terms::{CurveTerms, Helper};
-use day_number::{Convention, Day, Unit};
+use day_number::{Convention, Day, Tenor, Unit};
 use day_shift::advance;
 use desk_names::ObjId;
 use fixed_amount::{Discount, Rate};
@@ -26,7 +27,7 @@ use std::alloc::Global;
 /// The curve of terms on an evaluation date, by the rates of the helpers in their order. The reference day is the date
 /// with the settlement days added; every helper starts there. The factor at a helper's end is the least whole number of
 /// units from 1 to 4 * 10^12 at which the helper is worth 1 or more on the curve so far. That the reference day, or the day
-/// that the first helper's tenor leads to, is out of range is told without memory.
+/// that the first helper's tenor leads to, is out of range is told without memory, and so is why a first deposit is refused.
 pub fn build(
     alloc: Global,
     owner: ObjId,
@@ -41,6 +42,7 @@ pub fn build(
     ensures reference { IfNone (due.reference_day terms.now today) (result ≡ Err BuildFault.DateRange) }
     ensures day { IfSome (due.reference_day terms.now today) (λ reference.
         IfNone (due.first_led terms.now.cal reference terms.now.helpers) (result ≡ Err BuildFault.DateRange)) }
+    ensures memory { due.takes_memory terms.now today rates.now ≡ false → result ≡ due.built_curve owner terms.now today rates.now }
 {
     let _number = today.number();
     let settlement = i32::from(terms.settlement);
@@ -71,6 +73,8 @@ fn built(
     ensures given { due.Gives (due.curve_of owner reference
         (due.nodes_of (due.coupons_of terms.now.cal reference) (origin reference) 1 [] terms.now.helpers rates.now)) result }
     ensures day { IfNone (due.first_led terms.now.cal reference terms.now.helpers) (result ≡ Err BuildFault.DateRange) }
+    ensures memory { due.first_takes terms.now.cal reference terms.now.helpers rates.now ≡ false
+        → result ≡ due.curve_of owner reference (due.nodes_of (due.coupons_of terms.now.cal reference) (origin reference) 1 [] terms.now.helpers rates.now) }
 {
     match nodes_from(alloc, &terms.cal, reference, terms.helpers.items(), rates) {
         Ok(nodes) => Ok(CurveValue::new(owner, reference, nodes)),
@@ -93,6 +97,8 @@ fn nodes_from(
     ensures given { due.Gives (due.nodes_of (due.coupons_of calendar.now reference) (origin reference) 1 [] helpers.now rates.now) result }
     ensures rising { IfOk result (λ nodes. IsRisingFrom reference nodes) }
     ensures day { IfNone (due.first_led calendar.now reference helpers.now) (result ≡ Err BuildFault.DateRange) }
+    ensures memory { due.first_takes calendar.now reference helpers.now rates.now ≡ false
+        → result ≡ due.nodes_of (due.coupons_of calendar.now reference) (origin reference) 1 [] helpers.now rates.now }
 {
     let first = CurveNode {
         day: reference,
@@ -137,8 +143,58 @@ fn next_node(
     ensures given { due.GivesHelper (λ node. node) (due.node_by from.now nodes.now rate (due.coupons_of calendar.now from.now.day helper.now)) result }
     ensures after { IfOk result (λ node. last.now.day <ℤ node.day) }
     ensures day { IfNone (due.led_to calendar.now from.now.day helper.now) (result ≡ Err HelperFault.DateRange) }
+    ensures memory { due.takes_for calendar.now from.now nodes.now rate helper.now helper.now.every ≡ false
+        → result ≡ due.node_by from.now nodes.now rate (due.coupons_of calendar.now from.now.day helper.now) }
 {
-    match coupons_of(alloc, calendar, from.day, helper) {
+    match helper.every {
+        None => deposit_node(calendar, from, nodes, last, helper, rate),
+        Some(every) => swap_node(alloc, calendar, from, nodes, last, helper, every, rate),
+    }
+}
+
+// The node of a deposit behind others.
+fn deposit_node(
+    calendar: &Calendar,
+    from: &CurveNode,
+    nodes: &[CurveNode],
+    last: &CurveNode,
+    helper: &Helper,
+    rate: Rate,
+) -> Result<CurveNode, HelperFault>
+    requires business { IsBusinessDay (is_business_day calendar.now) from.now.day }
+    requires range { IsTenor helper.now.tenor }
+    requires rising { IsRisingFrom from.now.day nodes.now }
+    requires last { last.now ≡ last_of from.now nodes.now }
+    ensures given { result ≡ due.node_by from.now nodes.now rate (due.coupons_by calendar.now from.now.day helper.now None) }
+    ensures after { IfOk result (λ node. last.now.day <ℤ node.day) }
+{
+    match deposit_coupon(calendar, from.day, helper) {
+        Ok(coupon) => node_by(from, nodes, last, rate, &[coupon]),
+        Err(fault) => Err(fault),
+    }
+}
+
+// The node of a par swap behind others.
+fn swap_node(
+    alloc: Global,
+    calendar: &Calendar,
+    from: &CurveNode,
+    nodes: &[CurveNode],
+    last: &CurveNode,
+    helper: &Helper,
+    every: Tenor,
+    rate: Rate,
+) -> Result<CurveNode, HelperFault>
+    requires business { IsBusinessDay (is_business_day calendar.now) from.now.day }
+    requires tenor { IsOfMonths helper.now.tenor }
+    requires every { IsOfMonths every }
+    requires rising { IsRisingFrom from.now.day nodes.now }
+    requires last { last.now ≡ last_of from.now nodes.now }
+    ensures given { due.GivesHelper (λ node. node) (due.node_by from.now nodes.now rate (due.coupons_by calendar.now from.now.day helper.now (Some every))) result }
+    ensures after { IfOk result (λ node. last.now.day <ℤ node.day) }
+    ensures day { IfNone (due.led_by calendar.now from.now.day helper.now (Some every)) (result ≡ Err HelperFault.DateRange) }
+{
+    match swap_coupons(alloc, calendar, from.day, helper, every) {
         Ok(coupons) => node_by(from, nodes, last, rate, &coupons),
         Err(fault) => Err(fault),
     }

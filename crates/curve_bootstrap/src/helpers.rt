@@ -1,5 +1,5 @@
 // The coupons of a helper.
-ghost use Rattle.std.specs.Prelude.{◌≡◌, ◌≤ℤ◌, pos, IfOk, IfNone, Some, None, Ok, Err};
+ghost use Rattle.std.specs.Prelude.{◌≡◌, ◌≤ℤ◌, pos, [], ◌∷◌, IfOk, IfNone, Some, None, Ok, Err};
 ghost use Rattle.std.specs.List.Sorted.{IsStrictlySortedBy};
 ghost use Rattle.std.specs.Ordering.{int_cmp};
 ghost use Rattle.day_counters.specs.Counter.{frac};
@@ -7,7 +7,7 @@ ghost use Rattle.day_number.specs.Tenor.{IsTenor};
 ghost use Rattle.day_shift.specs.Business.{IsBusinessDay};
 ghost use Rattle.holiday_calendars.specs.Calendar.{is_business_day};
 ghost use Rattle.schedule_rules.specs.Step.{units_on};
-ghost use Rattle.curve_terms.specs.Terms.{IsHelper, IsOfMonths};
+ghost use Rattle.curve_terms.specs.Terms.{IsOfMonths};
 ghost use Rattle.curve_bootstrap.specs.Coupon.{AreCoupons};
 ghost use Rattle.curve_bootstrap.specs.Built as due;
 
@@ -22,38 +22,16 @@ use schedule_rules::{Plan, PlanFault, Rule, make};
 use std::alloc::Global;
 use year_parts::Counter;
 
-/// The coupons of a helper that starts at the reference day. That its tenor leads to no day of the range is told without
-/// memory.
-pub(crate) fn coupons_of(
-    alloc: Global,
+/// The one coupon of a deposit that starts at the reference day. It takes no memory.
+pub(crate) fn deposit_coupon(
     calendar: &Calendar,
     reference: Day,
     helper: &Helper,
-) -> Result<Vec<Coupon>, HelperFault>
-    requires business { IsBusinessDay (is_business_day calendar.now) reference }
-    requires range { IsHelper helper.now }
-    ensures given { due.GivesHelper (λ cs. cs.items) (due.coupons_of calendar.now reference helper.now) result }
-    ensures day { IfNone (due.led_to calendar.now reference helper.now) (result ≡ Err HelperFault.DateRange) }
-    ensures fits { IfOk result (λ cs. AreCoupons reference (due.end_of reference cs.items) cs.items) }
-{
-    match helper.every {
-        None => deposit_coupons(alloc, calendar, reference, helper),
-        Some(every) => swap_coupons(alloc, calendar, reference, helper, every),
-    }
-}
-
-// The one coupon of a deposit.
-fn deposit_coupons(
-    alloc: Global,
-    calendar: &Calendar,
-    reference: Day,
-    helper: &Helper,
-) -> Result<Vec<Coupon>, HelperFault>
+) -> Result<Coupon, HelperFault>
     requires business { IsBusinessDay (is_business_day calendar.now) reference }
     requires range { IsTenor helper.now.tenor }
-    ensures given { due.GivesHelper (λ cs. cs.items) (due.coupons_by calendar.now reference helper.now None) result }
-    ensures day { IfNone (due.led_by calendar.now reference helper.now None) (result ≡ Err HelperFault.DateRange) }
-    ensures fits { IfOk result (λ cs. AreCoupons reference (due.end_of reference cs.items) cs.items) }
+    ensures given { due.alone result ≡ due.coupons_by calendar.now reference helper.now None }
+    ensures fits { IfOk result (λ coupon. AreCoupons reference coupon.day (coupon ∷ [])) }
 {
     let tenor = helper.tenor;
     match advance(
@@ -64,26 +42,9 @@ fn deposit_coupons(
         helper.conv,
         helper.eom,
     ) {
-        Ok(day) => one_coupon(alloc, helper.counter, calendar, reference, day),
+        Ok(day) => Ok(coupon(helper.counter, calendar, reference, day)),
         Err(_) => Err(HelperFault::DateRange),
     }
-}
-
-// A coupon for one period.
-fn one_coupon(
-    alloc: Global,
-    counter: Counter,
-    calendar: &Calendar,
-    from: Day,
-    to: Day,
-) -> Result<Vec<Coupon>, HelperFault>
-    requires { from ≤ℤ to }
-    ensures given { due.GivesHelper (λ cs. cs.items) (due.deposit_to counter (is_business_day calendar.now) from (Some to)) result }
-    ensures fits { IfOk result (λ cs. AreCoupons from (due.end_of from cs.items) cs.items) }
-{
-    let mut coupons = Vec::new(alloc);
-    coupons.push(coupon(counter, calendar, from, to))?;
-    Ok(coupons)
 }
 
 // The coupon of a period.
@@ -97,8 +58,8 @@ fn coupon(counter: Counter, calendar: &Calendar, from: Day, to: Day) -> Coupon
     }
 }
 
-// The coupons of a par swap.
-fn swap_coupons(
+/// The coupons of a par swap that starts at the reference day. That its end is no day of the range is told without memory.
+pub(crate) fn swap_coupons(
     alloc: Global,
     calendar: &Calendar,
     reference: Day,

@@ -1,11 +1,11 @@
-use Rattle.std.proofs.Common.{arith, ◌≡◌, ◌∙◌, sym, ap, ℤ, pos, Some, false, to_z, of_z, w32, FitsSigned}
+use Rattle.std.proofs.Common.{arith, ◌≡◌, ◌∙◌, sym, ap, subst, ℤ, pos, Option, Some, false, to_z, of_z, w32, FitsSigned}
 use Rattle.std.proofs.lemmas.Int.{ints, to_z-of_z}
 use Rattle.holiday_calendars.specs.Calendar.{is_business_day}
 use Rattle.day_number.specs.declared.tenors.Unit.TheVariants.{Days}
 use Rattle.day_number.specs.declared.conventions.Convention.TheVariants.{Following}
 use Rattle.day_shift.specs.Advanced.{advanced}
 use Rattle.day_shift.proofs.OpenLemmas.{advanced_is_open}
-use Rattle.curve_bootstrap.specs.Built.{reference_day}
+use Rattle.curve_bootstrap.specs.Built.{reference_day, takes_from}
 use Rattle.curve_bootstrap.proofs.CouponLemmas.{found_day}
 use Rattle.curve_bootstrap.proofs.BuiltLemmas.{built_by, built_nowhere, gives_same, no_day}
 use Rattle.curve_bootstrap.proofs.NodesLaw.{built_is}
@@ -42,3 +42,12 @@ returns-in-Ok-clause-day c = rw (reached c.before) c.built.ensures.day
 
 pub returns-in-Err-clause-day : goal.returns-in-Err-clause-day
 returns-in-Err-clause-day c = rw (sym (day_by c.before) ∙ no_day _ c.in-Err.field-0 c.in-Err.ensures.value) tt
+
+pub returns-in-Ok-clause-memory : goal.returns-in-Ok-clause-memory
+returns-in-Ok-clause-memory c = λ none.
+    let here = subst (λ (o : Option ℤ). takes_from c.args.terms.now c.args.rates.now o ≡ false) (reached c.before) none in
+    c.built.ensures.memory here ∙ sym (built_by c.args.owner c.args.terms.now c.args.today c.args.rates.now c.in-Ok.reference (reached c.before))
+
+pub returns-in-Err-clause-memory : goal.returns-in-Err-clause-memory
+returns-in-Err-clause-memory c = λ none.
+    sym (built_nowhere c.args.owner c.args.terms.now c.args.today c.args.rates.now (sym (day_by c.before) ∙ no_day _ c.in-Err.field-0 c.in-Err.ensures.value))

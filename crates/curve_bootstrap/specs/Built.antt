@@ -208,8 +208,8 @@ abbrev pub takes_from : CurveTerms → List ℤ → Option ℤ → Bool
 takes_from terms rates None = false
 takes_from terms rates (Some reference) = first_takes terms.cal reference terms.helpers rates
 
--- whether memory is taken before a curve of terms and rates is built or refused: not where the reference day is none, nor
--- where the first helper is refused without
+-- whether memory is taken before a curve of terms and rates is built or refused: not where the reference day is none,
+-- nor where the first helper is refused without
 abbrev pub takes_memory : CurveTerms → ℤ → List ℤ → Bool
 takes_memory terms today rates = takes_from terms rates (reference_day terms today)
 

@@ -27,7 +27,8 @@ use std::alloc::Global;
 /// The curve of terms on an evaluation date, by the rates of the helpers in their order. The reference day is the date
 /// with the settlement days added; every helper starts there. The factor at a helper's end is the least whole number of
 /// units from 1 to 4 * 10^12 at which the helper is worth 1 or more on the curve so far. That the reference day, or the day
-/// that the first helper's tenor leads to, is out of range is told without memory, and so is why a first deposit is refused.
+/// that the first helper's tenor leads to, is out of range is told without memory, and so is why a first deposit has no
+/// node.
 pub fn build(
     alloc: Global,
     owner: ObjId,

@@ -23,8 +23,8 @@ pub enum HelperFault {
 }
 
 /// Why a curve is not built. Helpers are counted from 1; the first that is refused decides. Want of memory may come in
-/// place of each, but where the reference day or the day that the first helper's tenor leads to is out of range, and in
-/// place of no fault of a first deposit.
+/// place of each, but not where the reference day or the day that the first helper's tenor leads to is out of range, nor
+/// in place of a fault of a first deposit.
 #[derive(Clone, Copy, Debug, PartialEq, Eq, Error)]
 pub enum BuildFault {
     /// The helper's end is not after the end of the one before it, or, of the first, not after the reference day.

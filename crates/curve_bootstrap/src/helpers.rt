@@ -58,7 +58,8 @@ fn coupon(counter: Counter, calendar: &Calendar, from: Day, to: Day) -> Coupon
     }
 }
 
-/// The coupons of a par swap that starts at the reference day. That its end is no day of the range is told without memory.
+/// The coupons of a par swap that starts at the reference day. That its end is no day of the range is told without
+/// memory.
 pub(crate) fn swap_coupons(
     alloc: Global,
     calendar: &Calendar,

@@ -11,3 +11,4 @@ pub mod Stored
 pub mod Watched
 pub mod Weighed
 pub mod Handed
+pub mod Untold

@@ -22,6 +22,7 @@ ghost use Rattle.object_store.specs.Parts.{parts_in};
 ghost use Rattle.desk_model.specs.Held.{changeable, weight_of};
 ghost use Rattle.ask_walk.specs.Asks.{Asks, Stops, AnswersIdly, held_answer};
 ghost use Rattle.ask_walk.specs.Recalcs.{RecalcEnds, RecalcStops};
+ghost use Rattle.lazy_objects.specs.Untold.{TellsNobody};
 
 use crate::changes::{revise, tell_changed};
 use crate::links::{link_of, unwatch_any, watch_any, watch_instead};
@@ -455,6 +456,9 @@ impl Desk {
             (B.count bench.old) (B.count bench.new) (B.log bench.old) (B.log bench.new)) }
         ensures stops { OnErr result (RecalcStops (B.calc bench.old) object self.old self.new
             (B.count bench.old) (B.count bench.new) (B.log bench.old) (B.log bench.new)) }
+        // Where memory was wanting, its flags and its last value are as before, and nobody was told.
+        ensures kept { OnErr result (kept_at self.new object ≡ kept_at self.old object) }
+        ensures untold { OnErr result (TellsNobody self.old self.new) }
         ensures sound { IsSound (B.calc bench.old) self.new }
     {
         recalc(

@@ -1,12 +1,14 @@
-use Rattle.std.proofs.Common.{sym, subst}
+use Rattle.std.proofs.Common.{◌≡◌, sym, subst}
 use Rattle.std.specs.Prelude.{IfOk, OnErr}
 use Rattle.ask_walk.specs.declared.recalced.Recalced.{Recalced}
-use Rattle.desk_model.specs.State.{State}
+use Rattle.desk_model.specs.State.{State, kept_at}
 use Rattle.ask_walk.specs.Recalcs.{RecalcEnds, RecalcStops}
 use Rattle.object_store.specs.Shape.{Shape, IsJoined}
 use Rattle.object_store.specs.Slots.{market_of, state_of}
 use Rattle.object_store.specs.Store.{registry_of}
+use Rattle.lazy_objects.specs.Untold.{TellsNobody}
 use Rattle.lazy_objects.proofs.Ends.{stands_then}
+use Rattle.lazy_objects.proofs.Untold.{stored_untold, on_err}
 use Rattle.lazy_objects.proofs.desk.Desk.recalc.Goals as goal
 
 pub invariant_of-self : goal.invariant_of-self
@@ -28,3 +30,17 @@ returns-clause-stops g c =
 
 pub returns-clause-sound : goal.returns-clause-sound
 returns-clause-sound g c = c.recalc.ensures.stays.sound
+
+pub returns-clause-kept : goal.returns-clause-kept
+returns-clause-kept g c =
+    let after : State = state_of c.self.inside.today c.self.inside.objects c.recalc.new.store.kept (registry_of c.recalc.new.store) in
+    on_err (RecalcStops (g.B.Bench.calc c.args.bench.now) c.args.object c.args.self.now after
+    (g.B.Bench.count c.args.bench.now) (g.B.Bench.count c.recalc.new.bench) (g.B.Bench.log c.args.bench.now) (g.B.Bench.log c.recalc.new.bench))
+    (kept_at after c.args.object ≡ kept_at c.args.self.now c.args.object) c.recalc.result (λ stops. stops.own) (returns-clause-stops g c)
+
+pub returns-clause-untold : goal.returns-clause-untold
+returns-clause-untold g c =
+    let after : State = state_of c.self.inside.today c.self.inside.objects c.recalc.new.store.kept (registry_of c.recalc.new.store) in
+    on_err (RecalcStops (g.B.Bench.calc c.args.bench.now) c.args.object c.args.self.now after
+    (g.B.Bench.count c.args.bench.now) (g.B.Bench.count c.recalc.new.bench) (g.B.Bench.log c.args.bench.now) (g.B.Bench.log c.recalc.new.bench))
+    (TellsNobody c.args.self.now after) c.recalc.result (λ stops. stored_untold c.args.self.now after stops.front stops.state) (returns-clause-stops g c)

@@ -32,7 +32,7 @@ use Rattle.lazy_objects.proofs.Revised.{Changed, stands_as, revised_stands}
 
 -- the graph of a market has no day in it
 pub joined_day : (today day : ℤ) (slots : List Slot) (shape : Shape) → IsJoined (market_of today slots) shape → IsJoined (market_of day slots) shape
-joined_day today day slots shape joined = record { long = joined.long; roles = joined.roles; pairs = joined.pairs }
+joined_day today day slots shape joined = record { long = joined.long; roles = joined.roles; pairs = joined.pairs; room = joined.room }
 
 pub links_day : (today day : ℤ) (slots : List Slot) → IsLinked (market_of today slots) → IsLinked (market_of day slots)
 links_day today day slots links = record { within = links.within; observed = links.observed; acyclic = links.acyclic }

@@ -1,3 +1,4 @@
+pub mod Added
 pub mod Commanded
 pub mod Dropped
 pub mod Ends

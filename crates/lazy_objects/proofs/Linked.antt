@@ -1,8 +1,8 @@
 -- The graph of a desk after a link.
-use Rattle.std.proofs.Common.{◌≡◌, ◌⊎◌, inl, inr, ℕ, ◌<◌, Bool, true, false, List, length, Option, None, Some, refl, sym, ◌∙◌, ap, subst}
+use Rattle.std.proofs.Common.{◌≡◌, ◌⊎◌, inl, inr, ℕ, ◌<◌, ◌+◌, Bool, true, false, List, length, Option, None, Some, refl, sym, ◌∙◌, ap, subst, arith}
 use Rattle.std.specs.Prelude.{ℤ, ◌↔◌, slice_index_or, slice_set, is_some, IfSome, if◌then◌else◌}
 use Rattle.std.specs.Option.{option_eq}
-use Rattle.std.proofs.lemmas.Bool.{cases_lt, eq-eqb, false≢true}
+use Rattle.std.proofs.lemmas.Bool.{cases_lt, eq-eqb, eqb-true, false≢true}
 use Rattle.std.proofs.lemmas.List.{get_or_past}
 use Rattle.walks.specs.Walk.{Among}
 use Rattle.desk_terms.specs.declared.terms.Terms.{Terms}
@@ -24,12 +24,12 @@ use Rattle.observer_graph.specs.declared.node.Role.{Role}
 use Rattle.observer_graph.specs.declared.node.Role.TheVariants.{Forwarder}
 use Rattle.observer_graph.specs.declared.node.Role.TheVariants as role
 use Rattle.object_store.specs.Slots.{Registry, market_of, state_of}
-use Rattle.object_store.specs.Shape.{IsJoined, role_at, observed_by, slot_role}
-use Rattle.object_store.specs.Store.{registry_of, StoreView, JoinsAny, LeavesAny}
+use Rattle.object_store.specs.Shape.{IsJoined, role_at, observed_by, slot_role, vacancy_of}
+use Rattle.object_store.specs.Store.{StoreView, JoinsAny, LeavesAny, Moves, held_count}
 use Rattle.object_store.specs.Scratch.{ScratchView}
 use Rattle.lazy_objects.specs.Stands.{Stands}
-use Rattle.object_store.proofs.Joined.{joined_set, there_seen, revised_market, terms_watch}
-use Rattle.object_store.proofs.Registered.{joins_plain, leaves_plain}
+use Rattle.object_store.proofs.Joined.{joined_set, there_seen, revised_market, terms_watch, vacancies_set, slot_vacancy, vacancy_within}
+use Rattle.object_store.proofs.Registered.{moves_plain}
 use Rattle.object_store.proofs.Telling.{IsKept}
 use Rattle.lazy_objects.proofs.Revised.{Changed}
 use Rattle.lazy_objects.proofs.Commanded.{link_stands, commanded}
@@ -66,8 +66,12 @@ pub target_itself : (held target : Option ℕ) → held ≡ target → option_eq
 target_itself None target same = ap (option_eq number_eq None) (sym same)
 target_itself (Some x) target same = same_target (Some x) target x refl (sym same)
 
-pub same_handle : (kind kind2 : HandleKind) (held held2 : Option ℕ) → Some (Handle kind held) ≡ Some (Handle kind2 held2) → held ≡ held2
-same_handle kind kind2 held held2 e = cc
+-- targets that are found the same
+pub same_held : (held target : Option ℕ) → option_eq number_eq held target ≡ true → held ≡ target
+same_held None None e = refl
+same_held None (Some y) e = absurd (false≢true e)
+same_held (Some x) None e = absurd (false≢true e)
+same_held (Some x) (Some y) e = ap Some (eqb-true x y e)
 
 pub joins_pairs : (target : Option ℕ) (h : ℕ) (old new : StoreView) → JoinsAny target h old new → (x o : ℕ)
     → Among x (observed_by new.shape o) ↔ (Among x (observed_by old.shape o) ⊎ ((target ≡ Some x) × (o ≡ h)))
@@ -102,6 +106,10 @@ pub leaves_roles : (held : Option ℕ) (h : ℕ) (old new : StoreView) → Leave
 leaves_roles None h old new same = (ap (λ (v : StoreView). v.kept) same, ap (λ (v : StoreView). v.shape.roles) same)
 leaves_roles (Some y) h old new leaves = (leaves.kept, leaves.roles)
 
+handle_vacancy : (kind : HandleKind) (t : Option ℕ) → vacancy_of (Handle kind t) + held_count t ≡ 1
+handle_vacancy kind None = refl
+handle_vacancy kind (Some target) = refl
+
 module _ (today : ℤ) (slots : List Slot) (h : ℕ) (kind : HandleKind) (held target : Option ℕ) (old : StoreView) (joined : IsJoined (market_of today slots) old.shape)
     (is : terms_in (slice_index_or slots h Free) ≡ Some (Handle kind held)) where
   pub handle_within : h < length slots
@@ -130,34 +138,45 @@ module _ (today : ℤ) (slots : List Slot) (h : ℕ) (kind : HandleKind) (held t
       by_target None may = tt
       by_target (Some x) may = there_seen (market_of today slots) old.shape joined x may.0
 
-  pub held_there : IsLinked (market_of today slots) → (after : StoreView) → after.shape.roles ≡ old.shape.roles → IfSome held (λ x. is_some (role_at after.shape x) ≡ true)
-  held_there links after roles = by_held held refl
+  pub held_there : IsLinked (market_of today slots) → IfSome held (λ x. is_some (role_at old.shape x) ≡ true)
+  held_there links = by_held held refl
     where
-      by_held : (t : Option ℕ) → held ≡ t → IfSome t (λ x. is_some (role_at after.shape x) ≡ true)
+      by_held : (t : Option ℕ) → held ≡ t → IfSome t (λ x. is_some (role_at old.shape x) ≡ true)
       by_held None e = tt
-      by_held (Some x) e = ap (λ (l : List (Option Role)). is_some (slice_index_or l x None)) roles
-          ∙ there_seen (market_of today slots) old.shape joined x (links.observed h x (subst (λ (t : Option Terms). Among x (edges_of t)) (sym is) ((handle_edges kind held x).1 e)))
+      by_held (Some x) e = there_seen (market_of today slots) old.shape joined x (links.observed h x (subst (λ (t : Option Terms). Among x (edges_of t)) (sym is) ((handle_edges kind held x).1 e)))
 
-  pub target_new : option_eq number_eq held target ≡ false → (x : ℕ) → target ≡ Some x → Among x (observed_by old.shape h) → ⊥
-  target_new differs x are a = false≢true (sym differs ∙ same_target held target x (observes x a) are)
+  pub target_new : (x : ℕ) → target ≡ Some x → Among x (observed_by old.shape h) → held ≡ target
+  target_new x are a = observes x a ∙ sym are
 
-  pub joined_linked : (middle new : StoreView) → option_eq number_eq held target ≡ false → JoinsAny target h old middle → LeavesAny held h middle new
-      → IsJoined (market_of today (slice_set slots h (Live (Handle kind target)))) new.shape
-  joined_linked middle new differs joins leaves =
-      let more = joins_pairs target h old middle joins in
-      let less = leaves_pairs held h middle new leaves in
-      let roles = (leaves_roles held h middle new leaves).1 ∙ (joins_roles target h old middle joins).1 in
-      let role : (o : ℕ) → role_at new.shape o ≡ role_at old.shape o = λ o. ap (λ (l : List (Option Role)). slice_index_or l o None) roles in
-      joined_set today slots h (Handle kind target) new.shape (ap length roles ∙ joined.long) handle_within (role h ∙ joined.roles h ∙ role_there (slice_index_or slots h Free) kind held is ∙ sym (handle_role kind target))
+  pub target_watched : (x : ℕ) → held ≡ Some x → Among x (observed_by old.shape h)
+  target_watched x e = (joined.pairs h x (terms_watch (slice_index_or slots h Free) (Handle kind held) is)).1
+      (subst (λ (t : Option Terms). Among x (edges_of t)) (sym is) ((handle_edges kind held x).1 e))
+
+  -- an empty handle has a spare place
+  pub target_room : held ≡ None → 0 < old.shape.spare
+  target_room none =
+      let here = slot_vacancy (slice_index_or slots h Free) (Handle kind held) is ∙ ap (λ (t : Option ℕ). vacancy_of (Handle kind t)) none in
+      let low = vacancy_within slots h handle_within in let room = joined.room in
+      omega (arith, here, low, room)
+
+  pub joined_linked : (new : StoreView) → Moves held target h old new → IsJoined (market_of today (slice_set slots h (Live (Handle kind target)))) new.shape
+  joined_linked new moves =
+      let role : (o : ℕ) → role_at new.shape o ≡ role_at old.shape o = λ o. ap (λ (l : List (Option Role)). slice_index_or l o None) moves.roles in
+      joined_set today slots h (Handle kind target) new.shape (ap length moves.roles ∙ joined.long) handle_within (role h ∙ joined.roles h ∙ role_there (slice_index_or slots h Free) kind held is ∙ sym (handle_role kind target))
       (λ x. (
-        λ a. (handle_edges kind target x).1 (let p = (less x h).0 a in elim ((more x h).0 p.0) [ inl was ↦ absurd (p.1 (observes x was, refl)) | inr q ↦ q.0 ]),
-        λ a. let are = (handle_edges kind target x).0 a in (less x h).1 ((more x h).1 (inr (are, refl)), λ p. false≢true (sym differs ∙ same_target held target x p.0 are)),
+        λ a. (handle_edges kind target x).1 (elim ((moves.own x).0 a) [ inl was ↦ absurd (was.1 (observes x was.0)) | inr are ↦ are ]),
+        λ a. (moves.own x).1 (inr ((handle_edges kind target x).0 a)),
       ))
       (λ o other. role o ∙ joined.roles o)
       (λ o x other plain. (
-        λ a. (joined.pairs o x plain).0 (elim ((more x o).0 ((less x o).0 a).0) [ inl was ↦ was | inr p ↦ absurd (other p.1) ]),
-        λ a. (less x o).1 ((more x o).1 (inl ((joined.pairs o x plain).1 a)), λ p. other p.1),
+        λ a. (joined.pairs o x plain).0 ((moves.others o x other).0 a),
+        λ a. (moves.others o x other).1 ((joined.pairs o x plain).1 a),
       ))
+      (let set = vacancies_set slots h (Live (Handle kind target)) handle_within in
+      let here = slot_vacancy (slice_index_or slots h Free) (Handle kind held) is in
+      let was = handle_vacancy kind held in let becomes = handle_vacancy kind target in
+      let room = joined.room in let spare = moves.spare in
+      omega (arith, set, here, was, becomes, room, spare))
 
 pub joins_switch : (target : Option ℕ) (h : ℕ) (old new : StoreView) → JoinsAny target h old new → (new.deferring ≡ old.deferring) × (new.noticed ≡ old.noticed)
 joins_switch None h old new same = (ap (λ (v : StoreView). v.deferring) same, ap (λ (v : StoreView). v.noticed) same)
@@ -167,21 +186,26 @@ pub leaves_switch : (held : Option ℕ) (h : ℕ) (old new : StoreView) → Leav
 leaves_switch None h old new same = (ap (λ (v : StoreView). v.deferring) same, ap (λ (v : StoreView). v.noticed) same)
 leaves_switch (Some y) h old new leaves = (leaves.switch, leaves.told)
 
-joins_registry : (target : Option ℕ) (h : ℕ) (old new : StoreView) → (role_at old.shape h ≡ Some role.Watcher → ⊥) → JoinsAny target h old new → registry_of new ≡ registry_of old
-joins_registry None h old new plain same = ap registry_of same
-joins_registry (Some y) h old new plain joins = joins_plain old new y h plain joins
+-- a pair that goes leaves its place, and all objects where they are
+pub there_still : (held target : Option ℕ) (h : ℕ) (old new : StoreView) → LeavesAny held h old new → IfSome target (λ x. is_some (role_at old.shape x) ≡ true)
+    → IfSome target (λ x. is_some (role_at new.shape x) ≡ true)
+there_still held None h old new leaves there = tt
+there_still held (Some x) h old new leaves there =
+    ap (λ (l : List (Option Role)). is_some (slice_index_or l x None)) (leaves_roles held h old new leaves).1 ∙ there
 
-leaves_registry : (held : Option ℕ) (h : ℕ) (old new : StoreView) → (role_at old.shape h ≡ Some role.Watcher → ⊥) → LeavesAny held h old new → registry_of new ≡ registry_of old
-leaves_registry None h old new plain same = ap registry_of same
-leaves_registry (Some y) h old new plain leaves = leaves_plain old new y h plain leaves
+pub unwatched_new : (held target : Option ℕ) (h : ℕ) (old new : StoreView) → LeavesAny held h old new → (held ≡ target → ⊥)
+    → ((x : ℕ) → target ≡ Some x → Among x (observed_by old.shape h) → held ≡ target) → (x : ℕ) → target ≡ Some x → Among x (observed_by new.shape h) → ⊥
+unwatched_new held target h old new leaves differs own x is a = differs (own x is ((leaves_pairs held h old new leaves x h).0 a).0)
 
--- other pairs change nothing that is stored
-pub linked_kept : (held target : Option ℕ) (h : ℕ) (old middle new : StoreView) → (role_at old.shape h ≡ Some role.Watcher → ⊥) → JoinsAny target h old middle → LeavesAny held h middle new → IsKept old new
-linked_kept held target h old middle new plain joins leaves = record {
-  kept = (leaves_roles held h middle new leaves).0 ∙ (joins_roles target h old middle joins).0;
-  registry = leaves_registry held h middle new (λ is. plain (sym (ap (λ (l : List (Option Role)). slice_index_or l h None) (joins_roles target h old middle joins).1) ∙ is)) leaves
-      ∙ joins_registry target h old middle plain joins;
-}
+pub room_freed : (held target : Option ℕ) (old new : StoreView) → new.shape.spare ≡ old.shape.spare + held_count held → (held ≡ None → 0 < old.shape.spare)
+    → IfSome target (λ _. 0 < new.shape.spare)
+room_freed held None old new freed room = tt
+room_freed None (Some x) old new freed room = let some = room refl in omega (arith, freed, some)
+room_freed (Some y) (Some x) old new freed room = omega (arith, freed)
+
+-- another pair changes nothing that is stored
+pub linked_kept : (held target : Option ℕ) (h : ℕ) (old new : StoreView) → (role_at old.shape h ≡ Some role.Watcher → ⊥) → Moves held target h old new → IsKept old new
+linked_kept held target h old new plain moves = record { kept = moves.kept; registry = moves_plain held target h old new plain moves }
 
 -- a link tells where its target is another
 pub link_as : (s : State) (h : ℕ) (kind : HandleKind) (held target : Option ℕ) (b : Bool) → terms_in (slot_at s.market h) ≡ Some (Handle kind held) → option_eq number_eq held target ≡ b

@@ -1,9 +1,8 @@
 -- The graph of a desk after another engine of an instrument.
-use Rattle.std.proofs.Common.{◌≡◌, ◌≢◌, ◌⊎◌, inl, inr, ◌<◌, ℕ, suc, true, false, List, [], ◌∷◌, ◌++◌, length, Option, None, Some, refl, sym, ◌∙◌, ap, subst}
+use Rattle.std.proofs.Common.{◌≡◌, ◌≢◌, ◌⊎◌, inl, inr, ◌<◌, ◌+◌, ℕ, suc, true, false, List, [], ◌∷◌, ◌++◌, length, Option, None, Some, refl, sym, ◌∙◌, ap, subst, arith}
 use Rattle.std.specs.Prelude.{ℤ, ◌↔◌, ◌==◌, slice_index_or, slice_set, is_some, IfSome}
 use Rattle.std.specs.List.{list_any}
-use Rattle.std.specs.Option.{option_eq}
-use Rattle.std.proofs.lemmas.Bool.{eqb-true, false≢true, false_from_ne_true}
+use Rattle.std.proofs.lemmas.Bool.{cases_eq, eqb-true, false≢true, false_from_ne_true}
 use Rattle.walks.specs.Walk.{Among, Below}
 use Rattle.walks.specs.Walk.Below.{next, beyond}
 use Rattle.walks.proofs.Walks.{only_below}
@@ -28,7 +27,7 @@ use Rattle.desk_model.specs.Held.{changeable}
 use Rattle.desk_model.specs.State.{State}
 use Rattle.desk_model.specs.Links.{IsLinked, IsKinded, AreOfKind, Serve, serves_as, reaches}
 use Rattle.desk_model.specs.Laws.{MayLink, Keeps}
-use Rattle.desk_model.specs.Effect.{number_eq, notified, revised, priced_by_engine, engine_set}
+use Rattle.desk_model.specs.Effect.{notified, revised, priced_by_engine, engine_set}
 use Rattle.desk_model.proofs.Edges.{edge_input, input_edge, today_edge}
 use Rattle.desk_model.proofs.Commands.{kind_there, engine_keeps}
 use Rattle.desk_model.proofs.KindsKept.{engine_kinded}
@@ -36,13 +35,13 @@ use Rattle.observer_graph.specs.declared.node.Role.{Role}
 use Rattle.observer_graph.specs.declared.node.Role.TheVariants.{Lazy}
 use Rattle.observer_graph.specs.declared.node.Role.TheVariants as role
 use Rattle.object_store.specs.Slots.{Registry, market_of, state_of, outdated, engine_in}
-use Rattle.object_store.specs.Shape.{IsJoined, role_at, observed_by, slot_role}
-use Rattle.object_store.specs.Store.{registry_of, StoreView, JoinsAny, LeavesAny, Moves}
+use Rattle.object_store.specs.Shape.{IsJoined, role_at, observed_by, slot_role, vacancy_of}
+use Rattle.object_store.specs.Store.{registry_of, StoreView, JoinsAny, LeavesAny, Moves, held_count}
 use Rattle.object_store.specs.Scratch.{ScratchView}
 use Rattle.lazy_objects.specs.Stands.{Stands}
-use Rattle.object_store.proofs.Joined.{joined_set, there_seen, terms_watch}
+use Rattle.object_store.proofs.Joined.{joined_set, there_seen, terms_watch, vacancies_set, slot_vacancy, vacancy_within}
 use Rattle.object_store.proofs.Registered.{moves_plain}
-use Rattle.lazy_objects.proofs.Linked.{same_target, joins_pairs, leaves_pairs, joins_roles, leaves_roles, joins_switch, leaves_switch, linked_before}
+use Rattle.lazy_objects.proofs.Linked.{joins_pairs, leaves_pairs, joins_roles, leaves_roles, joins_switch, leaves_switch, linked_before}
 use Rattle.lazy_objects.proofs.Revised.{Changed, After, kind_within}
 use Rattle.object_store.proofs.Telling.{IsKept, revised_told, kept_state}
 use Rattle.lazy_objects.proofs.Commanded.{engine_stands, commanded}
@@ -203,28 +202,50 @@ flows_edges flows engine y = (
       λ p. elim p [ inl is ↦ inr ((index_is index).1 is) | inr is ↦ inl (same_some e y is) ],
     )
 
--- a pair in place of another
-pub moved : (held target : Option ℕ) (i : ℕ) (old middle new : StoreView) → option_eq number_eq held target ≡ false → JoinsAny target i old middle → LeavesAny held i middle new → Moves held target i old new
-moved held target i old middle new differs joins leaves =
-    let more = joins_pairs target i old middle joins in
-    let less = leaves_pairs held i middle new leaves in
+-- a pair in the place of another
+pub moved : (held target : Option ℕ) (i : ℕ) (old middle new : StoreView) → LeavesAny held i old middle → middle.shape.spare ≡ old.shape.spare + held_count held
+    → JoinsAny target i middle new → new.shape.spare + held_count target ≡ middle.shape.spare → Moves held target i old new
+moved held target i old middle new leaves freed joins used =
+    let less = leaves_pairs held i old middle leaves in
+    let more = joins_pairs target i middle new joins in
     record {
-      kept = (leaves_roles held i middle new leaves).0 ∙ (joins_roles target i old middle joins).0;
-      switch = (leaves_switch held i middle new leaves).0 ∙ (joins_switch target i old middle joins).0;
-      told = (leaves_switch held i middle new leaves).1 ∙ (joins_switch target i old middle joins).1;
-      roles = (leaves_roles held i middle new leaves).1 ∙ (joins_roles target i old middle joins).1;
+      kept = (joins_roles target i middle new joins).0 ∙ (leaves_roles held i old middle leaves).0;
+      switch = (joins_switch target i middle new joins).0 ∙ (leaves_switch held i old middle leaves).0;
+      told = (joins_switch target i middle new joins).1 ∙ (leaves_switch held i old middle leaves).1;
+      roles = (joins_roles target i middle new joins).1 ∙ (leaves_roles held i old middle leaves).1;
+      spare = used ∙ freed;
       own = λ x. (
-        λ a. let p = (less x i).0 a in elim ((more x i).0 p.0) [ inl was ↦ inl (was, λ e. p.1 (e, refl)) | inr q ↦ inr q.0 ],
-        λ a. elim a [
-          | inl w ↦ (less x i).1 ((more x i).1 (inl w.0), λ p. w.1 p.0)
-          | inr is ↦ (less x i).1 ((more x i).1 (inr (is, refl)), λ p. false≢true (sym differs ∙ same_target held target x p.0 is))
-        ],
+        λ a. elim ((more x i).0 a) [ inl was ↦ (let p = (less x i).0 was in inl (p.0, λ e. p.1 (e, refl))) | inr q ↦ inr q.0 ],
+        λ a. (more x i).1 (elim a [ inl w ↦ inl ((less x i).1 (w.0, λ p. w.1 p.0)) | inr is ↦ inr (is, refl) ]),
       );
       others = λ o x other. (
-        λ a. elim ((more x o).0 ((less x o).0 a).0) [ inl was ↦ was | inr p ↦ absurd (other p.1) ],
-        λ a. (less x o).1 ((more x o).1 (inl a), λ p. other p.1),
+        λ a. elim ((more x o).0 a) [ inl was ↦ ((less x o).0 was).0 | inr p ↦ absurd (other p.1) ],
+        λ a. (more x o).1 (inl ((less x o).1 (a, λ p. other p.1))),
       );
     }
+
+-- where nothing is put in the place of itself
+pub unmoved : (held target : Option ℕ) (i : ℕ) (store : StoreView) → held ≡ target → ((x : ℕ) → held ≡ Some x → Among x (observed_by store.shape i)) → Moves held target i store store
+unmoved held target i store same watched = record {
+  kept = refl;
+  switch = refl;
+  told = refl;
+  roles = refl;
+  spare = ap (λ (t : Option ℕ). store.shape.spare + held_count t) (sym same);
+  own = λ x. (
+    λ a. elim (is_held held x) [ inl is ↦ inr (sym same ∙ is) | inr other ↦ inl (a, other) ],
+    λ a. elim a [ inl w ↦ w.0 | inr is ↦ watched x (same ∙ is) ],
+  );
+  others = λ o x other. (λ a. a, λ a. a);
+}
+  where
+    is_held : (h : Option ℕ) (x : ℕ) → (h ≡ Some x) ⊎ (h ≡ Some x → ⊥)
+    is_held None x = inr (λ e. absurd (cc))
+    is_held (Some y) x = elim (cases_eq y x) [ inl e ↦ inl (ap Some e) | inr other ↦ inr (λ e. other (let s : y ≡ x = cc in s)) ]
+
+flows_vacancy : (flows : FlowTerms) (t : Option ℕ) → vacancy_of (terms_of.Flows flows t) + held_count t ≡ 1
+flows_vacancy flows None = refl
+flows_vacancy flows (Some engine) = refl
 
 flows_role : (t : Slot) (flows : FlowTerms) (held : Option ℕ) → terms_in t ≡ Some (terms_of.Flows flows held) → slot_role t ≡ Some Lazy
 flows_role Free flows held is = absurd (cc)
@@ -323,6 +344,18 @@ module _ (today : ℤ) (slots : List Slot) (i : ℕ) (flows : FlowTerms) (held :
         λ a. (joined.pairs o y plain).0 ((moves.others o y other).0 a),
         λ a. (moves.others o y other).1 ((joined.pairs o y plain).1 a),
       ))
+      (let set = vacancies_set slots i (Live (terms_of.Flows flows engine)) within in
+      let here = slot_vacancy (slice_index_or slots i Free) (terms_of.Flows flows held) is in
+      let was = flows_vacancy flows held in let becomes = flows_vacancy flows engine in
+      let room = joined.room in let spare = moves.spare in
+      omega (arith, set, here, was, becomes, room, spare))
+
+  -- an instrument without an engine has a spare place
+  pub engine_room : i < length slots → held ≡ None → 0 < old.shape.spare
+  engine_room within none =
+      let here = slot_vacancy (slice_index_or slots i Free) (terms_of.Flows flows held) is ∙ ap (λ (t : Option ℕ). vacancy_of (terms_of.Flows flows t)) none in
+      let low = vacancy_within slots i within in let room = joined.room in
+      omega (arith, here, low, room)
 
   -- another engine is no registration
   pub moves_kept : (engine : Option ℕ) (new : StoreView) → Moves held engine i old new → IsKept old new

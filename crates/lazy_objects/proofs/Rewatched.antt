@@ -1,5 +1,5 @@
 -- What a composite observes after a change of a weight.
-use Rattle.std.proofs.Common.{◌≡◌, ◌≢◌, ◌⊎◌, inl, inr, ℕ, Bool, true, false, List, [], ◌∷◌, ◌++◌, ℤ, of_z, to_z, w64, refl, sym, ◌∙◌, ap, subst}
+use Rattle.std.proofs.Common.{◌≡◌, ◌≢◌, ◌⊎◌, inl, inr, ℕ, ◌≤◌, Bool, true, false, List, [], ◌∷◌, ◌++◌, ℤ, of_z, to_z, w64, refl, sym, ◌∙◌, ap, subst, arith}
 use Rattle.std.specs.Prelude.{◌↔◌, ◌==◌, ◌||◌, if◌then◌else◌, pos}
 use Rattle.std.specs.Ordering.{int_eq}
 use Rattle.std.proofs.lemmas.Bool.Decides.{Decides-int_eq}
@@ -64,12 +64,13 @@ no_member (part ∷ parts) m none a = by_same (part.member == m) refl none a (λ
     by_same false is none (inr a) rest = rest none a
 
 module _ (k m : ℕ) (weight : ℤ) (parts : List Part) (old : StoreView) (watched : (x : ℕ) → Among x (observed_by old.shape k) ↔ Among x (members parts)) where
-  pub rewatched_less : (new : StoreView) → int_eq weight (pos 0) ≡ true → Leaves old new m k → IsRewatched k (with_member parts m weight) old new
-  rewatched_less new none leaves = record {
+  pub rewatched_less : (new : StoreView) → int_eq weight (pos 0) ≡ true → Leaves old new m k → old.shape.spare ≤ new.shape.spare → IsRewatched k (with_member parts m weight) old new
+  rewatched_less new none leaves spare = record {
     kept = leaves.kept;
     switch = leaves.switch;
     told = leaves.told;
     roles = leaves.roles;
+    spare = spare;
     own = λ x. subst (λ (l : List Part). Among x (observed_by new.shape k) ↔ Among x (members l)) (sym (ap (λ (b : Bool). if b then without_member parts m else if has_member parts m then reweighted parts m weight else parts ++ record { weight = weight; member = m } ∷ []) none)) (
       λ a. let p = (leaves.pairs x k).0 a in without_back parts m x ((watched x).0 p.0) (λ e. p.1 (e, refl)),
       λ a. let r = without_there parts m x a in (leaves.pairs x k).1 ((watched x).1 r.0, λ p. r.1 p.0),
@@ -83,6 +84,7 @@ module _ (k m : ℕ) (weight : ℤ) (parts : List Part) (old : StoreView) (watch
     switch = refl;
     told = refl;
     roles = refl;
+    spare = omega arith;
     own = λ x. subst (λ (l : List Part). Among x (observed_by old.shape k) ↔ Among x (members l))
         (sym (ap (λ (b : Bool). if b then without_member parts m else if has_member parts m then reweighted parts m weight else parts ++ record { weight = weight; member = m } ∷ []) some
         ∙ ap (λ (b : Bool). if b then reweighted parts m weight else parts ++ record { weight = weight; member = m } ∷ []) there))
@@ -90,12 +92,13 @@ module _ (k m : ℕ) (weight : ℤ) (parts : List Part) (old : StoreView) (watch
     others = λ o x other. (λ a. a, λ a. a);
   }
 
-  pub rewatched_more : (new : StoreView) → int_eq weight (pos 0) ≡ false → has_member parts m ≡ false → Joins old new m k → IsRewatched k (with_member parts m weight) old new
-  rewatched_more new some none joins = record {
+  pub rewatched_more : (new : StoreView) → int_eq weight (pos 0) ≡ false → has_member parts m ≡ false → Joins old new m k → new.shape.spare ≡ old.shape.spare → IsRewatched k (with_member parts m weight) old new
+  rewatched_more new some none joins spare = record {
     kept = joins.kept;
     switch = joins.switch;
     told = joins.told;
     roles = joins.roles;
+    spare = omega (arith, spare);
     own = λ x. subst (λ (l : List Part). Among x (observed_by new.shape k) ↔ Among x (members l))
         (sym (ap (λ (b : Bool). if b then without_member parts m else if has_member parts m then reweighted parts m weight else parts ++ record { weight = weight; member = m } ∷ []) some
         ∙ ap (λ (b : Bool). if b then reweighted parts m weight else parts ++ record { weight = weight; member = m } ∷ []) none))

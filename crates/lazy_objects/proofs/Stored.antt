@@ -1,5 +1,5 @@
 -- What stands after a fixing.
-use Rattle.std.proofs.Common.{◌≡◌, ◌<◌, ℕ, true, length, Option, Some, refl, sym, ◌∙◌, ap, subst}
+use Rattle.std.proofs.Common.{◌≡◌, ◌<◌, ℕ, true, length, Option, Some, refl, sym, ◌∙◌, ap, subst, arith}
 use Rattle.std.specs.Prelude.{ℤ, List, Result, Err, ◌↔◌, slice_index_or, slice_set}
 use Rattle.walks.specs.Walk.{Among}
 use Rattle.flow_terms.specs.declared.indexes.IndexTerms.{IndexTerms}
@@ -29,7 +29,7 @@ use Rattle.object_store.specs.Store.{registry_of, StoreView}
 use Rattle.object_store.specs.Scratch.{ScratchView}
 use Rattle.lazy_objects.specs.Stands.{Stands}
 use Rattle.object_store.proofs.Indexes.{same_terms}
-use Rattle.object_store.proofs.Joined.{joined_set, terms_watch}
+use Rattle.object_store.proofs.Joined.{joined_set, room_set, terms_watch}
 use Rattle.lazy_objects.proofs.Linked.{linked_before}
 use Rattle.lazy_objects.proofs.Revised.{Changed, After}
 use Rattle.object_store.proofs.Telling.{revised_told}
@@ -80,6 +80,7 @@ joined_fixing today slots shape x terms fixings more joined within is =
       λ a. (joined.pairs x y (terms_watch (slice_index_or slots x Free) (terms_of.Index terms fixings) is)).1 (subst (λ (t : Option Terms). Among y (edges_of t)) (sym is) a),
     ))
     (λ o other. joined.roles o) (λ o y other plain. joined.pairs o y plain)
+    (room_set slots x (Live (terms_of.Index terms more)) shape.spare shape.spare joined.room (omega arith) within (omega arith))
 
 -- a fixing that is stored tells
 fixing_as : (s : State) (x : ℕ) (terms : IndexTerms) (fixings : Stored) (day rate : ℤ) → terms_in (slot_at s.market x) ≡ Some (terms_of.Index terms fixings)

@@ -1,5 +1,5 @@
 -- What stands after a watcher is made, registered and unregistered, and after one is handed out.
-use Rattle.std.proofs.Common.{◌≡◌, ◌≢◌, inl, inr, ◌<◌, ◌^◌, ◌+◌, ℕ, Bool, true, false, List, [], ◌∷◌, ◌++◌, length, Option, Some, None, refl, sym, ◌∙◌, ap, subst, arith}
+use Rattle.std.proofs.Common.{◌≡◌, ◌≢◌, inl, inr, ◌<◌, ◌≤◌, ◌^◌, ◌+◌, ℕ, Bool, true, false, List, [], ◌∷◌, ◌++◌, length, Option, Some, None, refl, sym, ◌∙◌, ap, subst, arith}
 use Rattle.std.specs.Prelude.{ℤ, ◌↔◌, ◌==◌, slice_index_or, is_some, IfSome, IfNone}
 use Rattle.std.proofs.lemmas.List.{length-append}
 use Rattle.std.proofs.lemmas.Bool.{cases_eq, eq-eqb, eqb-true, false≢true, false_from_ne_true}
@@ -108,14 +108,15 @@ module _ (today : ℤ) (slots : List Slot) (old new : StoreView) (scratch : Scra
 
   -- the pairs of a watcher are none of the market
   still_joined : (w : ℕ) → is_watcher (slot_at (market_of today slots) w) ≡ true → new.shape.roles ≡ old.shape.roles
-      → ((o x : ℕ) → o ≢ w → Among x (observed_by new.shape o) ↔ Among x (observed_by old.shape o)) → IsJoined (market_of today slots) new.shape
-  still_joined w watcher roles others = record {
+      → ((o x : ℕ) → o ≢ w → Among x (observed_by new.shape o) ↔ Among x (observed_by old.shape o)) → old.shape.spare ≤ new.shape.spare → IsJoined (market_of today slots) new.shape
+  still_joined w watcher roles others more = record {
     long = ap length roles ∙ joined.long;
     roles = λ o. ap (λ (l : List (Option Role)). slice_index_or l o None) roles ∙ joined.roles o;
     pairs = λ o x plain.
         let p = others o x (λ same. false≢true (sym plain ∙ ap (λ (n : ℕ). is_watcher (slot_at (market_of today slots) n)) same ∙ watcher)) in
         let q = joined.pairs o x plain in
         (λ a. q.0 (p.0 a), λ a. p.1 (q.1 a));
+    room = let room = joined.room in omega (arith, room, more);
   }
 
   registered_market : (w o : ℕ) → (registered_with w o s).market ≡ s.market
@@ -137,13 +138,13 @@ module _ (today : ℤ) (slots : List Slot) (old new : StoreView) (scratch : Scra
         registry_is : registry_of new ≡ record (registry_of old) { registrations = with_pair w o (registrations_of old.shape) }
         registry_is = λ i. record { deferring = joins.switch i; registrations = joins_registered old new o w watches_there joins i; noticed = joins.told i }
 
-    pub registered_left : is_observable (slot_at (market_of today slots) o) ≡ true → Joins old new o w → After s t (registered_with w o s) scratch new.shape
-    registered_left observed joins = record {
+    pub registered_left : is_observable (slot_at (market_of today slots) o) ≡ true → Joins old new o w → new.shape.spare ≡ old.shape.spare → After s t (registered_with w o s) scratch new.shape
+    registered_left observed joins spare = record {
       changed = same_market s (registered_with w o s) t scratch stands (registered_market w o) (register_keeps s stands.whole w o (record { watcher = watcher; observed = observed })) (registered_state joins);
       joined = still_joined w watcher joins.roles (λ p x other. (
         λ a. elim ((joins.pairs x p).0 a) [ inl was ↦ was | inr pair ↦ absurd (other pair.1) ],
         λ a. (joins.pairs x p).1 (inl a),
-      ));
+      )) (omega (arith, spare));
     }
 
     unregistered_state : Leaves old new o w → t ≡ unregistered w o s
@@ -153,13 +154,13 @@ module _ (today : ℤ) (slots : List Slot) (old new : StoreView) (scratch : Scra
         registry_is : registry_of new ≡ record (registry_of old) { registrations = without_pair w o (registrations_of old.shape) }
         registry_is = λ i. record { deferring = leaves.switch i; registrations = leaves_registered old new o w leaves i; noticed = leaves.told i }
 
-    pub unregistered_left : Leaves old new o w → After s t (unregistered w o s) scratch new.shape
-    unregistered_left leaves = record {
+    pub unregistered_left : Leaves old new o w → old.shape.spare ≤ new.shape.spare → After s t (unregistered w o s) scratch new.shape
+    unregistered_left leaves more = record {
       changed = same_market s (unregistered w o s) t scratch stands (unregistered_market w o) (unregister_keeps s stands.whole w o) (unregistered_state leaves);
       joined = still_joined w watcher leaves.roles (λ p x other. (
         λ a. ((leaves.pairs x p).0 a).0,
         λ a. (leaves.pairs x p).1 (a, λ pair. other pair.1),
-      ));
+      )) more;
     }
 
   -- the first of the told watchers is handed out

@@ -17,15 +17,16 @@ ghost use Rattle.flow_terms.specs.declared.fixings.FixFault.TheVariants.{Exists}
 ghost use Rattle.desk_terms.specs.declared.terms.HandleKind.{HandleKind};
 ghost use Rattle.desk_terms.specs.declared.terms.Terms.TheVariants.{Handle};
 ghost use Rattle.desk_model.specs.Laws.{MayLink};
-ghost use Rattle.object_store.specs.Slots.{is_handle, engine_in};
+ghost use Rattle.object_store.specs.Slots.{is_handle};
 ghost use Rattle.object_store.specs.Parts.{parts_in};
-ghost use Rattle.desk_model.specs.Held.{changeable, weight_of};
+ghost use Rattle.desk_model.specs.Held.{weight_of};
 ghost use Rattle.ask_walk.specs.Asks.{Asks, Stops, AnswersIdly, held_answer};
 ghost use Rattle.ask_walk.specs.Recalcs.{RecalcEnds, RecalcStops};
 ghost use Rattle.lazy_objects.specs.Untold.{TellsNobody};
 
 use crate::changes::{revise, tell_changed};
-use crate::links::{link_of, unwatch_any, watch_any, watch_instead};
+use crate::links::{link_of, watch_instead};
+use crate::room::make_room;
 use crate::weights::{has_weight, parts_of, rewatch, with_member};
 use ask_walk::{Recalced, ask, ask_held, recalc};
 use day_number::Day;
@@ -100,6 +101,7 @@ impl Desk {
         let object = ObjId(self.objects.len() as u32);
         let watched = watched(self.alloc, &terms)?;
         self.scratch.reserve()?;
+        make_room(&mut self.store, &terms, self.objects.len())?;
         self.objects.add(terms, &mut self.store, &watched)?;
         self.scratch.grow();
         Ok(object)
@@ -118,25 +120,21 @@ impl Desk {
     }
 
     /// A handle stands for another target, or for none (QuantLib's `RelinkableHandle::linkTo`). The target is live, is what
-    /// the handle stands for, and does not lie above the handle. Where it is the one held, nothing is told. Where memory is
-    /// wanting, nothing is changed.
-    pub fn relink(&mut self, handle: ObjId, target: Option<ObjId>) -> Result<(), AllocError>
+    /// the handle stands for, and does not lie above the handle. Where it is the one held, nothing is told. It takes no
+    /// memory, and costs what it tells.
+    pub fn relink(&mut self, handle: ObjId, target: Option<ObjId>)
         requires handle { is_handle (terms_at self.old.market handle) ≡ true }
         requires kinds { (kind : HandleKind) (held : Option ℕ) → terms_at self.old.market handle ≡ Some (Handle kind held) → AreOfKind self.old.market (Some (Handle kind target)) }
         requires open { MayLink self.old.market handle target }
-        ensures set { OnOk result (self.new ≡ relinked handle target self.old) }
-        ensures same { OnErr result (self.new ≡ self.old) }
-        // No memory is wanted for none, nor for the target held.
-        ensures ready { (kind : HandleKind) (held : Option ℕ) → terms_at self.old.market handle ≡ Some (Handle kind held) → (target ≡ None) ⊎ (held ≡ target) → IsOk result }
+        ensures set { self.new ≡ relinked handle target self.old }
         ensures keeps { KeepsCurrent self.old self.new }
         ensures sound { (calc : Calc) → IsSound calc self.old → IsSound calc self.new }
     {
         let link = link_of(&self.objects, handle);
         if link.target == target {
-            return Ok(());
+            return;
         }
-        watch_any(&mut self.store, target, handle)?;
-        unwatch_any(&mut self.store, link.target, handle);
+        watch_instead(&mut self.store, &link.target, &target, handle);
         revise(
             self.today,
             &mut self.objects,
@@ -147,26 +145,21 @@ impl Desk {
                 target,
             },
         );
-        Ok(())
     }
 
     /// An instrument is priced by another engine, or by none (QuantLib's `Instrument::setPricingEngine`). It is not current
-    /// and its observers are told, also where the engine is the one held. Where memory is wanting, nothing is changed.
-    pub fn set_engine(&mut self, instrument: ObjId, engine: Option<ObjId>) -> Result<(), AllocError>
+    /// and its observers are told, also where the engine is the one held. It takes no memory, and costs what it tells.
+    pub fn set_engine(&mut self, instrument: ObjId, engine: Option<ObjId>)
         requires instrument { kind_at self.old.market instrument ≡ Some Flows }
         requires engine { Serve self.old.market (optional_reference Engine engine) }
-        ensures set { OnOk result (self.new ≡ engine_set instrument engine self.old) }
-        ensures same { OnErr result (self.new ≡ self.old) }
-        // No memory is wanted for none, nor for the engine held.
-        ensures ready { (engine ≡ None) ⊎ (engine_in (changeable (terms_at self.old.market instrument)) ≡ engine) → IsOk result }
+        ensures set { self.new ≡ engine_set instrument engine self.old }
         ensures keeps { KeepsCurrent self.old self.new }
         ensures sound { (calc : Calc) → IsSound calc self.old → IsSound calc self.new }
     {
         let held = engine_of(&self.objects, instrument);
-        watch_instead(&mut self.store, &held, &engine, instrument)?;
+        watch_instead(&mut self.store, &held, &engine, instrument);
         self.objects.set_engine(instrument, engine);
         tell_changed(self.today, &self.objects, &mut self.store, instrument);
-        Ok(())
     }
 
     /// Stores the rate of an index for a day that has none, and tells its observers (QuantLib's `Index::addFixing`). The

@@ -8,6 +8,7 @@ mod changes;
 mod desk;
 mod links;
 mod quotes;
+mod room;
 mod weights;
 
 pub use ask_walk::Recalced;

@@ -1,17 +1,16 @@
 // What a handle stands for, and the pair that goes with it or with an engine.
-ghost use Rattle.std.specs.Prelude.{◌≡◌, ◌⊎◌, ℕ, true, Some, None, IfSome, IsOk, OnOk, OnErr, is_some, slice_index_or};
+ghost use Rattle.std.specs.Prelude.{◌≡◌, ◌<◌, ◌+◌, ℕ, true, Some, None, IfSome, is_some, slice_index_or};
 ghost use Rattle.walks.specs.Walk.{Among};
 ghost use Rattle.desk_terms.specs.declared.terms.Terms.TheVariants.{Handle};
 ghost use Rattle.desk_model.specs.Market.{terms_in};
 ghost use Rattle.desk_model.specs.declared.slot.Slot.TheVariants.{Free};
 ghost use Rattle.object_store.specs.Slots.{is_handle};
 ghost use Rattle.object_store.specs.Shape.{role_at, observed_by};
-ghost use Rattle.object_store.specs.Store.{JoinsAny, LeavesAny, Moves};
+ghost use Rattle.object_store.specs.Store.{JoinsAny, LeavesAny, Moves, held_count};
 
 use desk_names::ObjId;
 use desk_terms::{HandleKind, Terms};
 use object_store::{Objects, Store};
-use std::alloc::AllocError;
 
 /// What a handle stands for.
 #[derive(Clone, Copy, Debug, PartialEq, Eq)]
@@ -45,61 +44,54 @@ pub fn link_of(objects: &Objects, handle: ObjId) -> Link
     }
 }
 
-/// An object observes this one too, if there is one; no memory is wanted where there is none. After want of memory
-/// nothing is changed.
-pub fn watch_any(
-    store: &mut Store,
-    subject: Option<ObjId>,
-    observer: ObjId,
-) -> Result<(), AllocError>
+/// An object observes this one too, if there is one, by a spare place. It takes no memory.
+pub fn watch_any(store: &mut Store, subject: Option<ObjId>, observer: ObjId)
+    requires room { IfSome subject (λ _. 0 < store.old.shape.spare) }
     requires subject { IfSome subject (λ x. is_some (role_at store.old.shape x) ≡ true) }
     requires observer { is_some (role_at store.old.shape observer) ≡ true }
     requires new { (x : ℕ) → subject ≡ Some x → Among x (observed_by store.old.shape observer) → ⊥ }
-    ensures joins { OnOk result (JoinsAny subject observer store.old store.new) }
-    ensures same { OnErr result (store.new ≡ store.old) }
-    ensures ready { subject ≡ None → IsOk result }
+    ensures joins { JoinsAny subject observer store.old store.new }
+    ensures spare { store.new.shape.spare + held_count subject ≡ store.old.shape.spare }
 {
     match subject {
-        None => Ok(()),
-        Some(object) => store.watch(object, observer),
+        None => return,
+        Some(object) => store.watch_spare(object, observer),
     }
 }
 
-/// An object does not observe this one, if there is one.
+/// An object does not observe this one, if there is one, which leaves a spare place. It takes no memory.
 pub fn unwatch_any(store: &mut Store, subject: Option<ObjId>, observer: ObjId)
     requires subject { IfSome subject (λ x. is_some (role_at store.old.shape x) ≡ true) }
     requires observer { is_some (role_at store.old.shape observer) ≡ true }
-    ensures { LeavesAny subject observer store.old store.new }
+    requires watched { (x : ℕ) → subject ≡ Some x → Among x (observed_by store.old.shape observer) }
+    ensures leaves { LeavesAny subject observer store.old store.new }
+    ensures spare { store.new.shape.spare ≡ store.old.shape.spare + held_count subject }
 {
     match subject {
-        None => {}
-        Some(object) => {
-            store.unwatch(object, observer);
-        }
-    }
+        None => return,
+        Some(object) => store.unwatch(object, observer),
+    };
 }
 
-/// An object observes another engine in place of the one held. After want of memory nothing is changed. No
-/// memory is wanted for none, nor for the one held.
+/// An object observes another target or engine, or none, in place of the one held, if it holds one: the pair that goes leaves
+/// its place to the one that comes. An object that holds none has a spare place. It takes no memory.
 pub fn watch_instead(
     store: &mut Store,
     held: &Option<ObjId>,
-    engine: &Option<ObjId>,
+    target: &Option<ObjId>,
     observer: ObjId,
-) -> Result<(), AllocError>
+)
     requires held { IfSome held.now (λ x. is_some (role_at store.old.shape x) ≡ true) }
-    requires engine { IfSome engine.now (λ x. is_some (role_at store.old.shape x) ≡ true) }
+    requires target { IfSome target.now (λ x. is_some (role_at store.old.shape x) ≡ true) }
     requires observer { is_some (role_at store.old.shape observer) ≡ true }
     requires watched { (x : ℕ) → held.now ≡ Some x → Among x (observed_by store.old.shape observer) }
-    requires new { (x : ℕ) → engine.now ≡ Some x → Among x (observed_by store.old.shape observer) → held.now ≡ engine.now }
-    ensures moves { OnOk result (Moves held.now engine.now observer store.old store.new) }
-    ensures same { OnErr result (store.new ≡ store.old) }
-    ensures ready { (engine.now ≡ None) ⊎ (held.now ≡ engine.now) → IsOk result }
+    requires new { (x : ℕ) → target.now ≡ Some x → Among x (observed_by store.old.shape observer) → held.now ≡ target.now }
+    requires room { held.now ≡ None → 0 < store.old.shape.spare }
+    ensures { Moves held.now target.now observer store.old store.new }
 {
-    if *held == *engine {
-        return Ok(());
+    if *held == *target {
+        return;
     }
-    watch_any(store, *engine, observer)?;
     unwatch_any(store, *held, observer);
-    Ok(())
+    watch_any(store, *target, observer);
 }

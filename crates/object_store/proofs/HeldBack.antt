@@ -23,7 +23,7 @@ least_same P Q same (Some y) is = ((same y).0 is.0, λ x q. is.1 x ((same x).1 q
 
 module _ (graph : GraphView) (lasts : List (Option Value)) (on : Bool) (fits : Fits graph lasts) where
   abbrev view : StoreView
-  view = record { kept = kept_of graph lasts; shape = shape_of graph; deferring = on; noticed = graph.noticed; spare = graph.spare }
+  view = record { kept = kept_of graph lasts; shape = shape_of graph; deferring = on; noticed = graph.noticed }
 
   pub frozen_node : (y : ℕ) → (stored_at view y).frozen ≡ graphs.is_frozen graph y
   frozen_node y = ap (λ (k : Kept). k.frozen) (kept_at_node graph lasts fits y)

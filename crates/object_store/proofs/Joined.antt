@@ -1,8 +1,9 @@
 -- The graph of a desk after each of its changes.
-use Rattle.std.proofs.Common.{◌≡◌, ◌≢◌, ◌⊎◌, inl, inr, ℕ, zero, suc, ◌+◌, ◌<◌, Bool, true, false, List, [], ◌∷◌, ◌++◌, length, Option, None, Some, refl, sym, ◌∙◌, ap, subst, arith}
+use Rattle.std.proofs.Common.{◌≡◌, ◌≢◌, ◌⊎◌, inl, inr, ℕ, zero, suc, ◌+◌, ◌<◌, ◌≤◌, Bool, true, false, List, [], ◌∷◌, ◌++◌, length, Option, None, Some, refl, sym, ◌∙◌, ap, subst, arith}
 use Rattle.std.specs.Prelude.{ℤ, ◌↔◌, ◌==◌, ◌||◌, slice_index_or, slice_set, is_some, if◌then◌else◌}
 use Rattle.std.specs.List.{list_any}
 use Rattle.std.proofs.lemmas.List.{length-append, length-set, get_or-set_same, get_or-set_other, get_or_past}
+use Rattle.std.proofs.lemmas.List.Sums.{sum_by-append, sum_by-cons, sum_by-set}
 use Rattle.std.proofs.lemmas.Bool.{cases_eq, cases_lt, eq-eqb, eqb-true, false≢true, false_from_ne_true}
 use Rattle.walks.specs.Walk.{Among, Below}
 use Rattle.walks.specs.Walk.Below.{next, beyond}
@@ -14,7 +15,6 @@ use Rattle.desk_terms.specs.declared.terms.Part.{Part}
 use Rattle.desk_terms.specs.declared.terms.HandleKind.TheVariants as handle
 use Rattle.desk_terms.specs.declared.kind.Kind.TheVariants as kind
 use Rattle.desk_terms.specs.Kind as kinds
-use Rattle.desk_terms.specs.Kind.{observes_today}
 use Rattle.desk_terms.specs.Terms.{part_references}
 use Rattle.desk_model.specs.declared.slot.Slot.{Slot}
 use Rattle.desk_model.specs.declared.slot.Slot.TheVariants.{Live, Free, Today, Watcher}
@@ -34,7 +34,7 @@ use Rattle.observer_graph.specs.Notice.{IsLeast}
 use Rattle.observer_graph.proofs.Exactly.{below_there}
 use Rattle.object_store.specs.Slots.{market_of}
 use Rattle.object_store.specs.Parts.{parts_in}
-use Rattle.object_store.specs.Shape.{Shape, IsJoined, role_at, observed_by, edges_from, edges_at, node_role, slot_role, watched}
+use Rattle.object_store.specs.Shape.{Shape, IsJoined, role_at, observed_by, edges_from, edges_at, node_role, slot_role, watched, vacancy_of, vacancy, vacancies}
 use Rattle.object_store.specs.Store.{StoreView, AddsObject, TakesObject, IsRewatched}
 
 -- what stands at a number is there
@@ -183,6 +183,59 @@ module _ (m : Market) (shape : Shape) (joined : IsJoined m shape) where
   pub least_gone : IsLinked m → (x : ℕ) → is_some (role_at shape x) ≡ false → None ≡ least_user m x
   least_gone links x none = least_is links x None (λ o a. false≢true (sym (gone_unseen (slot_at m x) (sym (ap is_some (joined.roles x)) ∙ none)) ∙ links.observed o x ((edges_there o x).0 a)))
 
+-- how many holders hold nothing, where there is one slot more, or another
+pub vacancies_more : (slots : List Slot) (slot : Slot) → vacancies (slots ++ slot ∷ []) ≡ vacancies slots + vacancy slot
+unfolding vacancies
+vacancies_more slots slot = let more = sum_by-append vacancy slots (slot ∷ []) in let one = sum_by-cons vacancy slot [] in omega (arith, more, one)
+
+pub vacancies_set : (slots : List Slot) (x : ℕ) (slot : Slot) → x < length slots
+    → vacancies (slice_set slots x slot) + vacancy (slice_index_or slots x Free) ≡ vacancies slots + vacancy slot
+unfolding vacancies
+vacancies_set slots x slot within = sum_by-set vacancy slots x slot Free within
+
+-- what stands at a number holds nothing where its terms do
+pub slot_vacancy : (slot : Slot) (terms : Terms) → terms_in slot ≡ Some terms → vacancy slot ≡ vacancy_of terms
+slot_vacancy Free terms is = absurd (cc)
+slot_vacancy Today terms is = absurd (cc)
+slot_vacancy Watcher terms is = absurd (cc)
+slot_vacancy (Live held) terms is = ap vacancy_of (same is)
+  where
+    same : Some held ≡ Some terms → held ≡ terms
+    same e = cc
+
+-- there is room for one that holds nothing
+pub vacancy_within : (slots : List Slot) (x : ℕ) → x < length slots → vacancy (slice_index_or slots x Free) ≤ vacancies slots
+vacancy_within slots x within = let set = vacancies_set slots x Free within in omega (arith, set)
+
+vacancy_low : (slot : Slot) → vacancy slot ≤ 1
+vacancy_low Free = omega arith
+vacancy_low Today = omega arith
+vacancy_low Watcher = omega arith
+vacancy_low (Live (terms_of.Quote held)) = omega arith
+vacancy_low (Live (terms_of.Derived minus first second)) = omega arith
+vacancy_low (Live (terms_of.Handle kind None)) = omega arith
+vacancy_low (Live (terms_of.Handle kind (Some target))) = omega arith
+vacancy_low (Live (terms_of.Curve terms)) = omega arith
+vacancy_low (Live (terms_of.Implied curve reference)) = omega arith
+vacancy_low (Live (terms_of.Index terms fixings)) = omega arith
+vacancy_low (Live (terms_of.Engine curve)) = omega arith
+vacancy_low (Live (terms_of.Stock quote)) = omega arith
+vacancy_low (Live (terms_of.Composite parts)) = omega arith
+vacancy_low (Live (terms_of.Flows flows None)) = omega arith
+vacancy_low (Live (terms_of.Flows flows (Some engine))) = omega arith
+
+-- at most one for each number
+pub few_vacancies : (slots : List Slot) → vacancies slots ≤ length slots
+unfolding vacancies
+few_vacancies [] = omega arith
+few_vacancies (slot ∷ slots) =
+    let one = vacancy_low slot in let rest = few_vacancies slots in let sum = sum_by-cons vacancy slot slots in omega (arith, one, rest, sum)
+
+-- a slot in whose place none comes that holds less
+pub room_set : (slots : List Slot) (x : ℕ) (slot : Slot) (spare more : ℕ) → vacancies slots ≤ spare → spare ≤ more → x < length slots
+    → vacancy slot ≤ vacancy (slice_index_or slots x Free) → vacancies (slice_set slots x slot) ≤ more
+room_set slots x slot spare more room grows within less = let set = vacancies_set slots x slot within in omega (arith, room, grows, less, set)
+
 -- the graph of `today` alone
 pub joined_start : (today : ℤ) (old new : StoreView) → old.kept ≡ [] → old.shape.roles ≡ [] → old.shape.subjects ≡ [] → AddsObject Source [] old new → IsJoined (market_of today (Today ∷ [])) new.shape
 joined_start today old new kept roles subjects adds = record {
@@ -192,6 +245,7 @@ joined_start today old new kept roles subjects adds = record {
     λ a. absurd (elim ((adds.pairs x o).0 a) [ inl was ↦ nothing o x (subst (λ (l : List (List ℕ)). Among x (slice_index_or l o [])) subjects was) | inr p ↦ p.0 ]),
     λ a. absurd (subst (Among x) (no_edges o) a),
   );
+  room = let none = vacancies_more [] Today in let nothing = few_vacancies [] in omega (arith, none, nothing);
 }
   where
     role_is : (o : ℕ) → slice_index_or (Some Source ∷ []) o None ≡ slot_role (slice_index_or (Today ∷ []) o Free)
@@ -242,9 +296,20 @@ past_nothing today slots shape joined o x same a =
     let past = get_or_past slots o Free (let s = same in omega arith) in
     subst (λ (t : Slot). Among x (edges_of (terms_in t))) past ((joined.pairs o x (ap is_watcher past)).0 a)
 
+-- a graph with more room
+pub joined_spared : (m : Market) (old new : StoreView) → IsJoined m old.shape → new ≡ record old { shape = record old.shape { spare = new.shape.spare } }
+    → old.shape.spare ≤ new.shape.spare → IsJoined m new.shape
+joined_spared m old new joined same more = subst (λ (h : Shape). IsJoined m h) (sym (ap (λ (v : StoreView). v.shape) same)) (record {
+  long = joined.long;
+  roles = joined.roles;
+  pairs = joined.pairs;
+  room = let room = joined.room in omega (arith, room, more);
+})
+
 -- one number more: an object observes its edges, a watcher nothing
 module _ (today : ℤ) (slots : List Slot) (slot : Slot) (role : Role) (named : List ℕ) (old new : StoreView) (joined : IsJoined (market_of today slots) old.shape) (long : length old.kept ≡ length slots)
-    (adds : AddsObject role named old new) (own : slot_role slot ≡ Some role) (edged : (x : ℕ) → Among x named ↔ Among x (edges_of (terms_in slot))) where
+    (adds : AddsObject role named old new) (own : slot_role slot ≡ Some role) (edged : (x : ℕ) → Among x named ↔ Among x (edges_of (terms_in slot)))
+    (room : vacancies slots + vacancy slot ≤ old.shape.spare) where
   as_long : length old.shape.roles ≡ length slots
   as_long = joined.long
 
@@ -274,26 +339,28 @@ module _ (today : ℤ) (slots : List Slot) (slot : Slot) (role : Role) (named : 
         λ a. (adds.pairs x o).1 (inl ((joined.pairs o x before).1 (subst (λ (t : Slot). Among x (edges_of (terms_in t))) (other_item slots slot Free o other) a))),
       )
     ];
+    room = let more = vacancies_more slots slot in let same = adds.spare in omega (arith, more, same, room);
   }
 
 -- one object more
 pub joined_added : (today : ℤ) (slots slots2 : List Slot) (terms : Terms) (old new : StoreView) → IsJoined (market_of today slots) old.shape → length old.kept ≡ length slots
-    → AddsObject (node_role (role_of (Some terms))) (watched terms) old new → slots2 ≡ slots ++ Live terms ∷ [] → IsJoined (market_of today slots2) new.shape
-joined_added today slots slots2 terms old new joined long adds is = subst (λ (l : List Slot). IsJoined (market_of today l) new.shape) (sym is)
-    (joined_more today slots (Live terms) (node_role (role_of (Some terms))) (watched terms) old new joined long adds refl (watched_edges terms))
+    → AddsObject (node_role (role_of (Some terms))) (watched terms) old new → vacancies slots + vacancy_of terms ≤ old.shape.spare
+    → slots2 ≡ slots ++ Live terms ∷ [] → IsJoined (market_of today slots2) new.shape
+joined_added today slots slots2 terms old new joined long adds room is = subst (λ (l : List Slot). IsJoined (market_of today l) new.shape) (sym is)
+    (joined_more today slots (Live terms) (node_role (role_of (Some terms))) (watched terms) old new joined long adds refl (watched_edges terms) room)
 
 -- one watcher more
 pub joined_watcher : (today : ℤ) (slots slots2 : List Slot) (old new : StoreView) → IsJoined (market_of today slots) old.shape → length old.kept ≡ length slots
     → AddsObject role.Watcher [] old new → slots2 ≡ slots ++ Watcher ∷ [] → IsJoined (market_of today slots2) new.shape
 joined_watcher today slots slots2 old new joined long adds is = subst (λ (l : List Slot). IsJoined (market_of today l) new.shape) (sym is)
-    (joined_more today slots Watcher role.Watcher [] old new joined long adds refl (λ x. (λ a. a, λ a. a)))
+    (joined_more today slots Watcher role.Watcher [] old new joined long adds refl (λ x. (λ a. a, λ a. a)) (let room = joined.room in omega (arith, room)))
 
 -- one object with other terms
 pub joined_set : (today : ℤ) (slots : List Slot) (x : ℕ) (terms : Terms) (shape : Shape) → length shape.roles ≡ length slots → x < length slots → role_at shape x ≡ slot_role (Live terms)
     → ((y : ℕ) → Among y (observed_by shape x) ↔ Among y (edges_of (Some terms)))
     → ((o : ℕ) → o ≢ x → role_at shape o ≡ slot_role (slice_index_or slots o Free)) → ((o y : ℕ) → o ≢ x → is_watcher (slice_index_or slots o Free) ≡ false → Among y (observed_by shape o) ↔ Among y (edges_of (terms_in (slice_index_or slots o Free))))
-    → IsJoined (market_of today (slice_set slots x (Live terms))) shape
-joined_set today slots x terms shape long within own its roles pairs = record {
+    → vacancies (slice_set slots x (Live terms)) ≤ shape.spare → IsJoined (market_of today (slice_set slots x (Live terms))) shape
+joined_set today slots x terms shape long within own its roles pairs room = record {
   long = long ∙ sym (length-set slots x (Live terms));
   roles = λ o. elim (cases_eq o x) [
     | inl same ↦ subst (λ (z : ℕ). role_at shape z ≡ slot_role (slice_index_or (slice_set slots x (Live terms)) z Free)) (sym same) (own ∙ sym (ap slot_role (get_or-set_same slots x (Live terms) Free within)))
@@ -305,6 +372,7 @@ joined_set today slots x terms shape long within own its roles pairs = record {
     | inr other ↦ subst (λ (t : Slot). Among y (observed_by shape o) ↔ Among y (edges_of (terms_in t))) (sym (get_or-set_other slots x o (Live terms) Free other))
         (pairs o y other (ap is_watcher (sym (get_or-set_other slots x o (Live terms) Free other)) ∙ plain))
   ];
+  room = room;
 }
 
 quote_slot : (t : Slot) → kind_in t ≡ Some kind.Quote → (slot_role t ≡ Some Source) × (edges_of (terms_in t) ≡ []) × (is_watcher t ≡ false)
@@ -333,6 +401,7 @@ joined_quote today slots shape q value joined within is =
     let t = quote_slot (slice_index_or slots q Free) is in
     joined_set today slots q (terms_of.Quote value) shape joined.long within (joined.roles q ∙ t.0)
     (λ y. (λ a. subst (Among y) t.1 ((joined.pairs q y t.2).0 a), λ a. absurd a)) (λ o other. joined.roles o) (λ o y other plain. joined.pairs o y plain)
+    (room_set slots q (Live (terms_of.Quote value)) shape.spare shape.spare joined.room (omega arith) within (omega arith))
 
 pub composite_slot : (t : Slot) → kind_in t ≡ Some kind.Composite → (slot_role t ≡ Some Lazy) × (edges_of (terms_in t) ≡ each_once (named (part_references (parts_in t)))) × (is_watcher t ≡ false)
 composite_slot Free is = absurd (cc)
@@ -375,6 +444,7 @@ joined_composite today slots old new k parts joined within is rewatched =
       λ a. (joined.pairs o y plain).0 ((rewatched.others o y other).0 a),
       λ a. (rewatched.others o y other).1 ((joined.pairs o y plain).1 a),
     ))
+    (room_set slots k (Live (terms_of.Composite parts)) old.shape.spare new.shape.spare joined.room rewatched.spare within (omega arith))
 
 -- one object less
 pub joined_dropped : (today : ℤ) (slots slots2 : List Slot) (x : ℕ) (old new : StoreView) → IsJoined (market_of today slots) old.shape → x < length slots → least_user (market_of today slots) x ≡ None
@@ -403,6 +473,7 @@ joined_dropped today slots slots2 x old new joined within unused takes is = subs
           ),
     )
   ];
+  room = room_set slots x Free old.shape.spare new.shape.spare joined.room takes.spare within (omega arith);
 })
   where
     plain_before : (o : ℕ) → o ≢ x → is_watcher (slice_index_or (slice_set slots x Free) o Free) ≡ false → is_watcher (slice_index_or slots o Free) ≡ false

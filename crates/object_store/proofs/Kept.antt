@@ -91,12 +91,13 @@ pub same_roles : (nodes nodes2 : List (Option Node)) → length nodes2 ≡ lengt
 same_roles nodes nodes2 long each = same_lists (map role_in nodes2) (map role_in nodes) None (length-roles nodes2 ∙ long ∙ sym (length-roles nodes))
     (λ o. role_at_node nodes2 o ∙ each o ∙ sym (role_at_node nodes o))
 
-pub same_shape : (graph new : GraphView) → map role_in new.nodes ≡ map role_in graph.nodes → new.subjects ≡ graph.subjects → shape_of new ≡ shape_of graph
-same_shape graph new roles subjects = λ i. record { roles = roles i; subjects = subjects i }
+pub same_shape : (graph new : GraphView) → map role_in new.nodes ≡ map role_in graph.nodes → new.subjects ≡ graph.subjects
+    → new.spare ≡ graph.spare → shape_of new ≡ shape_of graph
+same_shape graph new roles subjects spare = λ i. record { roles = roles i; subjects = subjects i; spare = spare i }
 
 -- stores that have the same
-pub same_view : (a b : StoreView) → a.kept ≡ b.kept → a.shape ≡ b.shape → a.deferring ≡ b.deferring → a.noticed ≡ b.noticed → a.spare ≡ b.spare → a ≡ b
-same_view a b kept shape switch told spare = λ i. record { kept = kept i; shape = shape i; deferring = switch i; noticed = told i; spare = spare i }
+pub same_view : (a b : StoreView) → a.kept ≡ b.kept → a.shape ≡ b.shape → a.deferring ≡ b.deferring → a.noticed ≡ b.noticed → a ≡ b
+same_view a b kept shape switch told = λ i. record { kept = kept i; shape = shape i; deferring = switch i; noticed = told i }
 
 -- a live node
 pub live_node : (graph : GraphView) (x : ℕ) → is_some (role_at (shape_of graph) x) ≡ true → IsSome (node_at graph x)
@@ -137,7 +138,7 @@ module _ (graph : GraphView) (lasts : List (Option Value)) (fits : Fits graph la
         | inl same ↦ subst (λ (z : ℕ). role_in (slice_index_or (slice_set graph.nodes x (unsettled (node_at graph x))) z None) ≡ role_in (slice_index_or graph.nodes z None)) (sym same)
             (ap role_in (get_or-set_same graph.nodes x (unsettled (node_at graph x)) None in_nodes) ∙ role_kept (node_at graph x))
         | inr other ↦ ap role_in (get_or-set_other graph.nodes x o (unsettled (node_at graph x)) None other)
-      ])) refl
+      ])) refl refl
     where
       role_kept : (node : Option Node) → role_in (unsettled node) ≡ role_in node
       role_kept None = refl
@@ -188,7 +189,7 @@ module _ (graph : GraphView) (lasts : List (Option Value)) (fits : Fits graph la
           | inl same ↦ subst (λ (z : ℕ). role_in (slice_index_or (slice_set graph.nodes x node2) z None) ≡ role_in (slice_index_or graph.nodes z None)) (sym same)
               (ap role_in (get_or-set_same graph.nodes x node2 None in_nodes) ∙ role_kept (node_at graph x))
           | inr other ↦ ap role_in (get_or-set_other graph.nodes x o node2 None other)
-        ])) refl
+        ])) refl refl
       where
         role_kept : (node : Option Node) → role_in (flagged flags node) ≡ role_in node
         role_kept None = refl
@@ -196,7 +197,7 @@ module _ (graph : GraphView) (lasts : List (Option Value)) (fits : Fits graph la
 
   -- an object that is gone
   pub taken_kept : (new : GraphView) (on : Bool) → TakesNode graph new x
-      → TakesObject x (record { kept = kept_of graph lasts; shape = shape_of graph; deferring = on; noticed = graph.noticed; spare = graph.spare }) (record { kept = kept_of new (slice_set lasts x None); shape = shape_of new; deferring = on; noticed = new.noticed; spare = new.spare })
+      → TakesObject x (record { kept = kept_of graph lasts; shape = shape_of graph; deferring = on; noticed = graph.noticed }) (record { kept = kept_of new (slice_set lasts x None); shape = shape_of new; deferring = on; noticed = new.noticed })
   taken_kept new on takes = record {
     switch = refl;
     told = takes.noticed;
@@ -219,7 +220,7 @@ module _ (graph : GraphView) (lasts : List (Option Value)) (fits : Fits graph la
 
 -- an object more
 pub grown_kept : (graph new : GraphView) (lasts lasts2 : List (Option Value)) (on : Bool) (role : Role) (named : List ℕ) → Fits graph lasts → AddsNode role named graph new → lasts2 ≡ lasts ++ None ∷ []
-    → AddsObject role named (record { kept = kept_of graph lasts; shape = shape_of graph; deferring = on; noticed = graph.noticed; spare = graph.spare }) (record { kept = kept_of new lasts2; shape = shape_of new; deferring = on; noticed = new.noticed; spare = new.spare })
+    → AddsObject role named (record { kept = kept_of graph lasts; shape = shape_of graph; deferring = on; noticed = graph.noticed }) (record { kept = kept_of new lasts2; shape = shape_of new; deferring = on; noticed = new.noticed })
 grown_kept graph new lasts lasts2 on role named fits adds more = record {
   switch = refl;
   told = adds.noticed;
@@ -273,7 +274,7 @@ module _ (graph new : GraphView) (lasts : List (Option Value)) (on off : Bool) (
   fits2 = record { nodes = tells.settles.len ∙ fits.nodes; sources = tells.settles.marks ∙ fits.sources }
 
   abbrev old_view : StoreView
-  old_view = record { kept = kept_of graph lasts; shape = shape_of graph; deferring = on; noticed = graph.noticed; spare = graph.spare }
+  old_view = record { kept = kept_of graph lasts; shape = shape_of graph; deferring = on; noticed = graph.noticed }
 
   source_is : (y : ℕ) → (stored_at old_view y).source ≡ is_source graph y
   source_is y = ap (λ (k : Kept). k.source) (kept_at_node graph lasts fits y)
@@ -320,12 +321,12 @@ module _ (graph new : GraphView) (lasts : List (Option Value)) (on off : Bool) (
   told_as None b last = refl
   told_as (Some node) b last = refl
 
-  pub notices : Notices old_view (record { kept = kept_of new lasts; shape = shape_of new; deferring = off; noticed = new.noticed; spare = new.spare })
+  pub notices : Notices old_view (record { kept = kept_of new lasts; shape = shape_of new; deferring = off; noticed = new.noticed })
   notices = record {
     shape = same_shape graph new (same_roles graph.nodes new.nodes tells.settles.len (λ o. elim (tells.settles.node o) [
       | inl told ↦ ap role_in told.1 ∙ role_kept (node_at graph o)
       | inr spared ↦ ap role_in spared.1
-    ])) tells.settles.subjects;
+    ])) tells.settles.subjects tells.spare;
     long = length-kept new 0 lasts ∙ sym (length-kept graph 0 lasts);
     each = λ o. elim (tells.settles.node o) [
       | inl told ↦ inl (
@@ -351,7 +352,6 @@ module _ (graph new : GraphView) (lasts : List (Option Value)) (on off : Bool) (
       ]),
     );
     rising = tells.rising;
-    spare = tells.spare;
   }
     where
       role_kept : (node : Option Node) → role_in (unsettled node) ≡ role_in node
@@ -360,14 +360,14 @@ module _ (graph new : GraphView) (lasts : List (Option Value)) (on off : Bool) (
 
 -- a notice of one object more
 pub notices_marked : (graph new : GraphView) (lasts : List (Option Value)) (on off : Bool) → Fits graph lasts → (x : ℕ) → x < length lasts → Tells (with_source x graph) new
-    → Notices (marked x (record { kept = kept_of graph lasts; shape = shape_of graph; deferring = on; noticed = graph.noticed; spare = graph.spare })) (record { kept = kept_of new lasts; shape = shape_of new; deferring = off; noticed = new.noticed; spare = new.spare })
+    → Notices (marked x (record { kept = kept_of graph lasts; shape = shape_of graph; deferring = on; noticed = graph.noticed })) (record { kept = kept_of new lasts; shape = shape_of new; deferring = off; noticed = new.noticed })
 notices_marked graph new lasts on off fits x low tells =
-    subst (λ (k : List Kept). Notices (record { kept = k; shape = shape_of graph; deferring = on; noticed = graph.noticed; spare = graph.spare }) (record { kept = kept_of new lasts; shape = shape_of new; deferring = off; noticed = new.noticed; spare = new.spare })) (marked_kept graph lasts fits x low)
+    subst (λ (k : List Kept). Notices (record { kept = k; shape = shape_of graph; deferring = on; noticed = graph.noticed }) (record { kept = kept_of new lasts; shape = shape_of new; deferring = off; noticed = new.noticed })) (marked_kept graph lasts fits x low)
     (notices (with_source x graph) new lasts on off (record { nodes = fits.nodes; sources = length-set graph.sources x true ∙ fits.sources }) tells)
 
 -- THE VIEW of a store
 abbrev pub view_of : GraphView → List (Option Value) → Bool → StoreView
-view_of graph lasts on = record { kept = kept_of graph lasts; shape = shape_of graph; deferring = on; noticed = graph.noticed; spare = graph.spare }
+view_of graph lasts on = record { kept = kept_of graph lasts; shape = shape_of graph; deferring = on; noticed = graph.noticed }
 
 -- an object that is there has a last value, or none
 pub place_within : (graph : GraphView) (lasts : List (Option Value)) → Fits graph lasts → (x : ℕ) → is_some (role_at (shape_of graph) x) ≡ true → x < length lasts
@@ -382,23 +382,23 @@ module _ (graph : GraphView) (lasts : List (Option Value)) (on : Bool) (fits : F
 
   pub marked_view : (new : GraphView) (switch : Bool) → new ≡ with_source x graph → switch ≡ on → view_of new lasts switch ≡ marked x (view_of graph lasts on)
   marked_view new switch e same = ap (λ (g : GraphView). view_of g lasts switch) e
-      ∙ same_view (view_of (with_source x graph) lasts switch) (marked x (view_of graph lasts on)) (marked_kept graph lasts fits x low) refl same refl refl
+      ∙ same_view (view_of (with_source x graph) lasts switch) (marked x (view_of graph lasts on)) (marked_kept graph lasts fits x low) refl same refl
 
   pub outdated_view : (new : GraphView) → new ≡ with_stale x graph → view_of new lasts on ≡ stored_as x (record stored { current = false }) (view_of graph lasts on)
   outdated_view new e = ap (λ (g : GraphView). view_of g lasts on) e
-      ∙ same_view (view_of (with_stale x graph) lasts on) (stored_as x (record stored { current = false }) (view_of graph lasts on)) (outdated_kept graph lasts fits x low) (outdated_shape graph lasts fits x low) refl refl refl
+      ∙ same_view (view_of (with_stale x graph) lasts on) (stored_as x (record stored { current = false }) (view_of graph lasts on)) (outdated_kept graph lasts fits x low) (outdated_shape graph lasts fits x low) refl refl
 
   pub frozen_view : (new : GraphView) (flags : Flags) (frozen : Bool) → new ≡ with_flags x flags graph → flags ≡ record (flags_of (node_at graph x)) { frozen = frozen }
       → view_of new lasts on ≡ stored_as x (record stored { frozen = frozen }) (view_of graph lasts on)
   frozen_view new flags frozen e are = ap (λ (g : GraphView). view_of g lasts on) e
       ∙ same_view (view_of (with_flags x flags graph) lasts on) (stored_as x (record stored { frozen = frozen }) (view_of graph lasts on))
-      (frozen_kept graph lasts fits x low flags frozen are (live_node graph x is)) (flagged_shape graph lasts fits x low flags) refl refl refl
+      (frozen_kept graph lasts fits x low flags frozen are (live_node graph x is)) (flagged_shape graph lasts fits x low flags) refl refl
 
   pub forward_view : (new : GraphView) (flags : Flags) (forward : Bool) → new ≡ with_flags x flags graph → flags ≡ record (flags_of (node_at graph x)) { forward = forward }
       → view_of new lasts on ≡ stored_as x (record stored { forward = forward }) (view_of graph lasts on)
   forward_view new flags forward e are = ap (λ (g : GraphView). view_of g lasts on) e
       ∙ same_view (view_of (with_flags x flags graph) lasts on) (stored_as x (record stored { forward = forward }) (view_of graph lasts on))
-      (forward_kept graph lasts fits x low flags forward are (live_node graph x is)) (flagged_shape graph lasts fits x low flags) refl refl refl
+      (forward_kept graph lasts fits x low flags forward are (live_node graph x is)) (flagged_shape graph lasts fits x low flags) refl refl
 
 -- other pairs
 pub pairs_kept : (graph new : GraphView) (lasts : List (Option Value)) → new.nodes ≡ graph.nodes → new.sources ≡ graph.sources → (kept_of new lasts ≡ kept_of graph lasts) × (map role_in new.nodes ≡ map role_in graph.nodes)
@@ -422,15 +422,14 @@ module _ (graph new : GraphView) (lasts : List (Option Value)) (on : Bool) where
   some_told (Some w) some = (
     some.0,
     let p = pairs_kept graph new lasts (ap (λ (g : GraphView). g.nodes) some.1) (ap (λ (g : GraphView). g.sources) some.1) in
-        same_view (view_of new lasts on) (record (view_of graph lasts on) { noticed = new.noticed }) p.0 (same_shape graph new p.1 (ap (λ (g : GraphView). g.subjects) some.1)) refl refl (ap (λ (g : GraphView). g.spare) some.1),
+        same_view (view_of new lasts on) (record (view_of graph lasts on) { noticed = new.noticed }) p.0 (same_shape graph new p.1 (ap (λ (g : GraphView). g.subjects) some.1) (ap (λ (g : GraphView). g.spare) some.1)) refl refl,
   )
 
 -- the same graph with other room
 pub spared_view : (graph new : GraphView) (lasts : List (Option Value)) (on : Bool) (pairs : ℕ)
     → new ≡ record graph { spare = max graph.spare pairs }
-    → view_of new lasts on ≡ record (view_of graph lasts on) { spare = max (view_of graph lasts on).spare pairs }
+    → view_of new lasts on ≡ record (view_of graph lasts on) { shape = record (shape_of graph) { spare = max graph.spare pairs } }
 spared_view graph new lasts on pairs same =
     let p = pairs_kept graph new lasts (ap (λ (g : GraphView). g.nodes) same) (ap (λ (g : GraphView). g.sources) same) in
-    same_view (view_of new lasts on) (record (view_of graph lasts on) { spare = max (view_of graph lasts on).spare pairs })
-    p.0 (same_shape graph new p.1 (ap (λ (g : GraphView). g.subjects) same)) refl
-    (ap (λ (g : GraphView). g.noticed) same) (ap (λ (g : GraphView). g.spare) same)
+    same_view (view_of new lasts on) (record (view_of graph lasts on) { shape = record (shape_of graph) { spare = max graph.spare pairs } })
+    p.0 (λ i. record { roles = p.1 i; subjects = (same i).subjects; spare = (same i).spare }) refl (ap (λ (g : GraphView). g.noticed) same)

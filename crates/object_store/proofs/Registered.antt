@@ -235,3 +235,8 @@ adds_registered role named old new long adds idle past = same_registrations old.
         | inr new ↦ absurd (other new.1)
       ]
     ]
+
+-- more room changes no registration
+pub spared_registry : (old new : StoreView) (spare : ℕ) → new ≡ record old { shape = record old.shape { spare = spare } } → registry_of new ≡ registry_of old
+unfolding registrations_of
+spared_registry old new spare same = ap registry_of same

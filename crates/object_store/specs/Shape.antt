@@ -1,7 +1,9 @@
 -- The graph of a desk: the role of each object and whom it observes.
-use Rattle.std.specs.Prelude.{◌≡◌, ◌↔◌, ◌+◌, ℕ, Bool, false, List, [], ◌∷◌, length, map, Option, Some, None, slice_index_or, if◌then◌else◌}
+use Rattle.std.specs.Prelude.{◌≡◌, ◌↔◌, ◌+◌, ◌≤◌, ℕ, Bool, false, List, [], ◌∷◌, length, map, Option, Some, None, slice_index_or, if◌then◌else◌}
+use Rattle.std.specs.List.{sum_by}
 use Rattle.walks.specs.Walk.{Among}
 use Rattle.desk_terms.specs.declared.terms.Terms.{Terms}
+use Rattle.desk_terms.specs.declared.terms.Terms.TheVariants as terms
 use Rattle.desk_terms.specs.declared.value.Value.{Value}
 use Rattle.desk_terms.specs.Kind as kind
 use Rattle.desk_terms.specs.Kind.{observes_today}
@@ -17,10 +19,12 @@ use Rattle.observer_graph.specs.declared.node.Node.{Node}
 use Rattle.observer_graph.specs.GraphView.{GraphView, node_at, flags_of, is_source, edges_by}
 use Rattle.observer_graph.specs.Lists.{list_at}
 
--- by number: its role, none where no object has it, and the objects that it observes, in no order
+-- by number: its role, none where no object has it, and the objects that it observes, in no order; and how many pairs
+-- more find room without memory
 pub record Shape : Type 0 where
   pub roles : List (Option Role)
   pub subjects : List (List ℕ)
+  pub spare : ℕ
 
 abbrev pub role_at : Shape → ℕ → Option Role
 role_at shape o = slice_index_or shape.roles o None
@@ -63,12 +67,38 @@ abbrev pub linked : Option ℕ → List ℕ
 linked None = []
 linked (Some target) = target ∷ []
 
+-- a holder that holds nothing: an empty handle, or an instrument without an engine
+abbrev pub vacancy_of : Terms → ℕ
+vacancy_of (terms.Quote value) = 0
+vacancy_of (terms.Derived minus first second) = 0
+vacancy_of (terms.Handle kind None) = 1
+vacancy_of (terms.Handle kind (Some target)) = 0
+vacancy_of (terms.Curve curve) = 0
+vacancy_of (terms.Implied curve reference) = 0
+vacancy_of (terms.Index index fixings) = 0
+vacancy_of (terms.Engine curve) = 0
+vacancy_of (terms.Stock quote) = 0
+vacancy_of (terms.Composite parts) = 0
+vacancy_of (terms.Flows flows None) = 1
+vacancy_of (terms.Flows flows (Some engine)) = 0
+
+abbrev pub vacancy : Slot → ℕ
+vacancy slot.Free = 0
+vacancy slot.Today = 0
+vacancy slot.Watcher = 0
+vacancy (slot.Live terms) = vacancy_of terms
+
+-- how many holders hold nothing
+unfoldable pub vacancies : List Slot → ℕ
+vacancies slots = sum_by vacancy slots
+
 -- THE GRAPH OF A MARKET: each object has its role, and an object that is no watcher observes its edges. What a watcher
--- observes are its registrations.
+-- observes are its registrations. There is room for what each holder that holds nothing may come to hold.
 pub record IsJoined (market : Market) (shape : Shape) : Type 0 where
   pub long : length shape.roles ≡ length market.objects
   pub roles : (o : ℕ) → role_at shape o ≡ slot_role (slot_at market o)
   pub pairs : (o x : ℕ) → is_watcher (slot_at market o) ≡ false → Among x (observed_by shape o) ↔ Among x (edges market o)
+  pub room : vacancies market.objects ≤ shape.spare
 
 -- the pairs of a watcher with these, each put at its place
 abbrev pub with_pairs : ℕ → List ℕ → List (ℕ × ℕ) → List (ℕ × ℕ)
@@ -112,4 +142,4 @@ abbrev pub kept_of : GraphView → List (Option Value) → List Kept
 kept_of graph lasts = kept_from graph 0 lasts
 
 abbrev pub shape_of : GraphView → Shape
-shape_of graph = record { roles = map role_in graph.nodes; subjects = graph.subjects }
+shape_of graph = record { roles = map role_in graph.nodes; subjects = graph.subjects; spare = graph.spare }

@@ -1,5 +1,5 @@
 -- What the calls of a store change.
-use Rattle.std.specs.Prelude.{◌≡◌, ◌≢◌, ◌↔◌, ◌⊎◌, ◌≤◌, ◌++◌, ℕ, Bool, true, false, List, [], ◌∷◌, length, Option, Some, None, slice_index_or, slice_set}
+use Rattle.std.specs.Prelude.{◌≡◌, ◌≢◌, ◌↔◌, ◌⊎◌, ◌≤◌, ◌+◌, ◌++◌, ℕ, Bool, true, false, List, [], ◌∷◌, length, Option, Some, None, slice_index_or, slice_set}
 use Rattle.walks.specs.Walk.{Among, Below}
 use Rattle.desk_terms.specs.declared.terms.Part.{Part}
 use Rattle.desk_terms.specs.Terms.{part_references}
@@ -14,14 +14,13 @@ use Rattle.observer_graph.specs.Noticed.{IsRising, without}
 use Rattle.object_store.specs.Shape.{Shape, role_at, observed_by, registrations_of}
 use Rattle.object_store.specs.Slots.{Registry}
 
--- what is stored of each object, the graph of observers, whether notices are held back, the watchers that were told
--- and not handed out since, by creation, and how many pairs more fit with no memory, by `watch_spare` alone
+-- what is stored of each object, the graph of observers, whether notices are held back, and the watchers that were told
+-- and not handed out since, by creation
 pub record StoreView : Type 0 where
   pub kept : List Kept
   pub shape : Shape
   pub deferring : Bool
   pub noticed : List ℕ
-  pub spare : ℕ
 
 -- the registrations stand in the graph alone
 abbrev pub registry_of : StoreView → Registry
@@ -47,7 +46,7 @@ pub record AddsObject (role : Role) (named : List ℕ) (old new : StoreView) : T
   pub kept : new.kept ≡ old.kept ++ unpriced ∷ []
   pub switch : new.deferring ≡ old.deferring
   pub told : new.noticed ≡ old.noticed
-  pub spare : new.spare ≡ old.spare
+  pub spare : new.shape.spare ≡ old.shape.spare
   pub roles : new.shape.roles ≡ old.shape.roles ++ Some role ∷ []
   pub pairs : (x o : ℕ) → Among x (observed_by new.shape o) ↔ (Among x (observed_by old.shape o) ⊎ (Among x named × (o ≡ length old.kept)))
 
@@ -56,7 +55,7 @@ pub record TakesObject (object : ℕ) (old new : StoreView) : Type 0 where
   pub kept : new.kept ≡ slice_set old.kept object unpriced
   pub switch : new.deferring ≡ old.deferring
   pub told : new.noticed ≡ without object old.noticed
-  pub spare : old.spare ≤ new.spare
+  pub spare : old.shape.spare ≤ new.shape.spare
   pub roles : new.shape.roles ≡ slice_set old.shape.roles object None
   pub pairs : (x o : ℕ) → Among x (observed_by new.shape o) ↔ (Among x (observed_by old.shape o) × ((x ≡ object) ⊎ (o ≡ object) → ⊥))
 
@@ -97,7 +96,6 @@ pub record Notices (old new : StoreView) : Type 0 where
       ⊎ ((IsNotified old o → ⊥) × (stored_at new o ≡ notified_kept false (stored_at old o)))
   pub noticed : (w : ℕ) → Among w new.noticed ↔ (Among w old.noticed ⊎ ((role_at old.shape w ≡ Some Watcher) × IsNotified old w))
   pub rising : IsRising new.noticed
-  pub spare : new.spare ≡ old.spare
 
 -- a composite of these parts observes its members, and all else is as it was
 pub record IsRewatched (composite : ℕ) (parts : List Part) (old new : StoreView) : Type 0 where
@@ -105,6 +103,7 @@ pub record IsRewatched (composite : ℕ) (parts : List Part) (old new : StoreVie
   pub switch : new.deferring ≡ old.deferring
   pub told : new.noticed ≡ old.noticed
   pub roles : new.shape.roles ≡ old.shape.roles
+  pub spare : old.shape.spare ≤ new.shape.spare
   pub own : (x : ℕ) → Among x (observed_by new.shape composite) ↔ Among x (named (part_references parts))
   pub others : (o x : ℕ) → o ≢ composite → Among x (observed_by new.shape o) ↔ Among x (observed_by old.shape o)
 
@@ -118,11 +117,17 @@ abbrev pub LeavesAny : Option ℕ → ℕ → StoreView → StoreView → Type 0
 LeavesAny None observer old new = new ≡ old
 LeavesAny (Some subject) observer old new = Leaves old new subject observer
 
--- an object observes this one, if there is one, in place of that one
+-- how many objects a holder holds
+abbrev pub held_count : Option ℕ → ℕ
+held_count None = 0
+held_count (Some object) = 1
+
+-- an object observes this one, if there is one, in place of that one, whose place in the graph it takes
 pub record Moves (held target : Option ℕ) (observer : ℕ) (old new : StoreView) : Type 0 where
   pub kept : new.kept ≡ old.kept
   pub switch : new.deferring ≡ old.deferring
   pub told : new.noticed ≡ old.noticed
   pub roles : new.shape.roles ≡ old.shape.roles
+  pub spare : new.shape.spare + held_count target ≡ old.shape.spare + held_count held
   pub own : (x : ℕ) → Among x (observed_by new.shape observer) ↔ ((Among x (observed_by old.shape observer) × (held ≢ Some x)) ⊎ (target ≡ Some x))
   pub others : (o x : ℕ) → o ≢ observer → Among x (observed_by new.shape o) ↔ Among x (observed_by old.shape o)

@@ -34,7 +34,7 @@ impl Model for Store {
 
     ghost Value = { StoreView };
 
-    ghost view = { λ s. record { kept = kept_of s.deferral.graph s.lasts.items; shape = shape_of s.deferral.graph; deferring = s.deferral.on; noticed = s.deferral.graph.noticed; spare = s.deferral.graph.spare } };
+    ghost view = { λ s. record { kept = kept_of s.deferral.graph s.lasts.items; shape = shape_of s.deferral.graph; deferring = s.deferral.on; noticed = s.deferral.graph.noticed } };
 
     ghost invariant = { λ s. (length s.deferral.graph.nodes ≡ length s.lasts.items) × (length s.deferral.graph.sources ≡ length s.lasts.items) };
 }
@@ -47,7 +47,6 @@ impl Store {
         ensures roles { result.shape.roles ≡ [] }
         ensures subjects { result.shape.subjects ≡ [] }
         ensures told { result.noticed ≡ [] }
-        ensures spare { result.spare ≡ 0 }
     {
         Store {
             deferral: Deferral::new(Graph::new(alloc)),
@@ -105,7 +104,6 @@ impl Store {
         ensures shape { self.new.shape ≡ self.old.shape }
         ensures switch { self.new.deferring ≡ self.old.deferring }
         ensures told { self.new.noticed ≡ self.old.noticed }
-        ensures spare { self.new.spare ≡ self.old.spare }
     {
         let flags = self.deferral.as_graph().flags(object);
         self.deferral.graph().set_flags(object, settled(flags));
@@ -193,14 +191,14 @@ impl Store {
         requires new { Among subject (observed_by self.old.shape observer) → ⊥ }
         ensures joins { OnOk result (Joins self.old self.new subject observer) }
         ensures same { OnErr result (self.new ≡ self.old) }
-        ensures spare { self.new.spare ≡ self.old.spare }
+        ensures spare { self.new.shape.spare ≡ self.old.shape.spare }
     {
         self.deferral.graph().watch(subject, observer)
     }
 
     /// Finds spare places, so that there are at least so many. After want of memory nothing is changed.
     pub fn reserve(&mut self, pairs: u32) -> Result<(), AllocError>
-        ensures reserved { OnOk result (self.new ≡ record self.old { spare = max self.old.spare pairs }) }
+        ensures reserved { OnOk result (self.new ≡ record self.old { shape = record self.old.shape { spare = max self.old.shape.spare pairs } }) }
         ensures same { OnErr result (self.new ≡ self.old) }
     {
         self.deferral.graph().reserve(pairs)
@@ -208,12 +206,12 @@ impl Store {
 
     /// An object observes another too, by one of the spare places. It takes no memory.
     pub fn watch_spare(&mut self, subject: ObjId, observer: ObjId)
-        requires room { 0 < self.old.spare }
+        requires room { 0 < self.old.shape.spare }
         requires subject { is_some (role_at self.old.shape subject) ≡ true }
         requires observer { is_some (role_at self.old.shape observer) ≡ true }
         requires new { Among subject (observed_by self.old.shape observer) → ⊥ }
         ensures joins { Joins self.old self.new subject observer }
-        ensures spare { self.new.spare + 1 ≡ self.old.spare }
+        ensures spare { self.new.shape.spare + 1 ≡ self.old.shape.spare }
     {
         self.deferral.graph().watch_spare(subject, observer);
     }
@@ -224,7 +222,7 @@ impl Store {
         requires observer { is_some (role_at self.old.shape observer) ≡ true }
         ensures was { IsTrue result ↔ Among subject (observed_by self.old.shape observer) }
         ensures leaves { Leaves self.old self.new subject observer }
-        ensures spare { self.new.spare ≡ self.old.spare + (if result then 1 else 0) }
+        ensures spare { self.new.shape.spare ≡ self.old.shape.spare + (if result then 1 else 0) }
     {
         self.deferral.graph().unwatch(subject, observer)
     }

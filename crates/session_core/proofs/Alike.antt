@@ -167,21 +167,13 @@ member_alike s t k member weight (Ok x) there is same =
     to s t (member_set k member weight s) is (alike_weight s k there (changeable (terms_at s.market k)) member weight)
 member_alike s t k member weight (Err e) there is same = to s t s same (alike_same s.market s.market refl)
 
-pub link_alike : {A E : Type 0} (s t : State) (h : ℕ) (target : Option ℕ) (result : Result A E)
-    → IsDroppable s.market h → OnOk result (t ≡ relinked h target s) → OnErr result (t ≡ s)
-    → AreAlike s.market t.market
+pub link_alike : (s t : State) (h : ℕ) (target : Option ℕ) → IsDroppable s.market h → t ≡ relinked h target s → AreAlike s.market t.market
 unfolding relinked
-link_alike s t h target (Ok x) there is same =
-    to s t (relinked h target s) is (alike_target s h there (changeable (terms_at s.market h)) target)
-link_alike s t h target (Err e) there is same = to s t s same (alike_same s.market s.market refl)
+link_alike s t h target there is = to s t (relinked h target s) is (alike_target s h there (changeable (terms_at s.market h)) target)
 
-pub engine_alike : {A E : Type 0} (s t : State) (i : ℕ) (engine : Option ℕ) (result : Result A E)
-    → IsDroppable s.market i → OnOk result (t ≡ engine_set i engine s) → OnErr result (t ≡ s)
-    → AreAlike s.market t.market
+pub engine_alike : (s t : State) (i : ℕ) (engine : Option ℕ) → IsDroppable s.market i → t ≡ engine_set i engine s → AreAlike s.market t.market
 unfolding engine_set
-engine_alike s t i engine (Ok x) there is same =
-    to s t (engine_set i engine s) is (alike_engine s i there (changeable (terms_at s.market i)) engine)
-engine_alike s t i engine (Err e) there is same = to s t s same (alike_same s.market s.market refl)
+engine_alike s t i engine there is = to s t (engine_set i engine s) is (alike_engine s i there (changeable (terms_at s.market i)) engine)
 
 pub fixing_alike : {A E : Type 0} (s t : State) (x : ℕ) (day rate : ℤ) (result : Result A E)
     → IsDroppable s.market x → OnOk result (t ≡ fixing_added x day rate s) → OnErr result (t ≡ s)

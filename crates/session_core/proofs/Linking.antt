@@ -1,6 +1,6 @@
 -- What a handle may be linked to, and what a session asks of it.
-use Rattle.std.proofs.Common.{◌≡◌, ◌⊎◌, inl, Result, ℕ, ◌==◌, ◌||◌, Bool, true, false, if◌then◌else◌, Option, Some, None, refl, sym, ◌∙◌, ap, subst}
-use Rattle.std.specs.Prelude.{IfSome, is_none, IsOk}
+use Rattle.std.proofs.Common.{◌≡◌, ℕ, ◌==◌, ◌||◌, Bool, true, false, if◌then◌else◌, Option, Some, None, refl, sym, ◌∙◌, ap, subst}
+use Rattle.std.specs.Prelude.{IfSome}
 use Rattle.std.proofs.lemmas.Bool.{false≢true, eq-eqb}
 use Rattle.desk_terms.specs.declared.terms.Terms.{Terms}
 use Rattle.desk_terms.specs.declared.terms.Terms.TheVariants as terms
@@ -46,25 +46,6 @@ handle_in (Live terms) e = handle_terms terms e
 pub handle_there : (m : Market) (h : ℕ) → takes_found place.Handle (kind_at m h) ≡ true
     → is_handle (terms_at m h) ≡ true
 handle_there m h e = ap is_handle (handle_in (slot_at m h) e).2
-
-none_so : (target : Option ℕ) → is_none target ≡ true → target ≡ None
-none_so None e = refl
-none_so (Some t) e = absurd (false≢true e)
-
--- what never wants memory for none is done for none
-pub none_ready : {A E P : Type 0} (target : Option ℕ) (r : Result A E) → ((target ≡ None) ⊎ P → IsOk r)
-    → is_none target ≡ true → IsOk r
-none_ready target r ready e = ready (inl (none_so target e))
-
--- a handle has what it stands for
-pub handle_ready : {A E : Type 0} (m : Market) (h : ℕ) (target : Option ℕ) (r : Result A E)
-    → takes_found place.Handle (kind_at m h) ≡ true
-    → ((kind : handle.HandleKind) (held : Option ℕ) → terms_at m h ≡ Some (terms.Handle kind held)
-    → (target ≡ None) ⊎ (held ≡ target) → IsOk r)
-    → is_none target ≡ true → IsOk r
-handle_ready m h target r taken ready e =
-    let at : AreOfHandle (terms_at m h) = handle_in (slot_at m h) taken in
-    none_ready target r (ready at.0 at.1 at.2) e
 
 handle_droppable : (k : Option Kind) → takes_found place.Handle k ≡ true → takes_found place.Droppable k ≡ true
 handle_droppable None e = absurd (false≢true e)

@@ -1,5 +1,5 @@
 -- What one command does, whether it ends or memory runs out in it.
-use Rattle.std.specs.Prelude.{◌≡◌, ◌≢◌, ◌⊎◌, ◌++◌, ◌+◌, ◌≤◌, ℕ, Bool, true, false, List, [], ◌∷◌, length, take, slice_set, Option, Some, is_none, Result, Ok, Err, IsOk}
+use Rattle.std.specs.Prelude.{◌≡◌, ◌≢◌, ◌⊎◌, ◌++◌, ◌+◌, ◌≤◌, ℕ, Bool, true, false, List, [], ◌∷◌, length, take, slice_set, Option, Some, Result, Ok, Err, IsOk}
 use Rattle.desk_terms.specs.declared.terms.Terms.{Terms}
 use Rattle.desk_terms.specs.Reading.{Outcome, Calc}
 use Rattle.desk_terms.specs.Bench.{counted, logged}
@@ -12,8 +12,6 @@ use Rattle.session_core.specs.declared.fault.MakeFault.{MakeFault}
 use Rattle.session_core.specs.declared.fault.MakeFault.TheVariants.{Refused, NoMemory}
 use Rattle.session_model.specs.declared.act.Act.{Act}
 use Rattle.session_model.specs.declared.act.Act.TheVariants as act
-use Rattle.session_model.specs.declared.act.Change.{Change}
-use Rattle.session_model.specs.declared.act.Change.TheVariants as change
 use Rattle.session_model.specs.Pricing.{pricing_of}
 use Rattle.session_model.specs.Standing.{Standing}
 use Rattle.session_model.specs.Resolve.{resolve}
@@ -76,25 +74,11 @@ act_survivors calc s (act.Quiet change) = []
 act_survivors calc s (act.Grow growth) = []
 act_survivors calc s (act.Price name object how) = (pricing_of calc object s how).survivors
 
--- changes that take no memory: all but a target and an engine that are given
-abbrev pub takes_none : Change → Bool
-takes_none (change.Set quote value) = true
-takes_none (change.Link handle target) = is_none target
-takes_none (change.Engine instrument engine) = is_none engine
-takes_none (change.Today day) = true
-takes_none (change.Freeze object) = true
-takes_none (change.Thaw object) = true
-takes_none (change.Forward object is_on) = true
-takes_none change.Defer = true
-takes_none change.Resume = true
-takes_none (change.Unregister watcher object) = true
-takes_none (change.Drop object) = true
-
 -- acts that take no memory and write no line: memory never runs out in them
 abbrev pub takes_no_memory : Act → Bool
 takes_no_memory (act.Make name terms) = false
 takes_no_memory (act.Watch name action) = false
-takes_no_memory (act.Quiet change) = takes_none change
+takes_no_memory (act.Quiet change) = true
 takes_no_memory (act.Grow growth) = false
 takes_no_memory (act.Price name object how) = false
 

@@ -59,8 +59,7 @@ impl Session {
         ensures halts { OnErr result (Halts (B.calc bench.old) command.now self.old self.new
             lines.old.items lines.new.items (B.count bench.old) (B.count bench.new)
             (B.log bench.old) (B.log bench.new)) }
-        // A change of a value, a day or a flag, a target or an engine taken away, a deferral, a resume, an unregister and a
-        // drop, not refused, never want memory.
+        // A quiet command that is not refused never wants memory.
         ensures ends { is_without_memory (resolve self.old command.now) ≡ true → is_ok result ≡ true }
         ensures names { self.new.names ≡ self.old.names }
         ensures actions { self.new.actions ≡ self.old.actions }
@@ -151,7 +150,10 @@ impl Session {
                 Err(fault) => Err(fault),
             },
             Act::Watch(name, action) => self.watch(name, action),
-            Act::Quiet(change) => self.apply(change),
+            Act::Quiet(change) => {
+                self.apply(change);
+                Ok(())
+            }
             Act::Grow(growth) => self.grow(growth),
             Act::Price(name, object, how) => self.price(name, object, &how, bench, lines),
         }

@@ -1,5 +1,5 @@
 // Changes of what is there, and changes that are stored beside it.
-ghost use Rattle.std.specs.Prelude.{◌≡◌, true, false, is_ok, IfOk, IfSome, OnOk, OnErr};
+ghost use Rattle.std.specs.Prelude.{◌≡◌, true, false, IfSome, OnOk, OnErr};
 ghost use Rattle.std.specs.Result.{result_err};
 ghost use Rattle.desk_terms.specs.Reading.{Calc};
 ghost use Rattle.desk_model.specs.Sound.{IsSound, KeepsCurrent};
@@ -9,7 +9,7 @@ ghost use Rattle.session_model.specs.Quiet.{is_quiet, is_quiet_act};
 ghost use Rattle.session_model.specs.Resolve.{resolve};
 ghost use Rattle.session_model.specs.Turn.{turn, effect_of};
 ghost use Rattle.session_core.specs.Allowed.{IsAllowed, MayChange, MayGrow};
-ghost use Rattle.session_core.specs.Steps.{with_state, takes_none, takes_no_memory};
+ghost use Rattle.session_core.specs.Steps.{with_state};
 
 use crate::Session;
 use session_commands::{Command, Refusal};
@@ -23,8 +23,6 @@ impl Session {
         requires running { self.old.stopped ≡ false }
         requires known { IsKnown self.old command.now }
         requires quiet { is_quiet command.now ≡ true }
-        // A target and an engine that are given may want memory yet.
-        requires ready { IfOk (resolve self.old command.now) (λ act. takes_no_memory act ≡ true) }
         // It does the turn of the command, which is that of every bench.
         ensures turns { (calc : Calc) → self.new ≡ (turn calc self.old command.now).next }
         ensures refusal { result ≡ result_err (resolve self.old command.now) }
@@ -46,7 +44,6 @@ impl Session {
     // Makes the change that a quiet command resolved to.
     fn carry_change(&mut self, act: &Act)
         requires quiet { is_quiet_act act.now ≡ true }
-        requires ready { takes_no_memory act.now ≡ true }
         requires allowed { IsAllowed self.old act.now }
         ensures next { (calc : Calc) → self.new ≡ (effect_of calc self.old act.now).next }
         ensures alike { self.new ≡ record self.old { state = self.new.state } }
@@ -54,38 +51,33 @@ impl Session {
         ensures sound { (calc : Calc) → IsSound calc self.old.state → IsSound calc self.new.state }
     {
         match act {
-            Act::Quiet(change) => match self.apply(*change) {
-                Ok(()) => {}
-                Err(_) => unreachable!(),
-            },
+            Act::Quiet(change) => self.apply(*change),
             Act::Make(_, _) | Act::Watch(_, _) | Act::Grow(_) | Act::Price(_, _, _) => {
                 unreachable!()
             }
         }
     }
 
-    // Makes a change, by itself or in a turn. After want of memory the session is as it was.
+    // Makes a change, by itself or in a turn.
     #[tactic(auto, unfolding(session_model::specs::Change::changed))]
-    pub(crate) fn apply(&mut self, change: Change) -> Result<(), AllocError>
+    pub(crate) fn apply(&mut self, change: Change)
         requires may { MayChange self.old change }
-        ensures set { OnOk result (self.new ≡ with_state (changed change self.old.state) self.old) }
-        ensures err { OnErr result (self.new ≡ self.old) }
-        ensures ready { takes_none change ≡ true → is_ok result ≡ true }
+        ensures set { self.new ≡ with_state (changed change self.old.state) self.old }
         ensures keeps { KeepsCurrent self.old.state self.new.state }
         ensures sound { (calc : Calc) → IsSound calc self.old.state → IsSound calc self.new.state }
     {
         match change {
-            Change::Set(quote, value) => Ok(self.set(quote, value)),
+            Change::Set(quote, value) => self.set(quote, value),
             Change::Link(handle, target) => self.link(handle, target),
             Change::Engine(instrument, engine) => self.engage(instrument, engine),
-            Change::Today(day) => Ok(self.move_today(day)),
-            Change::Freeze(object) => Ok(self.freeze(object)),
-            Change::Thaw(object) => Ok(self.thaw(object)),
-            Change::Forward(object, is_on) => Ok(self.forward(object, is_on)),
-            Change::Defer => Ok(self.defer()),
-            Change::Resume => Ok(self.resume()),
-            Change::Unregister(watcher, object) => Ok(self.unregister(watcher, object)),
-            Change::Drop(object) => Ok(self.remove(object)),
+            Change::Today(day) => self.move_today(day),
+            Change::Freeze(object) => self.freeze(object),
+            Change::Thaw(object) => self.thaw(object),
+            Change::Forward(object, is_on) => self.forward(object, is_on),
+            Change::Defer => self.defer(),
+            Change::Resume => self.resume(),
+            Change::Unregister(watcher, object) => self.unregister(watcher, object),
+            Change::Drop(object) => self.remove(object),
         }
     }
 

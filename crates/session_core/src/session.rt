@@ -381,33 +381,23 @@ impl Session {
     }
 
     // Gives a handle a target, or takes it away.
-    pub(crate) fn link(&mut self, handle: ObjId, target: Option<ObjId>) -> Result<(), AllocError>
+    pub(crate) fn link(&mut self, handle: ObjId, target: Option<ObjId>)
         requires may { MayRelink self.old handle target }
-        ensures set { OnOk result (self.new ≡ with_state (relinked handle target self.old.state) self.old) }
-        ensures err { OnErr result (self.new ≡ self.old) }
-        // No memory is wanted for none.
-        ensures ready { is_none target ≡ true → is_ok result ≡ true }
+        ensures set { self.new ≡ with_state (relinked handle target self.old.state) self.old }
         ensures keeps { KeepsCurrent self.old.state self.new.state }
         ensures sound { (calc : Calc) → IsSound calc self.old.state → IsSound calc self.new.state }
     {
-        self.desk.relink(handle, target)
+        self.desk.relink(handle, target);
     }
 
     // Gives an instrument an engine, or takes it away.
-    pub(crate) fn engage(
-        &mut self,
-        instrument: ObjId,
-        engine: Option<ObjId>,
-    ) -> Result<(), AllocError>
+    pub(crate) fn engage(&mut self, instrument: ObjId, engine: Option<ObjId>)
         requires may { MayEngage self.old instrument engine }
-        ensures set { OnOk result (self.new ≡ with_state (engine_set instrument engine self.old.state) self.old) }
-        ensures err { OnErr result (self.new ≡ self.old) }
-        // No memory is wanted for none.
-        ensures ready { is_none engine ≡ true → is_ok result ≡ true }
+        ensures set { self.new ≡ with_state (engine_set instrument engine self.old.state) self.old }
         ensures keeps { KeepsCurrent self.old.state self.new.state }
         ensures sound { (calc : Calc) → IsSound calc self.old.state → IsSound calc self.new.state }
     {
-        self.desk.set_engine(instrument, engine)
+        self.desk.set_engine(instrument, engine);
     }
 
     // Moves the evaluation date.

@@ -1,5 +1,5 @@
 // Quiet commands by themselves, without a round.
-ghost use Rattle.std.specs.Prelude.{◌≡◌, true, false, IfOk};
+ghost use Rattle.std.specs.Prelude.{◌≡◌, true, false};
 ghost use Rattle.std.specs.Result.{result_err};
 ghost use Rattle.desk_terms.specs.Reading.{Calc};
 ghost use Rattle.desk_model.specs.Sound.{IsSound, KeepsCurrent};
@@ -8,7 +8,6 @@ ghost use Rattle.session_model.specs.Quiet.{is_quiet};
 ghost use Rattle.session_model.specs.Resolve.{resolve};
 ghost use Rattle.session_model.specs.Turn.{turn};
 ghost use Rattle.session_model.specs.Course.{taken};
-ghost use Rattle.session_core.specs.Steps.{takes_no_memory};
 
 use crate::WatchedSession;
 use crate::idle::forget_idle;
@@ -23,8 +22,6 @@ impl<P: Picker> WatchedSession<P> {
         requires running { self.old.standing.stopped ≡ false }
         requires known { IsKnown self.old.standing command.now }
         requires quiet { is_quiet command.now ≡ true }
-        // A target and an engine that are given may want memory yet.
-        requires ready { IfOk (resolve self.old.standing command.now) (λ act. takes_no_memory act ≡ true) }
         // It does what a step of the command does before its notices are handed out.
         ensures turns { (calc : Calc) → self.new ≡ (taken (turn calc self.old.standing command.now) self.old).next }
         ensures refusal { result ≡ result_err (resolve self.old.standing command.now) }

@@ -44,7 +44,7 @@ pub invariant_of-self-2 : goal.invariant_of-self-2
 invariant_of-self-2 c =
     let watcher = subst (λ (t : State). is_watcher (slot_at t.market c.args.watcher) ≡ true) (sym c.self.view_is) c.requires.watcher in
     let observed = subst (λ (t : State). is_observable (slot_at t.market c.args.object) ≡ true) (sym c.self.view_is) c.requires.subject in
-    let d = registered_left c.self.inside.today c.self.inside.objects c.self.inside.store c.watch.new.self c.self.inside.scratch c.self.invariant.0 c.self.invariant.1 c.args.watcher c.args.object watcher observed c.in_ok-watch.ensures.joins in
+    let d = registered_left c.self.inside.today c.self.inside.objects c.self.inside.store c.watch.new.self c.self.inside.scratch c.self.invariant.0 c.self.invariant.1 c.args.watcher c.args.object watcher observed c.in_ok-watch.ensures.joins c.watch.ensures.spare in
     (d.changed.stands, d.joined)
 
 pub returns-clause-was : goal.returns-clause-was
@@ -56,19 +56,19 @@ pub returns-clause-set : goal.returns-clause-set
 returns-clause-set c =
     let watcher = subst (λ (t : State). is_watcher (slot_at t.market c.args.watcher) ≡ true) (sym c.self.view_is) c.requires.watcher in
     let observed = subst (λ (t : State). is_observable (slot_at t.market c.args.object) ≡ true) (sym c.self.view_is) c.requires.subject in
-    let d = registered_left c.self.inside.today c.self.inside.objects c.self.inside.store c.watch.new.self c.self.inside.scratch c.self.invariant.0 c.self.invariant.1 c.args.watcher c.args.object watcher observed c.in_ok-watch.ensures.joins in
+    let d = registered_left c.self.inside.today c.self.inside.objects c.self.inside.store c.watch.new.self c.self.inside.scratch c.self.invariant.0 c.self.invariant.1 c.args.watcher c.args.object watcher observed c.in_ok-watch.ensures.joins c.watch.ensures.spare in
     d.changed.state ∙ ap (registered_with c.args.watcher c.args.object) c.self.view_is
 
 pub returns-clause-keeps : goal.returns-clause-keeps
 returns-clause-keeps c =
     let watcher = subst (λ (t : State). is_watcher (slot_at t.market c.args.watcher) ≡ true) (sym c.self.view_is) c.requires.watcher in
     let observed = subst (λ (t : State). is_observable (slot_at t.market c.args.object) ≡ true) (sym c.self.view_is) c.requires.subject in
-    let d = registered_left c.self.inside.today c.self.inside.objects c.self.inside.store c.watch.new.self c.self.inside.scratch c.self.invariant.0 c.self.invariant.1 c.args.watcher c.args.object watcher observed c.in_ok-watch.ensures.joins in
+    let d = registered_left c.self.inside.today c.self.inside.objects c.self.inside.store c.watch.new.self c.self.inside.scratch c.self.invariant.0 c.self.invariant.1 c.args.watcher c.args.object watcher observed c.in_ok-watch.ensures.joins c.watch.ensures.spare in
     subst (λ (t : State). KeepsCurrent t (state_of c.self.inside.today c.self.inside.objects c.watch.new.self.kept (registry_of c.watch.new.self))) c.self.view_is d.changed.keeps
 
 pub returns-clause-sound : goal.returns-clause-sound
 returns-clause-sound c calc sound =
     let watcher = subst (λ (t : State). is_watcher (slot_at t.market c.args.watcher) ≡ true) (sym c.self.view_is) c.requires.watcher in
     let observed = subst (λ (t : State). is_observable (slot_at t.market c.args.object) ≡ true) (sym c.self.view_is) c.requires.subject in
-    let d = registered_left c.self.inside.today c.self.inside.objects c.self.inside.store c.watch.new.self c.self.inside.scratch c.self.invariant.0 c.self.invariant.1 c.args.watcher c.args.object watcher observed c.in_ok-watch.ensures.joins in
+    let d = registered_left c.self.inside.today c.self.inside.objects c.self.inside.store c.watch.new.self c.self.inside.scratch c.self.invariant.0 c.self.invariant.1 c.args.watcher c.args.object watcher observed c.in_ok-watch.ensures.joins c.watch.ensures.spare in
     d.changed.sound calc (subst (IsSound calc) (sym c.self.view_is) sound)

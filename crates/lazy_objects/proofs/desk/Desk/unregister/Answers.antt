@@ -1,4 +1,4 @@
-use Rattle.std.proofs.Common.{◌≡◌, true, sym, ◌∙◌, ap, subst}
+use Rattle.std.proofs.Common.{arith, ◌≡◌, true, sym, ◌∙◌, ap, subst}
 use Rattle.desk_model.specs.Market.{slot_at, is_watcher, is_observable}
 use Rattle.desk_model.specs.State.{State}
 use Rattle.desk_model.specs.Told.{is_registered}
@@ -23,7 +23,7 @@ unwatch-requires-clause-observer c =
 pub invariant_of-self : goal.invariant_of-self
 invariant_of-self c =
     let watcher = subst (λ (t : State). is_watcher (slot_at t.market c.args.watcher) ≡ true) (sym c.self.view_is) c.requires.watcher in
-    let d = unregistered_left c.self.inside.today c.self.inside.objects c.self.inside.store c.unwatch.new.self c.self.inside.scratch c.self.invariant.0 c.self.invariant.1 c.args.watcher c.args.object watcher c.unwatch.ensures.leaves in
+    let d = unregistered_left c.self.inside.today c.self.inside.objects c.self.inside.store c.unwatch.new.self c.self.inside.scratch c.self.invariant.0 c.self.invariant.1 c.args.watcher c.args.object watcher c.unwatch.ensures.leaves (let spare = c.unwatch.ensures.spare in omega (arith, spare)) in
     (d.changed.stands, d.joined)
 
 pub returns-clause-was : goal.returns-clause-was
@@ -34,17 +34,17 @@ returns-clause-was c =
 pub returns-clause-set : goal.returns-clause-set
 returns-clause-set c =
     let watcher = subst (λ (t : State). is_watcher (slot_at t.market c.args.watcher) ≡ true) (sym c.self.view_is) c.requires.watcher in
-    let d = unregistered_left c.self.inside.today c.self.inside.objects c.self.inside.store c.unwatch.new.self c.self.inside.scratch c.self.invariant.0 c.self.invariant.1 c.args.watcher c.args.object watcher c.unwatch.ensures.leaves in
+    let d = unregistered_left c.self.inside.today c.self.inside.objects c.self.inside.store c.unwatch.new.self c.self.inside.scratch c.self.invariant.0 c.self.invariant.1 c.args.watcher c.args.object watcher c.unwatch.ensures.leaves (let spare = c.unwatch.ensures.spare in omega (arith, spare)) in
     d.changed.state ∙ ap (unregistered c.args.watcher c.args.object) c.self.view_is
 
 pub returns-clause-keeps : goal.returns-clause-keeps
 returns-clause-keeps c =
     let watcher = subst (λ (t : State). is_watcher (slot_at t.market c.args.watcher) ≡ true) (sym c.self.view_is) c.requires.watcher in
-    let d = unregistered_left c.self.inside.today c.self.inside.objects c.self.inside.store c.unwatch.new.self c.self.inside.scratch c.self.invariant.0 c.self.invariant.1 c.args.watcher c.args.object watcher c.unwatch.ensures.leaves in
+    let d = unregistered_left c.self.inside.today c.self.inside.objects c.self.inside.store c.unwatch.new.self c.self.inside.scratch c.self.invariant.0 c.self.invariant.1 c.args.watcher c.args.object watcher c.unwatch.ensures.leaves (let spare = c.unwatch.ensures.spare in omega (arith, spare)) in
     subst (λ (t : State). KeepsCurrent t (state_of c.self.inside.today c.self.inside.objects c.unwatch.new.self.kept (registry_of c.unwatch.new.self))) c.self.view_is d.changed.keeps
 
 pub returns-clause-sound : goal.returns-clause-sound
 returns-clause-sound c calc sound =
     let watcher = subst (λ (t : State). is_watcher (slot_at t.market c.args.watcher) ≡ true) (sym c.self.view_is) c.requires.watcher in
-    let d = unregistered_left c.self.inside.today c.self.inside.objects c.self.inside.store c.unwatch.new.self c.self.inside.scratch c.self.invariant.0 c.self.invariant.1 c.args.watcher c.args.object watcher c.unwatch.ensures.leaves in
+    let d = unregistered_left c.self.inside.today c.self.inside.objects c.self.inside.store c.unwatch.new.self c.self.inside.scratch c.self.invariant.0 c.self.invariant.1 c.args.watcher c.args.object watcher c.unwatch.ensures.leaves (let spare = c.unwatch.ensures.spare in omega (arith, spare)) in
     d.changed.sound calc (subst (IsSound calc) (sym c.self.view_is) sound)

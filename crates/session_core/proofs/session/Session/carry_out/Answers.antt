@@ -1,8 +1,5 @@
-use Rattle.std.proofs.Common.{◌≡◌, refl, subst}
-use Rattle.std.specs.Prelude.{true}
+use Rattle.std.proofs.Common.{refl}
 use Rattle.desk_terms.specs.Reading.{Calc}
-use Rattle.session_model.specs.declared.act.Act.{Act}
-use Rattle.session_core.specs.Steps.{takes_no_memory}
 use Rattle.session_core.proofs.Turns.{make_carries, watch_carries, change_carries, growth_carries, ends_at_once, on_ok, on_err_of, loud}
 use Rattle.session_core.proofs.session.Session.carry_out.Goals as goal
 
@@ -45,19 +42,8 @@ returns-in-Watch-clause-sound g c = c.watch.ensures.sound (g.B.Bench.calc c.args
 pub returns-in-Quiet-clause-steps : goal.returns-in-Quiet-clause-steps
 returns-in-Quiet-clause-steps g c =
     let calc : Calc = g.B.Bench.calc c.args.bench.now in
-    on_ok c.apply.result (λ is. rw c.in-Quiet.is (change_carries calc c.in-Quiet.change c.args.self.now c.apply.new.self
-    c.args.lines.now.items (g.B.Bench.count c.args.bench.now) (g.B.Bench.log c.args.bench.now) is))
-    c.apply.ensures.set
-
-pub returns-in-Quiet-clause-stops : goal.returns-in-Quiet-clause-stops
-returns-in-Quiet-clause-stops g c =
-    on_err_of c.apply.result
-    (λ same. ends_at_once _ _ c.args.self.now c.apply.new.self c.args.lines.now.items c.args.lines.now.items
-    (g.B.Bench.count c.args.bench.now) (g.B.Bench.log c.args.bench.now) same refl) c.apply.ensures.err
-
-pub returns-in-Quiet-clause-ends : goal.returns-in-Quiet-clause-ends
-returns-in-Quiet-clause-ends g c = λ yes.
-    c.apply.ensures.ready (subst (λ (a : Act). takes_no_memory a ≡ true) c.in-Quiet.is yes)
+    rw c.in-Quiet.is (change_carries calc c.in-Quiet.change c.args.self.now c.apply.new.self
+    c.args.lines.now.items (g.B.Bench.count c.args.bench.now) (g.B.Bench.log c.args.bench.now) c.apply.ensures.set)
 
 pub returns-in-Quiet-clause-sound : goal.returns-in-Quiet-clause-sound
 returns-in-Quiet-clause-sound g c = c.apply.ensures.sound (g.B.Bench.calc c.args.bench.now) c.requires.sound

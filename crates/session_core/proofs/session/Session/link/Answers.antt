@@ -3,7 +3,7 @@ use Rattle.session_model.specs.Standing.{Standing}
 use Rattle.session_core.specs.Allowed.{MayRelink}
 use Rattle.session_core.proofs.Naming.{names_alike}
 use Rattle.session_core.proofs.Alike.{link_alike, sound_as, keeps_as}
-use Rattle.session_core.proofs.Linking.{handle_there, handle_stays, handle_ready, may_link, target_kinds}
+use Rattle.session_core.proofs.Linking.{handle_there, handle_stays, may_link, target_kinds}
 use Rattle.session_core.proofs.session.Session.link.Goals as goal
 
 pub relink-requires-clause-handle : goal.relink-requires-clause-handle
@@ -25,17 +25,11 @@ pub invariant_of-self : goal.invariant_of-self
 invariant_of-self c =
     let may = subst (λ (p : Standing). MayRelink p c.args.handle c.args.target) (sym c.self.view_is) c.requires.may in
     names_alike _ c.self.inside.of_name.items c.self.inside.live c.relink.new.self c.self.inside.stopped
-    (link_alike c.self.inside.desk c.relink.new.self c.args.handle c.args.target c.relink.result
-    (handle_stays c.self.inside.desk.market c.args.handle may.handle)
-    c.relink.ensures.set c.relink.ensures.same) c.self.invariant
+    (link_alike c.self.inside.desk c.relink.new.self c.args.handle c.args.target
+    (handle_stays c.self.inside.desk.market c.args.handle may.handle) c.relink.ensures.set) c.self.invariant
 
 pub returns-clause-sound : goal.returns-clause-sound
 returns-clause-sound c = sound_as _ c.args.self.now c.relink.new.self c.self.view_is c.relink.ensures.sound
-
-pub returns-clause-ready : goal.returns-clause-ready
-returns-clause-ready c =
-    let may = subst (λ (p : Standing). MayRelink p c.args.handle c.args.target) (sym c.self.view_is) c.requires.may in
-    handle_ready c.self.inside.desk.market c.args.handle c.args.target c.relink.result may.handle c.relink.ensures.ready
 
 pub returns-clause-keeps : goal.returns-clause-keeps
 returns-clause-keeps c = keeps_as _ c.args.self.now c.relink.new.self c.self.view_is c.relink.ensures.keeps

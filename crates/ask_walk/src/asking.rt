@@ -26,7 +26,7 @@ use desk_terms::{Asked, Bench, Cause, InputList, Job, Mark, Terms, Value};
 use object_store::{Objects, Scratch, Store};
 use std::alloc::{AllocError, Global};
 
-/// Asks a lazy object. It computes only what it uses and has no current value, and reads each quote at most once.
+/// Asks a lazy object. It computes only what it uses and has no current value, and works each derived quote out at most once.
 pub fn ask<B: Bench>(
     alloc: Global,
     today: Day,

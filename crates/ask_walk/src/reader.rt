@@ -1,4 +1,4 @@
-// What objects give where others name them, by an explicit stack: each is worked out at most once in an ask.
+// What objects give where others name them: a quote at once, all else by a stack and at most once.
 ghost use Rattle.std.specs.Prelude.{◌≡◌, ◌<◌, length, None, Some, IfOk, slice_index_or};
 ghost use Rattle.desk_model.specs.Market.{terms_in};
 ghost use Rattle.desk_model.specs.declared.slot.Slot.TheVariants.{Free};

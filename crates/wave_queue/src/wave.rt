@@ -1,5 +1,6 @@
 // The worklist and its calls.
 ghost use Rattle.std.specs.Prelude.{◌≡◌, ◌<◌, ◌≤◌, ◌+◌, ◌-◌, ◌++◌, ℕ, [], ◌∷◌, true, false, length, not, replicate, slice_set, vec_len, vec_capacity, None, IfNone, IfSome, MatchOption, OnOk, OnErr, if◌then◌else◌};
+ghost use Rattle.walks.specs.Walk.{Among};
 ghost use Rattle.wave_queue.specs.Thread.{is_marked, or_node, threaded, MarksThread};
 
 use desk_names::ObjId;
@@ -85,6 +86,7 @@ impl Wave {
             (λ node. self.old.waiting ≡ node ∷ self.new.waiting) }
         ensures same { IfNone result (self.new ≡ self.old) }
         ensures marked { IfSome result (λ node. is_marked self.old.marks node ≡ true) }
+        ensures once { IfSome result (λ node. Among node self.new.waiting → ⊥) }
         ensures marks { self.new.marks ≡ self.old.marks }
     {
         match self.head {

@@ -1,7 +1,8 @@
-use Rattle.std.proofs.Common.{◌<◌, ◌∷◌, ◌∙◌, ap, sym, arith, List, ℕ, length, None}
+use Rattle.std.proofs.Common.{◌<◌, ◌∷◌, ◌∙◌, ap, sym, subst, arith, List, ℕ, length, None}
 use Rattle.std.proofs.lemmas.List.{get_or_read}
 use Rattle.wave_queue.specs.Thread.{next_at, nodes_from}
-use Rattle.wave_queue.proofs.Threads.{head_marked, stands_taken, waiting_is, read_none}
+use Rattle.walks.specs.Walk.{Among, IsOnce}
+use Rattle.wave_queue.proofs.Threads.{head_marked, once_right, stands_taken, waiting_is, read_none}
 use Rattle.wave_queue.proofs.wave.Wave.pop.Goals as goal
 
 pub index-requires : goal.index-requires
@@ -45,3 +46,17 @@ pub returns-in-Some-clause-marked : goal.returns-in-Some-clause-marked
 returns-in-Some-clause-marked c = rw (← c.self.view_is)
     (head_marked c.self.inside.marks.items c.self.inside.nexts.items c.self.inside.first c.self.inside.head
     c.self.inside.last c.self.invariant c.in-Some.node c.in-Some.is).0
+
+-- the nodes that wait are each there once
+pub returns-in-Some-clause-once : goal.returns-in-Some-clause-once
+returns-in-Some-clause-once c = λ a.
+    let low = (head_marked c.self.inside.marks.items c.self.inside.nexts.items c.self.inside.first c.self.inside.head
+    c.self.inside.last c.self.invariant c.in-Some.node c.in-Some.is).1 in
+    let within : c.place.result < length c.self.inside.nexts.items = let p = c.place.ensures in omega arith in
+    let leads = get_or_read c.self.inside.nexts.items c.place.result c.index.result.now within c.index.ensures None
+    ∙ ap (next_at c.self.inside.nexts.items) c.place.ensures in
+    let taken = stands_taken c.self.inside.marks.items c.self.inside.nexts.items c.self.inside.first
+    c.self.inside.head c.self.inside.last c.self.invariant c.in-Some.node c.index.result.now c.in-Some.is leads in
+    (subst IsOnce taken.1 (once_right c.self.invariant.done c.self.invariant.waiting c.self.invariant.once)).0
+    (subst (Among c.in-Some.node) (waiting_is c.self.inside.marks.items c.self.inside.nexts.items
+    c.self.inside.first c.index.result.now c.self.inside.last taken.0) a)

@@ -1,5 +1,4 @@
 pub mod Numbers
-pub mod Notices
 pub mod Edges
 pub mod Exactly
 pub mod Exposed
@@ -11,7 +10,7 @@ pub mod Growth
 pub mod Least
 pub mod Linked
 pub mod Turns
-pub mod Waves
-pub mod Settling
+pub mod Filling
+pub mod Spreading
 pub mod SubjectLists
 pub mod Wholes

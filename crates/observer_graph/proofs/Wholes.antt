@@ -358,52 +358,11 @@ pub pairs_within : (nodes : List (Option Node)) (pairs : PairsView) (sources wav
 pairs_within nodes pairs sources wave s x o a = let e = s.whole.ends x o a in
     (live_within nodes x e.0, live_within nodes o e.1)
 
--- who is told is within
-pub told_within : (graph : GraphView) (n : ℕ) → IsWithin graph.subjects n → (o : ℕ) → IsTold graph o → o < n
-told_within graph n within o (next {x = x} a here) = (within x o a).1
-told_within graph n within o (beyond {x = x} a passes below) = (within x o a).1
-
--- A notice, where the set of those told is at hand. The nodes were read twice, and are the same each time.
-pub tells_of : (nodes read written nodes2 : List (Option Node)) (subjects : List (List ℕ))
-    (sources sources2 : List Bool) (items : List ℕ) → read ≡ nodes → written ≡ nodes → length nodes2 ≡ length written
-    → ((o : ℕ) → Among o items ↔ IsTold (graph_of read subjects sources) o)
-    → ((o : ℕ) → Among o items → slice_index_or nodes2 o None ≡ unsettled (slice_index_or written o None))
-    → ((o : ℕ) → (Among o items → ⊥) → slice_index_or nodes2 o None ≡ slice_index_or written o None)
-    → ((o : ℕ) → is_marked sources2 o ≡ false) → length sources2 ≡ length sources
-    → Settles (graph_of nodes subjects sources) (graph_of nodes2 subjects sources2)
-tells_of nodes read written nodes2 subjects sources sources2 items read_is written_is len told unsettles others none
-    marks =
-    record {
-      subjects = refl;
-      len = len ∙ ap length written_is;
-      node = λ o. elim (among_or_not o items) [
-        | inl a ↦ inl (
-          of_read o ((told o).0 a),
-          unsettles o a
-              ∙ ap (λ (n : List (Option Node)). unsettled (slice_index_or n o None)) written_is,
-        )
-        | inr apart ↦ inr (
-          (λ t. apart ((told o).1 (to_read o t))),
-          others o apart
-              ∙ ap (λ (n : List (Option Node)). slice_index_or n o None) written_is,
-        )
-      ];
-      sources = none;
-      marks = marks;
-    }
-  where
-    of_read : (o : ℕ) → IsTold (graph_of read subjects sources) o → IsTold (graph_of nodes subjects sources) o
-    of_read o t = subst (λ (n : List (Option Node)). IsTold (graph_of n subjects sources) o) read_is t
-
-    to_read : (o : ℕ) → IsTold (graph_of nodes subjects sources) o → IsTold (graph_of read subjects sources) o
-    to_read o t = subst (λ (n : List (Option Node)). IsTold (graph_of n subjects sources) o) (sym read_is) t
-
--- and the graph after it stands
-pub stands_told : (nodes nodes2 : List (Option Node)) (pairs : PairsView) (sources sources2 wave wave2 : SetView)
+-- a graph after a notice stands
+pub stands_told : (nodes nodes2 : List (Option Node)) (pairs : PairsView) (sources sources2 wave : SetView)
     → Stands nodes pairs sources wave → Settles (graph_of nodes pairs.subjects sources.marks)
-    (graph_of nodes2 pairs.subjects sources2.marks)
-    → length wave2.marks ≡ length wave.marks → wave2.items ≡ [] → Stands nodes2 pairs sources2 wave2
-stands_told nodes nodes2 pairs sources sources2 wave wave2 s t room empty = record {
+    (graph_of nodes2 pairs.subjects sources2.marks) → Stands nodes2 pairs sources2 wave
+stands_told nodes nodes2 pairs sources sources2 wave s t = record {
   whole = whole_told (graph_of nodes pairs.subjects sources.marks) nodes2 sources2.marks s.whole t.len t.marks
       (λ o. elim (t.node o) [ inl h ↦ inl h.1 | inr h ↦ inr h.1 ]) t.sources;
   live = s.live ∙ same_marks (map is_some nodes) (map is_some nodes2)
@@ -412,8 +371,8 @@ stands_told nodes nodes2 pairs sources sources2 wave wave2 s t room empty = reco
         | inl h ↦ ap is_some h.1 ∙ unsettled_some (slice_index_or nodes o None)
         | inr h ↦ ap is_some h.1
       ]) ∙ sym (marks_some nodes2 o));
-  room = room ∙ s.room ∙ sym t.len;
-  empty = empty;
+  room = s.room ∙ sym t.len;
+  empty = s.empty;
 }
 
 -- a node that is not current, whatever it is

@@ -7,3 +7,5 @@ pub mod Stands
 pub mod Walks
 pub mod Noticed
 pub mod Turns
+pub mod Puts
+pub mod Telling

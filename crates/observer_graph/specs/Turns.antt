@@ -1,9 +1,10 @@
 -- Walks down from a node and up from a node, a pair at a time.
-use Rattle.std.specs.Prelude.{◌≡◌, ◌⊎◌, ◌<◌, ◌≤◌, ◌+◌, ◌*◌, ℕ, true, false, List, [], length, Option}
+use Rattle.std.specs.Prelude.{◌≡◌, ◌⊎◌, ◌==◌, ◌||◌, ◌<◌, ◌≤◌, ◌+◌, ◌*◌, not, ℕ, Bool, true, false, List, [], length, Option, None, slice_index_or}
 use Rattle.walks.specs.Walk.{Among}
 use Rattle.wave_queue.specs.Thread.{WaveView, is_marked, open_count}
 use Rattle.edge_lists.specs.EdgesView.{EdgesView, IsPair, HasSubject, HasObserver, subject_lists, subjects_from, observers_from}
 use Rattle.observer_graph.specs.declared.node.Node.{Node}
+use Rattle.observer_graph.specs.Late.{frozen_of}
 use Rattle.observer_graph.specs.Walks.{Leads, edges_in}
 
 -- no node is marked and none waits, and there is room for the nodes below n
@@ -50,3 +51,7 @@ Ascends nodes edges to wave found = Goes (λ x y. IsPair edges x y) (λ x y. Amo
 abbrev pub left_up : EdgesView → WaveView → Option ℕ → ℕ
 left_up edges wave found = (open_count wave.marks + length wave.waiting) * (length edges.slots + 1)
     + length (observers_from edges found)
+
+-- a walk to what is exposed goes on beneath a node: it begins there, or the node is not frozen
+abbrev pub goes_beneath : List (Option Node) → ℕ → ℕ → Bool
+goes_beneath nodes from o = (o == from) || not (frozen_of (slice_index_or nodes o None))

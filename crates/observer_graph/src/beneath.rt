@@ -1,50 +1,110 @@
 // What lies beneath a node and holds its notice back.
-ghost use Rattle.std.specs.Prelude.{◌≡◌, ◌↔◌, ◌<◌, ◌≤◌, ◌+◌, ◌^◌, ℕ, List, [], length, true, false, IsTrue, if◌then◌else◌};
+ghost use Rattle.std.specs.Prelude.{◌≡◌, ◌↔◌, ◌<◌, ◌≤◌, ◌+◌, ◌^◌, ℕ, List, [], length, Some, true, IsTrue, if◌then◌else◌};
 ghost use Rattle.walks.specs.Walk.{Among};
-ghost use Rattle.observer_graph.specs.Lists.{is_marked, Extends};
-ghost use Rattle.observer_graph.specs.Notice.{IsLeast};
-ghost use Rattle.observer_graph.specs.Late.{IsExposed, frozen_of, is_held_back};
+ghost use Rattle.edge_lists.specs.EdgesView.{IsWhole, subject_lists};
+ghost use Rattle.wave_queue.specs.Thread.{is_marked};
+ghost use Rattle.observer_graph.specs.Notice.{IsLeast, lesser};
+ghost use Rattle.observer_graph.specs.Late.{IsClear, IsLateOf, frozen_of, is_held_back};
 ghost use Rattle.observer_graph.specs.GraphView.{edges_as};
-ghost use Rattle.observer_graph.specs.Walks.{IsWithin, edges_in, graph_of};
+ghost use Rattle.observer_graph.specs.Puts.{Puts};
+ghost use Rattle.observer_graph.specs.Turns.{IsFree, goes_beneath, reads_in};
+ghost use Rattle.observer_graph.specs.Walks.{graph_of};
 
 use crate::lists::lesser;
 use crate::node::{Node, Role};
 use crate::node_set::NodeSet;
-use crate::pairs::Pairs;
+use crate::put::put_edges;
 use desk_names::ObjId;
+use edge_lists::Edges;
+use wave_queue::Wave;
 
-/// Puts a node, and what lies beneath it by the edges of nodes that are no watchers, on paths whose inner nodes are not
-/// frozen, into an empty set. Each is looked at once.
-pub fn go_down(pairs: &Pairs, nodes: &[Option<Node>], from: ObjId, wave: &mut NodeSet)
-    requires within { IsWithin pairs.now.subjects (length nodes.now) }
-    requires pairs { length pairs.now.subjects ≡ length nodes.now }
-    requires wave { length wave.old.marks ≡ length nodes.now }
+/// The least marked source that is a node, or lies beneath it by the edges of nodes that are no watchers, on a path whose
+/// inner nodes are not frozen. The free wave is filled with what lies beneath; each of that is looked at once.
+pub fn least_beneath(
+    edges: &Edges,
+    nodes: &[Option<Node>],
+    sources: &NodeSet,
+    from: ObjId,
+    wave: &mut Wave,
+) -> Option<ObjId>
+    requires whole { IsWhole edges.now }
+    requires nodes { length nodes.now ≡ length edges.now.nodes }
+    requires sources { length sources.now.marks ≡ length nodes.now }
     requires from { from < length nodes.now }
-    requires empty { wave.old.items ≡ [] }
-    ensures exposed { (x : ℕ) → Among x wave.new.items ↔ IsExposed (graph_of nodes.now pairs.now.subjects []) from x }
+    requires wave { IsFree (length edges.now.nodes) wave.old }
+    ensures least { IsLeast (IsLateOf (graph_of nodes.now (subject_lists edges.now) sources.now.marks) from) result }
     ensures room { length wave.new.marks ≡ length wave.old.marks }
 {
-    wave.insert(from);
-    let mut at: usize = 0;
-    while at < wave.len() {
-        let node = wave.get(at);
-        if node == from || !is_frozen(&nodes[node.place()]) {
-            insert_edges(pairs, nodes, node, wave);
+    wave.push(from);
+    let mut least: Option<ObjId> = None;
+    while let Some(node) = wave.pop() {
+        least = least_with(least, sources, node);
+        go_down(edges, nodes, from, node, wave);
+    }
+    least
+}
+
+/// Whether neither a node nor any node beneath it, by the edges of nodes that are no watchers, is frozen or a marked source.
+/// The free wave is filled with what lies beneath, until such a node is met.
+pub fn is_clear(
+    edges: &Edges,
+    nodes: &[Option<Node>],
+    sources: &NodeSet,
+    from: ObjId,
+    wave: &mut Wave,
+) -> bool
+    requires whole { IsWhole edges.now }
+    requires nodes { length nodes.now ≡ length edges.now.nodes }
+    requires sources { length sources.now.marks ≡ length nodes.now }
+    requires from { from < length nodes.now }
+    requires wave { IsFree (length edges.now.nodes) wave.old }
+    ensures clear { IsTrue result ↔ IsClear (graph_of nodes.now (subject_lists edges.now) sources.now.marks) from }
+    ensures room { length wave.new.marks ≡ length wave.old.marks }
+{
+    wave.push(from);
+    while let Some(node) = wave.pop() {
+        if is_held_back(nodes, sources, node) {
+            return false;
         }
-        at += 1;
+        put_edges(edges, nodes, node, wave);
+    }
+    true
+}
+
+// The lesser of a source found before and a node, if the node is a source.
+fn least_with(least: Option<ObjId>, sources: &NodeSet, node: ObjId) -> Option<ObjId>
+    requires { node < length sources.now.marks }
+    ensures { result ≡ (if is_marked sources.now.marks node then Some (lesser least node) else least) }
+{
+    if sources.contains(node) {
+        Some(lesser(least, node))
+    } else {
+        least
     }
 }
 
-/// Puts the edges of a node last into a set, each that is not in it: what it observes, unless it is a watcher.
-pub fn insert_edges(pairs: &Pairs, nodes: &[Option<Node>], node: ObjId, set: &mut NodeSet)
-    requires pairs { length pairs.now.subjects ≡ length nodes.now }
-    requires room { length set.old.marks ≡ length nodes.now }
-    requires within { node < length nodes.now }
-    ensures { Extends set.old set.new (λ x. Among x (edges_in nodes.now pairs.now.subjects node)) }
+// Puts the edges of a node last, each that is not marked, if the walk from another goes on beneath it.
+fn go_down(edges: &Edges, nodes: &[Option<Node>], from: ObjId, node: ObjId, wave: &mut Wave)
+    requires whole { IsWhole edges.now }
+    requires nodes { length nodes.now ≡ length edges.now.nodes }
+    requires node { node < length nodes.now }
+    requires room { length nodes.now ≤ length wave.old.marks }
+    ensures puts { Puts wave.old wave.new (λ x. (goes_beneath nodes.now from node ≡ true)
+        × Among x (reads_in nodes.now edges.now node)) }
+    ensures all { goes_beneath nodes.now from node ≡ true → (x : ℕ) → Among x (reads_in nodes.now edges.now node)
+        → is_marked wave.new.marks x ≡ true }
 {
-    if has_edges(&nodes[node.place()]) {
-        pairs.insert_subjects(node, set);
+    if goes_beneath(nodes, from, node) {
+        put_edges(edges, nodes, node, wave);
     }
+}
+
+// Whether a walk to what is exposed goes on beneath a node: it begins there, or the node is not frozen.
+fn goes_beneath(nodes: &[Option<Node>], from: ObjId, node: ObjId) -> bool
+    requires { node < length nodes.now }
+    ensures { result ≡ goes_beneath nodes.now from node }
+{
+    node == from || !is_frozen(&nodes[node.place()])
 }
 
 /// Whether the pairs in which a node observes are edges.
@@ -70,35 +130,6 @@ pub fn is_frozen(node: &Option<Node>) -> bool
         None => false,
         Some(live) => live.flags.frozen,
     }
-}
-
-/// The least of these nodes that is a source, if any is.
-pub fn least_marked(sources: &NodeSet, nodes: &[ObjId]) -> Option<ObjId>
-    requires { (o : ℕ) → Among o nodes.now → o < length sources.now.marks }
-    ensures { IsLeast (λ o. Among o nodes.now × (is_marked sources.now.marks o ≡ true)) result }
-{
-    let mut least: Option<ObjId> = None;
-    for node in nodes {
-        if sources.contains(*node) {
-            least = Some(lesser(least, *node));
-        }
-    }
-    least
-}
-
-/// Whether none of these nodes is frozen or a source.
-pub fn are_free(nodes: &[Option<Node>], sources: &NodeSet, those: &[ObjId]) -> bool
-    requires within { (o : ℕ) → Among o those.now → o < length nodes.now }
-    requires sources { length sources.now.marks ≡ length nodes.now }
-    ensures { IsTrue result ↔ ((o : ℕ) → Among o those.now
-        → is_held_back (graph_of nodes.now [] sources.now.marks) o ≡ false) }
-{
-    for node in those {
-        if is_held_back(nodes, sources, *node) {
-            return false;
-        }
-    }
-    true
 }
 
 // Whether a node is frozen or a source.

@@ -8,12 +8,12 @@ ghost use Rattle.observer_graph.specs.Late.{IsClear, IsLateOf};
 ghost use Rattle.observer_graph.specs.Noticed.{IsRising};
 ghost use Rattle.observer_graph.specs.Change.{AddsNode, AddsPair, TakesPair, TakesNode, flagged, with_node, with_flags, with_source, without_source};
 
-use crate::beneath::{are_free, go_down, is_frozen, least_marked, recounted};
+use crate::beneath::{is_frozen, recounted};
 use crate::node::{Flags, Node, Role};
 use crate::node_set::NodeSet;
 use crate::pairs::Pairs;
 use crate::rising::{first_out, reserve_for, take_out};
-use crate::walk::{tell_all, unsettle_one};
+use crate::walk::unsettle_one;
 use desk_names::ObjId;
 use std::alloc::{AllocError, Global};
 use std::marker::Model;
@@ -33,7 +33,7 @@ pub struct Graph {
     frozen: usize,
     // The watchers that were told and not handed out since, by creation. There is room for every node.
     noticed: Vec<ObjId>,
-    // Those whom a notice reaches or who lie beneath a node, during a call; empty between calls.
+    // Those whom a new node observes, during a call; empty between calls.
     wave: NodeSet,
 }
 
@@ -316,10 +316,7 @@ impl Graph {
         if self.sources.len() == 0 {
             return None;
         }
-        go_down(&self.pairs, &self.nodes, node, &mut self.wave);
-        let least = least_marked(&self.sources, self.wave.items());
-        self.wave.clear();
-        least
+        self.pairs.least_source(&self.nodes, &self.sources, node)
     }
 
     /// Whether neither a node nor any node beneath it is frozen or a marked source. Takes no memory, and time in
@@ -332,10 +329,7 @@ impl Graph {
         if self.frozen == 0 && self.sources.len() == 0 {
             return true;
         }
-        go_down(&self.pairs, &self.nodes, node, &mut self.wave);
-        let clear = are_free(&self.nodes, &self.sources, self.wave.items());
-        self.wave.clear();
-        clear
+        self.pairs.is_clear(&self.nodes, &self.sources, node)
     }
 
     /// A notice from all marked sources together: whom it reaches is no longer current, each watcher among them is
@@ -345,14 +339,8 @@ impl Graph {
     pub fn tell(&mut self)
         ensures { Tells self.old self.new }
     {
-        tell_all(
-            &self.pairs,
-            &mut self.nodes,
-            &self.sources,
-            &mut self.wave,
-            &mut self.noticed,
-        );
-        self.wave.clear();
+        self.pairs
+            .tell(&mut self.nodes, &self.sources, &mut self.noticed);
         self.sources.clear();
     }
 }

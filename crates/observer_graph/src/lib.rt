@@ -11,6 +11,7 @@ mod lists;
 mod node;
 mod node_set;
 mod pairs;
+mod put;
 mod rising;
 mod walk;
 

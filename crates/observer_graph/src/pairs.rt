@@ -1,17 +1,21 @@
 // The pairs of subjects and observers, as lists of subjects by number.
-ghost use Rattle.std.specs.Prelude.{◌≡◌, ◌⊎◌, ◌↔◌, ◌<◌, ◌≤◌, ◌+◌, ◌++◌, ℕ, [], ◌∷◌, true, false, length, max, slice_set, slice_index_or, IsTrue, None, OnOk, OnErr, if◌then◌else◌};
+ghost use Rattle.std.specs.Prelude.{◌≡◌, ◌⊎◌, ◌↔◌, ◌<◌, ◌≤◌, ◌+◌, ◌++◌, ℕ, [], ◌∷◌, true, false, length, max, slice_set, slice_index_or, IsTrue, None, OnOk, OnErr, vec_capacity, if◌then◌else◌};
 ghost use Rattle.std.specs.List.{sum_by};
 ghost use Rattle.walks.specs.Walk.{Among, IsOnce};
 ghost use Rattle.edge_lists.specs.EdgesView.{IsLive, IsPair, SameNodes};
 ghost use Rattle.observer_graph.specs.GraphView.{IsWatcher};
-ghost use Rattle.observer_graph.specs.Lists.{IsLinked, list_at, is_marked, ArePairs, Extends};
-ghost use Rattle.observer_graph.specs.Notice.{IsLeast};
-ghost use Rattle.observer_graph.specs.Walks.{Leads, edges_in};
+ghost use Rattle.observer_graph.specs.Late.{IsClear, IsLateOf};
+ghost use Rattle.observer_graph.specs.Lists.{IsLinked, list_at, is_marked, ArePairs};
+ghost use Rattle.observer_graph.specs.Notice.{IsLeast, IsTold, unsettled};
+ghost use Rattle.observer_graph.specs.Noticed.{AreNoticed};
+ghost use Rattle.observer_graph.specs.Walks.{Leads, edges_in, graph_of};
 
+use crate::beneath::{is_clear, least_beneath};
 use crate::by_turns::{leads_by_turns, make_room};
 use crate::lists::lesser;
 use crate::node::{Node, is_watcher};
 use crate::node_set::NodeSet;
+use crate::walk::tell_all;
 use desk_names::ObjId;
 use edge_lists::Edges;
 use std::alloc::{AllocError, Global};
@@ -193,24 +197,62 @@ impl Pairs {
         answer
     }
 
-    /// Puts the observers of a node last into a set, each that is not in it. Takes time in proportion to their number.
-    pub fn insert_observers(&self, node: ObjId, set: &mut NodeSet)
-        requires node { node < length self.now.subjects }
-        requires room { length self.now.subjects ≡ length set.old.marks }
-        ensures { Extends set.old set.new (λ o. Among node (list_at self.now.subjects o)) }
+    /// A notice from the sources: those whom it reaches are no longer current, and the watchers among them are remembered.
+    /// Takes time in proportion to the sources, to those who are told and to their pairs.
+    pub fn tell(&mut self, nodes: &mut [Option<Node>], sources: &NodeSet, noticed: &mut Vec<ObjId>)
+        requires nodes { length nodes.old ≡ length self.old.subjects }
+        requires sources { length sources.now.marks ≡ length nodes.old }
+        requires noticed { AreNoticed noticed.old.items (length nodes.old) }
+        requires room { length nodes.old ≤ vec_capacity noticed.old }
+        ensures told { (o : ℕ) → (IsTold (graph_of nodes.old self.old.subjects sources.now.marks) o
+            × (slice_index_or nodes.new o None ≡ unsettled (slice_index_or nodes.old o None)))
+            ⊎ ((IsTold (graph_of nodes.old self.old.subjects sources.now.marks) o → ⊥)
+            × (slice_index_or nodes.new o None ≡ slice_index_or nodes.old o None)) }
+        ensures watchers { (w : ℕ) → Among w noticed.new.items ↔ (Among w noticed.old.items
+            ⊎ (IsWatcher (slice_index_or nodes.old w None)
+            × IsTold (graph_of nodes.old self.old.subjects sources.now.marks) w)) }
+        ensures noticed { AreNoticed noticed.new.items (length nodes.old) }
+        ensures capacity { vec_capacity noticed.old ≤ vec_capacity noticed.new }
+        ensures same { self.new ≡ self.old }
     {
         self.edges.whole();
-        insert_observers_of(&self.edges, node, set);
+        tell_all(&self.edges, nodes, sources, &mut self.down, noticed);
+        self.down.reset();
     }
 
-    /// Puts the subjects of a node last into a set, each that is not in it. Takes time in proportion to their number.
-    pub fn insert_subjects(&self, node: ObjId, set: &mut NodeSet)
-        requires node { node < length self.now.subjects }
-        requires room { length self.now.subjects ≡ length set.old.marks }
-        ensures { Extends set.old set.new (λ x. Among x (list_at self.now.subjects node)) }
+    /// The least marked source that is a node, or lies beneath it on a path whose inner nodes are not frozen. Takes time in
+    /// proportion to what lies beneath.
+    pub fn least_source(
+        &mut self,
+        nodes: &[Option<Node>],
+        sources: &NodeSet,
+        from: ObjId,
+    ) -> Option<ObjId>
+        requires nodes { length nodes.now ≡ length self.old.subjects }
+        requires sources { length sources.now.marks ≡ length nodes.now }
+        requires from { from < length nodes.now }
+        ensures least { IsLeast (IsLateOf (graph_of nodes.now self.old.subjects sources.now.marks) from) result }
+        ensures same { self.new ≡ self.old }
     {
         self.edges.whole();
-        insert_subjects_of(&self.edges, node, set);
+        let least = least_beneath(&self.edges, nodes, sources, from, &mut self.down);
+        self.down.reset();
+        least
+    }
+
+    /// Whether neither a node nor any node beneath it is frozen or a marked source. Takes time in proportion to what lies
+    /// beneath.
+    pub fn is_clear(&mut self, nodes: &[Option<Node>], sources: &NodeSet, from: ObjId) -> bool
+        requires nodes { length nodes.now ≡ length self.old.subjects }
+        requires sources { length sources.now.marks ≡ length nodes.now }
+        requires from { from < length nodes.now }
+        ensures clear { IsTrue result ↔ IsClear (graph_of nodes.now self.old.subjects sources.now.marks) from }
+        ensures same { self.new ≡ self.old }
+    {
+        self.edges.whole();
+        let clear = is_clear(&self.edges, nodes, sources, from, &mut self.down);
+        self.down.reset();
+        clear
     }
 
     /// Whether a subject and an observer are a pair. Takes time in proportion to what the observer observes.
@@ -240,34 +282,6 @@ impl Pairs {
     {
         self.edges.whole();
         least_user_of(&self.edges, node, nodes)
-    }
-}
-
-// Puts the observers of a node last into a set, each that is not in it.
-fn insert_observers_of(edges: &Edges, node: ObjId, set: &mut NodeSet)
-    requires node { node < length edges.now.nodes }
-    requires within { (o : ℕ) → IsPair edges.now node o → o < length set.old.marks }
-    ensures { Extends set.old set.new (λ o. IsPair edges.now node o) }
-{
-    let mut at = edges.first_observer(node);
-    while let Some(edge) = at {
-        let (observer, next) = edges.observer_and_next(edge);
-        set.insert(observer);
-        at = next;
-    }
-}
-
-// Puts the subjects of a node last into a set, each that is not in it.
-fn insert_subjects_of(edges: &Edges, node: ObjId, set: &mut NodeSet)
-    requires node { node < length edges.now.nodes }
-    requires within { (o : ℕ) → IsPair edges.now o node → o < length set.old.marks }
-    ensures { Extends set.old set.new (λ o. IsPair edges.now o node) }
-{
-    let mut at = edges.first_subject(node);
-    while let Some(edge) = at {
-        let (subject, next) = edges.subject_and_next(edge);
-        set.insert(subject);
-        at = next;
     }
 }
 

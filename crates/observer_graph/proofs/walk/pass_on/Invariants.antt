@@ -1,25 +1,23 @@
-use Rattle.std.proofs.Common.{◌≡◌, ◌⊎◌, ◌-◌, ◌≤◌, ℕ, length, take, None, vec_capacity}
-use Rattle.std.specs.Prelude.{◌↔◌, slice_index_or}
-use Rattle.walks.specs.Walk.{Among}
-use Rattle.observer_graph.specs.Lists.{is_marked}
-use Rattle.observer_graph.specs.GraphView.{IsWatcher}
-use Rattle.observer_graph.specs.Notice.{passes_of}
+use Rattle.std.proofs.Common.{◌≡◌, ◌+◌, ◌≤◌, ℕ, List, Option, length, vec_capacity}
+use Rattle.wave_queue.specs.Thread.{open_count}
+use Rattle.observer_graph.specs.declared.node.Node.{Node}
 use Rattle.observer_graph.specs.Noticed.{AreNoticed}
-use Rattle.observer_graph.proofs.Settling.{Unsettles}
-use Rattle.observer_graph.proofs.Waves.{Spreads}
+use Rattle.observer_graph.specs.Telling.{IsDone, Spreads}
+use Rattle.observer_graph.specs.Turns.{IsMarkedBelow}
 use Rattle.observer_graph.proofs.walk.pass_on.Given as goal
 
-abbrev pub invariant-loop-at : goal.invariant-loop-at
-invariant-loop-at l = record {
-  room : length l.wave.marks ≡ length l.initial.wave.marks;
-  spread : Spreads l.pairs.subjects (is_marked l.sources.marks) (λ x. passes_of (slice_index_or l.initial.nodes x None))
-      l.wave.items l.at;
-  settled : Unsettles (take l.at l.wave.items) l.initial.nodes l.nodes;
-  watchers : (w : ℕ) → Among w l.noticed.items ↔ (Among w l.initial.noticed.items
-      ⊎ (IsWatcher (slice_index_or l.initial.nodes w None) × Among w (take l.at l.wave.items)));
+abbrev pub invariant-loop-told : goal.invariant-loop-told
+invariant-loop-told l = record {
+  len : length l.wave.marks ≡ length l.initial.wave.marks;
+  below : IsMarkedBelow (length l.edges.nodes) l.wave;
+  stays : (first : List (Option Node)) (o : ℕ) → IsDone l.edges first l.initial.nodes l.initial.wave l.initial.noticed.items o
+      → IsDone l.edges first l.nodes l.wave l.noticed.items o;
+  spreads : (first : List (Option Node)) (noted : List ℕ)
+      → Spreads l.edges l.sources.marks first noted (λ x o. ⊥) l.initial.nodes l.initial.wave l.initial.noticed.items
+      → Spreads l.edges l.sources.marks first noted (λ x o. ⊥) l.nodes l.wave l.noticed.items;
   noticed : AreNoticed l.noticed.items (length l.initial.nodes);
   capacity : vec_capacity l.initial.noticed ≤ vec_capacity l.noticed;
 }
 
-abbrev pub decreases-loop-at : goal.decreases-loop-at
-decreases-loop-at l = length l.wave.marks - l.at
+abbrev pub decreases-loop-told : goal.decreases-loop-told
+decreases-loop-told l = open_count l.wave.marks + length l.wave.waiting

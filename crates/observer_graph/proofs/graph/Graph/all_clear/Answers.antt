@@ -1,11 +1,13 @@
-use Rattle.std.proofs.Common.{◌∙◌, refl, sym, subst, arith}
+use Rattle.std.proofs.Common.{◌∙◌, ap, List, Option, refl, sym, subst, length}
 use Rattle.std.specs.Prelude.{◌↔◌, IsTrue}
-use Rattle.walks.specs.Walk.{Among}
-use Rattle.observer_graph.specs.GraphView.{GraphView}
+use Rattle.observer_graph.specs.declared.node.Node.{Node}
+use Rattle.observer_graph.specs.GraphView.{GraphView, IsLive}
 use Rattle.observer_graph.specs.Late.{IsClear}
-use Rattle.observer_graph.proofs.Marks.{marked_within}
-use Rattle.observer_graph.proofs.Wholes.{pairs_within}
-use Rattle.observer_graph.proofs.Lateness.{clear_as, nothing_clear}
+use Rattle.observer_graph.specs.Lists.{PairsView}
+use Rattle.observer_graph.specs.Stands.{Stands}
+use Rattle.observer_graph.specs.Walks.{graph_of}
+use Rattle.observer_graph.proofs.Lateness.{nothing_clear}
+use Rattle.observer_graph.proofs.Wholes.{live_within}
 use Rattle.observer_graph.proofs.graph.Graph.all_clear.Goals as goal
 
 pub returns-then-len-eq0-clause-answer : goal.returns-then-len-eq0-clause-answer
@@ -17,17 +19,27 @@ returns-then-len-eq0-clause-answer c = (
   λ clear. refl,
 )
 
-pub go_down-requires-clause-within : goal.go_down-requires-clause-within
-go_down-requires-clause-within c = rw c.deref.ensures.value
-    (pairs_within c.self.inside.nodes.items c.self.inside.pairs c.self.inside.sources c.self.inside.wave c.self.invariant.0)
+pub is_clear-requires-clause-nodes : goal.is_clear-requires-clause-nodes
+is_clear-requires-clause-nodes c = ap length c.deref.ensures.value ∙ sym c.self.invariant.0.whole.lists
 
-pub are_free-clear-requires-clause-within : goal.are_free-clear-requires-clause-within
-are_free-clear-requires-clause-within c = λ o a.
-    let low = marked_within c.go_down.new.wave.marks o (c.items.ensures.set.marked o (subst (Among o) c.items.ensures.items a)) in
-    rw c.deref-2.ensures.value (let r = c.go_down.ensures.room in let w = c.self.invariant.0.room in omega arith)
+pub is_clear-requires-clause-sources : goal.is_clear-requires-clause-sources
+is_clear-requires-clause-sources c = c.self.invariant.0.whole.marks ∙ sym (ap length c.deref.ensures.value)
+
+pub is_clear-requires-clause-from : goal.is_clear-requires-clause-from
+is_clear-requires-clause-from c = rw c.deref.ensures.value (live_within c.self.inside.nodes.items c.args.node
+    (subst (λ (v : GraphView). IsLive v c.args.node) (sym c.self.view_is) c.requires))
+
+pub invariant_of-self : goal.invariant_of-self
+invariant_of-self c = (
+  subst (λ (p : PairsView). Stands c.self.inside.nodes.items p c.self.inside.sources c.self.inside.wave)
+      (sym c.is_clear.ensures.same) c.self.invariant.0,
+  c.self.invariant.1,
+  c.self.invariant.2,
+  c.self.invariant.3,
+)
 
 pub returns-clause-answer : goal.returns-clause-answer
-returns-clause-answer c = subst (λ (v : GraphView). IsTrue c.are_free-clear.result ↔ IsClear v c.args.node) c.self.view_is
-    (clear_as c.self.inside.nodes.items c.deref.result.now c.self.inside.pairs.subjects c.self.inside.sources.marks
-    c.args.node c.go_down.new.wave.items c.deref.ensures.value c.go_down.ensures.exposed c.deref-2.result.now
-    c.items.result.now c.are_free-clear.result c.deref-2.ensures.value c.items.ensures.items c.are_free-clear.ensures)
+returns-clause-answer c = subst (λ (v : GraphView). IsTrue c.is_clear.result ↔ IsClear v c.args.node) c.self.view_is
+    (subst (λ (n : List (Option Node)). IsTrue c.is_clear.result
+    ↔ IsClear (graph_of n c.self.inside.pairs.subjects c.self.inside.sources.marks) c.args.node) c.deref.ensures.value
+    c.is_clear.ensures.clear)

@@ -1,0 +1,84 @@
+use Rattle.std.proofs.Common.{◌≡◌, ◌∙◌, ◌++◌, ◌∷◌, [], ℕ, List, inl, inr, ap, refl, sym, subst, take, length, arith}
+use Rattle.std.proofs.lemmas.List.{take_more, take_all}
+use Rattle.std.proofs.lemmas.Option.{get_or_from_slice_get, slice_get_within}
+use Rattle.walks.specs.Walk.{Among}
+use Rattle.edge_lists.specs.EdgesView.{IsPair}
+use Rattle.edge_lists.proofs.Linking.{live_within}
+use Rattle.observer_graph.specs.Noticed.{AreNoticed}
+use Rattle.observer_graph.proofs.Members.{among_item, among_last}
+use Rattle.observer_graph.proofs.Marks.{marked_within}
+use Rattle.observer_graph.proofs.Spreading.{spreads_as, spreads_none, told_first}
+use Rattle.observer_graph.proofs.Turns.{none_below}
+use Rattle.observer_graph.proofs.walk.tell_first.Goals as goal
+
+pub loop-at-init : goal.loop-at-init
+loop-at-init c = record {
+  len = refl;
+  below = none_below (length c.args.edges.now.nodes) (length c.args.edges.now.nodes) c.args.wave.now c.requires.wave;
+  spreads = spreads_none c.args.edges.now c.args.sources.now.marks c.args.nodes.now c.args.noticed.now.items
+      (length c.args.edges.now.nodes) (λ x o. ⊥) c.args.wave.now c.requires.wave;
+  starts = λ x o a pair. absurd (none_taken c.args.sources.now.items x a);
+  noticed = c.requires.noticed;
+  capacity = omega arith;
+}
+  where
+    none_taken : (xs : List ℕ) (x : ℕ) → Among x (take 0 xs) → ⊥
+    none_taken [] x a = a
+    none_taken (y ∷ ys) x a = a
+
+pub tell_observers-requires-clause-nodes : goal.tell_observers-requires-clause-nodes
+tell_observers-requires-clause-nodes c = let long = c.loop-at.auto.nodes in let n = c.requires.nodes in omega arith
+
+pub tell_observers-requires-clause-from : goal.tell_observers-requires-clause-from
+tell_observers-requires-clause-from c =
+    let here = among_item c.args.sources.now.items c.loop-at.at c.get.result
+    (slice_get_within c.args.sources.now.items c.loop-at.at c.get.result c.get.ensures)
+    (sym (get_or_from_slice_get c.args.sources.now.items c.loop-at.at c.get.result c.get.result c.get.ensures)) in
+    let low = marked_within c.args.sources.now.marks c.get.result (c.len-at-end.ensures.set.marked c.get.result here) in
+    let s = c.requires.sources in omega arith
+
+pub tell_observers-requires-clause-wave : goal.tell_observers-requires-clause-wave
+tell_observers-requires-clause-wave c = let long = c.loop-at.auto.nodes in let n = c.requires.nodes in
+    let f = c.requires.wave.room in let l = c.loop-at.invariant.len in omega arith
+
+pub tell_observers-requires-clause-noticed : goal.tell_observers-requires-clause-noticed
+tell_observers-requires-clause-noticed c =
+    let same : length c.args.nodes.now ≡ length c.loop-at.nodes = let long = c.loop-at.auto.nodes in omega arith in
+    subst (λ (n : ℕ). AreNoticed c.loop-at.noticed.items n) same c.loop-at.invariant.noticed
+
+pub tell_observers-requires-clause-room : goal.tell_observers-requires-clause-room
+tell_observers-requires-clause-room c = let long = c.loop-at.auto.nodes in let r = c.requires.room in
+    let m = c.loop-at.invariant.capacity in omega arith
+
+pub loop-at-preserved : goal.loop-at-preserved
+loop-at-preserved c =
+    let v = c.args.edges.now in
+    let items : List ℕ = c.args.sources.now.items in
+    let low = slice_get_within items c.loop-at.at c.get.result c.get.ensures in
+    let is = sym (get_or_from_slice_get items c.loop-at.at c.get.result c.get.result c.get.ensures) in
+    let here = c.len-at-end.ensures.set.marked c.get.result (among_item items c.loop-at.at c.get.result low is) in
+    let taken = take_more items c.loop-at.at c.get.result low ∙ ap (λ (z : ℕ). take c.loop-at.at items ++ z ∷ []) (sym is) in
+    let same : length c.loop-at.nodes ≡ length c.args.nodes.now = let long = c.loop-at.auto.nodes in omega arith in
+    let told = c.tell_observers.ensures.spreads c.args.sources.now.marks c.args.nodes.now c.args.noticed.now.items
+    (spreads_as v c.args.sources.now.marks c.args.nodes.now c.args.noticed.now.items (λ x o. ⊥) (λ x o. x ≡ c.get.result)
+    c.loop-at.nodes c.loop-at.wave c.loop-at.noticed.items (λ x o pair never. absurd never) c.loop-at.invariant.spreads)
+    (λ o pair. told_first v c.requires.whole c.args.nodes.now c.args.sources.now.marks c.get.result o pair here) in
+    record {
+      len = c.tell_observers.ensures.puts.len ∙ c.loop-at.invariant.len;
+      below = λ o on. elim (c.tell_observers.ensures.puts.from o on) [
+        | inl was ↦ c.loop-at.invariant.below o was
+        | inr pair ↦ live_within v.nodes o (c.requires.whole.ends c.get.result o pair).1
+      ];
+      spreads = told.0;
+      starts = λ x o a pair. elim ((among_last x (take c.loop-at.at items) c.get.result).0 (subst (Among x) taken a)) [
+        | inl was ↦ c.tell_observers.ensures.stays c.args.nodes.now o (c.loop-at.invariant.starts x o was pair)
+        | inr is ↦ told.1 o (subst (λ (z : ℕ). IsPair v z o) is pair)
+      ];
+      noticed = subst (λ (n : ℕ). AreNoticed c.tell_observers.new.noticed.items n) same c.tell_observers.ensures.noticed;
+      capacity = let a = c.loop-at.invariant.capacity in let b = c.tell_observers.ensures.capacity in omega arith;
+    }
+
+pub returns-clause-starts : goal.returns-clause-starts
+returns-clause-starts c = λ x o pair on. c.loop-at.invariant.starts x o (subst (Among x)
+    (sym (take_all c.loop-at.at c.args.sources.now.items (let e = c.len-at-end.ensures.len in let t = c.loop-at-test.false in
+    omega arith))) (c.len-at-end.ensures.set.listed x on)) pair

@@ -1,6 +1,8 @@
 -- What is stored of an object, by its name.
 use Rattle.std.specs.Prelude.{ℕ, Bool, false, Option, None, Result, Ok, Err}
+use Rattle.desk_terms.specs.declared.asked.Asked.{Asked}
 use Rattle.desk_terms.specs.declared.value.Value.{Value}
+use Rattle.ask_walk.specs.Asks.{held_answer}
 use Rattle.desk_model.specs.State.{kept_at}
 use Rattle.session_commands.specs.declared.refusal.Refusal.{Refusal}
 use Rattle.session_model.specs.declared.place.Place.TheVariants.{Priced}
@@ -22,3 +24,12 @@ value_of p name = value_found p (find Priced p name)
 -- whether it is current
 abbrev pub is_current_of : Standing → ℕ → Bool
 is_current_of p name = is_current_found p (find Priced p name)
+
+abbrev pub held_found : Standing → Result ℕ Refusal → Option Asked
+held_found p (Ok object) = held_answer p.state object
+held_found p (Err refusal) = None
+
+-- what it answers without a computation, if it does (QuantLib's `LazyObject::calculate`, which does nothing where the
+-- object is calculated or frozen)
+abbrev pub held_of : Standing → ℕ → Option Asked
+held_of p name = held_found p (find Priced p name)

@@ -9,6 +9,7 @@ ghost use Rattle.desk_model.specs.Links.{AreOfKind, IsWhole, serves_as, is_lazy_
 ghost use Rattle.desk_model.specs.Sound.{IsSound, KeepsCurrent};
 ghost use Rattle.desk_terms.specs.Asked.{Shows};
 ghost use Rattle.desk_terms.specs.Reading.{Outcome};
+ghost use Rattle.ask_walk.specs.Asks.{held_answer};
 ghost use Rattle.desk_model.specs.State.{kept_at, least_source};
 ghost use Rattle.desk_model.specs.Told.{is_registered, is_watching};
 ghost use Rattle.desk_model.specs.Effect.{quote_set, relinked, engine_set, member_set, today_set, fixing_added, frozen_set, thawed, forward_set, deferred, resumed, dropped, registered_with, unregistered};
@@ -444,6 +445,15 @@ impl Session {
         ensures same { self.new ≡ self.old }
     {
         self.desk.late(object)
+    }
+
+    // What an ask of a lazy object answers where nothing need be computed for it.
+    pub(crate) fn held(&mut self, object: ObjId) -> Option<Asked>
+        requires lazy { is_lazy_at self.old.state.market object ≡ true }
+        ensures held { result ≡ held_answer self.old.state object }
+        ensures same { self.new ≡ self.old }
+    {
+        self.desk.ask_held(object)
     }
 
     // Freezes a lazy object.

@@ -1,10 +1,10 @@
 // What is stored of an object, by its name.
 ghost use Rattle.std.specs.Prelude.{◌≡◌, option_copied};
-ghost use Rattle.session_core.specs.Values.{value_of, is_current_of};
+ghost use Rattle.session_core.specs.Values.{value_of, is_current_of, held_of};
 
 use crate::Session;
 use desk_names::NameId;
-use desk_terms::Value;
+use desk_terms::{Asked, Value};
 use session_model::Place;
 
 impl Session {
@@ -27,6 +27,20 @@ impl Session {
         match self.find(Place::Priced, name) {
             Ok(object) => self.is_settled(object),
             Err(_) => false,
+        }
+    }
+
+    /// What an ask of the live lazy object that has a name answers where the object is frozen, late or current: its last
+    /// value, or that it has none. None exactly where it is none of these, or no such object has the name. Nothing is
+    /// computed, and it takes no memory.
+    #[tactic(auto, using(crate::proofs::Resolved::found_lazy))]
+    pub fn ask_held(&mut self, name: NameId) -> Option<Asked>
+        ensures answer { result ≡ held_of self.old name }
+        ensures same { self.new ≡ self.old }
+    {
+        match self.find(Place::Priced, name) {
+            Ok(object) => self.held(object),
+            Err(_) => None,
         }
     }
 }

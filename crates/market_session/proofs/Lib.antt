@@ -1,2 +1,3 @@
 mod Taking
 pub mod Ready
+pub mod Started

@@ -39,6 +39,14 @@ pub returns-clause-running : goal.returns-clause-running
 returns-clause-running g c =
     ap (λ (p : Standing). p.stopped) c.change-refusal.ensures.alike ∙ ap (λ (z : Running g.row.P.Denot). z.standing.stopped) c.self.view_is ∙ c.requires.running
 
+pub returns-clause-names : goal.returns-clause-names
+returns-clause-names g c =
+    ap (λ (p : Standing). p.names) c.change-refusal.ensures.alike ∙ ap (λ (z : Running g.row.P.Denot). z.standing.names) c.self.view_is
+
+pub returns-clause-actions : goal.returns-clause-actions
+returns-clause-actions g c =
+    ap (λ (p : Standing). p.actions) c.change-refusal.ensures.alike ∙ ap (λ (z : Running g.row.P.Denot). z.standing.actions) c.self.view_is
+
 pub returns-clause-keeps : goal.returns-clause-keeps
 returns-clause-keeps g c =
     subst (λ (z : Running g.row.P.Denot). KeepsCurrent z.standing.state c.change-refusal.new.self.state) c.self.view_is c.change-refusal.ensures.keeps

@@ -1,8 +1,8 @@
 -- The reading of a market, step by step.
-use Rattle.std.proofs.Common.{◌≡◌, ℕ, ◌≤◌, List, Result, Ok, Err, Vec, ap, arith}
+use Rattle.std.proofs.Common.{◌≡◌, ℕ, ◌≤◌, List, Result, Ok, Err, Vec, sym, ap, arith}
 use Rattle.std.specs.declared.alloc.Global.{Global}
 use Rattle.market_file.specs.Fault.{Fault, FailsWith}
-use Rattle.market_file.specs.Market.{Market, read_market}
+use Rattle.market_file.specs.Market.{Market}
 use Rattle.market_file.specs.Paths.{market_paths}
 use Rattle.market_file.specs.declared.paths.Paths.{Paths}
 use Rattle.market_file.specs.declared.fault.MarketFault.{MarketFault}
@@ -12,9 +12,10 @@ use Rattle.market_loader.specs.declared.faults.MarketRole.TheVariants as role
 use Rattle.market_loader.specs.Ends.{load_end}
 use Rattle.market_loader.specs.Faults.{load_fault}
 use Rattle.market_loader.specs.Files.{file_calls}
-use Rattle.market_loader.specs.Market.{part_of, table_of, table_calls, or_fault, and_then, with_fixings, with_quotes, tables_calls, with_text, text_calls, market_of, market_calls}
+use Rattle.market_loader.specs.Market.{Texts, texts, texts_in, part_of, table_of, table_calls, or_fault, and_then, with_fixings, with_quotes, tables_calls, with_text, text_calls, texts_of, market_said, market_of, market_calls}
+use Rattle.market_loader.specs.declared.texts.MarketTexts.{MarketTexts}
 use Rattle.market_loader.specs.Reads.{Seen, Says, IsRefusedAs, Reads}
-use Rattle.market_loader.proofs.Steps.{reads_on, reads_text, reads_within}
+use Rattle.market_loader.proofs.Steps.{reads_on, reads_off, reads_text, reads_within}
 
 abbrev Text : Type 0
 Text = Vec ℕ Global
@@ -36,12 +37,12 @@ no_more : {Y : Type 0} (calls : ℕ) (r : Result Y LoadFault) → and_then calls
 no_more calls (Ok y) = omega arith
 no_more calls (Err e) = omega arith
 
-module _ {X : Type 0} (view : X → Market) {result : Result X LoadFault} where
+module _ {X : Type 0} (view : X → Texts) {result : Result X LoadFault} where
   -- the market's file
   pub market_found : (path : List ℕ) {old mid new : Seen} {text : Text}
       → Reads load_end bytes_of (part_of role.Market path) (file_calls path) old mid (Ok text)
       → Reads load_end view (with_text text.items) (text_calls text.items) mid new result
-      → Reads load_end view (market_of path) (market_calls path) old new result
+      → Reads load_end view (texts_of path) (market_calls path) old new result
   market_found path {old = old} {mid = mid} {new = new} {text = text} r rest =
       reads_on load_end bytes_of view (part_of role.Market path) (λ files text. with_text text files) (file_calls path)
       (λ files text. text_calls text files) old mid new text result r rest
@@ -66,15 +67,40 @@ module _ {X : Type 0} (view : X → Market) {result : Result X LoadFault} where
       (λ files quotes. with_fixings text paths quotes files) (table_calls paths.quotes)
       (λ files quotes. table_calls paths.fixings files) old mid new quotes result r rest
 
-  -- the fixings, and then what all the texts say
-  pub fixings_found : (text : List ℕ) (paths : Paths) (quotes : List ℕ) {old new : Seen} {fixings : Text}
-      → Reads load_end bytes_of (table_of role.Fixings paths.fixings) (table_calls paths.fixings) old new (Ok fixings)
-      → Says load_end view result (or_fault (read_market text quotes fixings.items))
-      → Reads load_end view (with_fixings text paths quotes) (table_calls paths.fixings) old new result
-  fixings_found text paths quotes {old = old} {new = new} {fixings = fixings} r says =
-      reads_within load_end view (with_fixings text paths quotes) _ (table_calls paths.fixings) old new result
-      (λ files. no_more (table_calls paths.fixings files) (table_of role.Fixings paths.fixings files))
-      (reads_on load_end bytes_of view (table_of role.Fixings paths.fixings)
-      (λ files fixings. or_fault (read_market text quotes fixings)) (table_calls paths.fixings) (λ files fixings. 0) old new
-      new fixings result r
-      (reads_text load_end view (or_fault (read_market text quotes fixings.items)) new result says))
+-- the fixings, and then all the texts are there
+pub fixings_found : (text : List ℕ) (paths : Paths) (quotes : List ℕ) (kept : MarketTexts) {old new : Seen}
+    {fixings : Text} → Reads load_end bytes_of (table_of role.Fixings paths.fixings) (table_calls paths.fixings) old new (Ok fixings)
+    → texts_in kept ≡ texts text quotes fixings.items
+    → Reads load_end texts_in (with_fixings text paths quotes) (table_calls paths.fixings) old new (Ok kept)
+fixings_found text paths quotes kept {old = old} {new = new} {fixings = fixings} r are =
+    reads_within load_end texts_in (with_fixings text paths quotes) _ (table_calls paths.fixings) old new (Ok kept)
+    (λ files. no_more (table_calls paths.fixings files) (table_of role.Fixings paths.fixings files))
+    (reads_on load_end bytes_of texts_in (table_of role.Fixings paths.fixings)
+    (λ files fixings. Ok (texts text quotes fixings)) (table_calls paths.fixings) (λ files fixings. 0) old new
+    new fixings (Ok kept) r
+    (reads_text load_end texts_in (Ok (texts text quotes fixings.items)) new (Ok kept) (ap as_answer (sym are))))
+  where
+    as_answer : Texts → Result Texts LoadFault
+    as_answer all = Ok all
+
+-- the texts, and then what they say
+pub texts_found : {X : Type 0} (view : X → Market) (path : List ℕ) (kept : MarketTexts) {result : Result X LoadFault}
+    {old new : Seen} → Reads load_end texts_in (texts_of path) (market_calls path) old new (Ok kept)
+    → Says load_end view result (market_said (texts_in kept))
+    → Reads load_end view (market_of path) (market_calls path) old new result
+texts_found view path kept {result = result} {old = old} {new = new} r says =
+    reads_within load_end view (market_of path) _ (market_calls path) old new result
+    (λ files. no_more (market_calls path files) (texts_of path files))
+    (reads_on load_end texts_in view (texts_of path) (λ files texts. market_said texts) (market_calls path)
+    (λ files texts. 0) old new new kept result r
+    (reads_text load_end view (market_said (texts_in kept)) new result says))
+
+-- the texts are not there
+pub texts_lost : {X : Type 0} (view : X → Market) (path : List ℕ) (e : LoadFault) {old new : Seen}
+    → Reads {X = MarketTexts} load_end texts_in (texts_of path) (market_calls path) old new (Err e)
+    → Reads {X = X} load_end view (market_of path) (market_calls path) old new (Err e)
+texts_lost view path e {old = old} {new = new} r =
+    reads_within load_end view (market_of path) _ (market_calls path) old new (Err e)
+    (λ files. no_more (market_calls path files) (texts_of path files))
+    (reads_off load_end texts_in view (texts_of path) (λ files texts. market_said texts) (market_calls path)
+    (λ files texts. 0) old new e r)

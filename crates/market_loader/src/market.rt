@@ -2,20 +2,16 @@
 ghost use Rattle.std.specs.Prelude.{◌≡◌, IfOk, OnErr};
 ghost use Rattle.std.specs.List.{All};
 ghost use Rattle.desk_terms.specs.Reading.{AreInRange};
-ghost use Rattle.market_file.specs.Market.{read_market};
-ghost use Rattle.market_file.specs.Paths.{market_paths};
 ghost use Rattle.market_file.specs.Standing.{IsReady, AreLimited};
 ghost use Rattle.market_loader.specs.Ends.{load_end};
-ghost use Rattle.market_loader.specs.Files.{file_calls};
-ghost use Rattle.market_loader.specs.Market.{market_in, part_of, table_of, table_calls, or_fault, market_of, market_calls};
-ghost use Rattle.market_loader.specs.Reads.{Reads, Says, seen};
+ghost use Rattle.market_loader.specs.Market.{market_in, market_of, market_calls};
+ghost use Rattle.market_loader.specs.Reads.{Reads, seen};
 
-use crate::faults::{load_fault, role_fault};
-use crate::file::load_file;
-use crate::{LoadFault, MarketRole};
+use crate::LoadFault;
+use crate::texts::load_texts;
 use desk_edge::Shelf;
-use desk_names::{Names, PathText};
-use market_file::{Market, Paths, market_paths, read_market};
+use desk_names::Names;
+use market_file::Market;
 use std::alloc::Global;
 
 /// The market at a path, with the tables that it names, or the first failure in reading order: the market's file, what
@@ -38,73 +34,6 @@ pub fn load_market<H: Shelf>(
     ensures limited { IfOk result (λ market. All (λ entry. AreLimited entry.1) market.made.items) }
     ensures err { OnErr result (names.new ≡ names.old) }
 {
-    let text = load_part(alloc, path, shelf, MarketRole::Market)?;
-    let paths = paths_of(alloc, &text)?;
-    let quotes = load_table(alloc, &paths.quotes, shelf, MarketRole::Quotes)?;
-    let fixings = load_table(alloc, &paths.fixings, shelf, MarketRole::Fixings)?;
-    market_of(alloc, &text, &quotes, &fixings, names)
-}
-
-// The whole of a file of a market.
-fn load_part<H: Shelf>(
-    alloc: Global,
-    path: &str,
-    shelf: &mut H,
-    role: MarketRole,
-) -> Result<Vec<u8>, LoadFault>
-    ensures { Reads load_end (λ text. text.items) (part_of role path.now) (file_calls path.now)
-        (seen (H.contents shelf.old) (H.faults shelf.old) (H.misses shelf.old) (H.calls shelf.old))
-        (seen (H.contents shelf.new) (H.faults shelf.new) (H.misses shelf.new) (H.calls shelf.new)) result }
-{
-    match load_file(alloc, path, shelf) {
-        Ok(text) => Ok(text),
-        Err(fault) => Err(role_fault(role, fault)),
-    }
-}
-
-// The whole of a table beside the market, where the market names it; else no bytes.
-fn load_table<H: Shelf>(
-    alloc: Global,
-    path: &Option<PathText>,
-    shelf: &mut H,
-    role: MarketRole,
-) -> Result<Vec<u8>, LoadFault>
-    ensures { Reads load_end (λ text. text.items) (table_of role path.now) (table_calls path.now)
-        (seen (H.contents shelf.old) (H.faults shelf.old) (H.misses shelf.old) (H.calls shelf.old))
-        (seen (H.contents shelf.new) (H.faults shelf.new) (H.misses shelf.new) (H.calls shelf.new)) result }
-{
-    match path {
-        Some(path) => load_part(alloc, path.text(), shelf, role),
-        None => Ok(Vec::new(alloc)),
-    }
-}
-
-// The files that a market names.
-fn paths_of(alloc: Global, text: &[u8]) -> Result<Paths, LoadFault>
-    ensures { Says load_end (λ paths. paths) result (or_fault (market_paths text.now)) }
-{
-    match market_paths(alloc, text) {
-        Ok(paths) => Ok(paths),
-        Err(fault) => Err(load_fault(fault)),
-    }
-}
-
-// The market of a text and of the tables that it names.
-fn market_of(
-    alloc: Global,
-    text: &[u8],
-    quotes: &[u8],
-    fixings: &[u8],
-    names: &mut Names,
-) -> Result<Market, LoadFault>
-    ensures says { Says load_end (market_in names.new) result (or_fault (read_market text.now quotes.now fixings.now)) }
-    ensures ready { IfOk result (λ market. IsReady names.new market.made.items) }
-    ensures ranged { IfOk result (λ market. All (λ entry. AreInRange entry.1) market.made.items) }
-    ensures limited { IfOk result (λ market. All (λ entry. AreLimited entry.1) market.made.items) }
-    ensures err { OnErr result (names.new ≡ names.old) }
-{
-    match read_market(alloc, text, quotes, fixings, names) {
-        Ok(market) => Ok(market),
-        Err(fault) => Err(load_fault(fault)),
-    }
+    let texts = load_texts(alloc, path, shelf)?;
+    texts.market(alloc, names)
 }

@@ -1,5 +1,5 @@
 use Rattle.market_loader.proofs.Opening.{texts_ok, texts_err}
-use Rattle.market_loader.proofs.market.paths_of.Goals as goal
+use Rattle.market_loader.proofs.texts.paths_of.Goals as goal
 
 pub returns-in-Ok : goal.returns-in-Ok
 returns-in-Ok c = texts_ok _ _ c.in-Ok.ensures

@@ -1,0 +1,14 @@
+use Rattle.std.proofs.Common.{refl}
+use Rattle.market_loader.specs.Market.{texts_in}
+use Rattle.market_loader.proofs.Opening.{market_found, paths_found, quotes_found, fixings_found}
+use Rattle.market_loader.proofs.texts.load_texts.Goals as goal
+
+pub returns : goal.returns
+returns g c =
+    let text = c.in_ok-text.text.items in
+    let paths = c.in_ok-paths.paths in
+    let named = rw c.deref.ensures.value at c.in_ok-paths.ensures in
+    market_found texts_in c.args.path.now c.in_ok-text.ensures
+    (paths_found texts_in text paths named
+    (quotes_found texts_in text paths c.in_ok-quotes.ensures
+    (fixings_found text paths c.in_ok-quotes.quotes.items _ c.in_ok-fixings.ensures refl)))

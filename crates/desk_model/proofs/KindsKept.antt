@@ -177,7 +177,7 @@ module _ (m : Market) where
   serve_appended [] member weight is serve = (is, tt)
   serve_appended (part ∷ parts) member weight is serve = (serve.0, serve_appended parts member weight is serve.1)
 
-  serve_with : (parts : List Part) (member : ℕ) (weight : ℤ)
+  pub serve_with : (parts : List Part) (member : ℕ) (weight : ℤ)
       → (int_eq weight (pos 0) ≡ false → serves_as (kind_at m member) wanted.TheVariants.Member ≡ true)
       → Serve m (part_references parts) → Serve m (part_references (with_member parts member weight))
   serve_with parts member weight is serve = by_weight (int_eq weight (pos 0)) refl

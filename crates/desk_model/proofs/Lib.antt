@@ -13,6 +13,7 @@ pub mod Lazy
 pub mod Locality
 pub mod Marks
 pub mod PairSets
+pub mod PartLimits
 pub mod Paths
 pub mod Recalc
 pub mod Registrations

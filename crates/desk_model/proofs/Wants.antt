@@ -590,7 +590,7 @@ well_formed m kinds f values o (Implied curve reference) inputs range kind lazy 
   range = tt;
 }
 well_formed m kinds f values o (Stock quote) inputs range kind lazy e = record { inputs = rate_input f (input_at m quote) inputs (input_rate m kinds (suc (length m.objects)) quote kind.0) e; today = tt; index = tt; range = tt }
-well_formed m kinds f values o (Composite parts) inputs range kind lazy e = record { inputs = money_inputs m f values parts inputs kind e; today = tt; index = tt; range = tt }
+well_formed m kinds f values o (Composite parts) inputs range kind lazy e = record { inputs = money_inputs m f values parts inputs kind e; today = tt; index = tt; range = range }
 well_formed m kinds f values o (Flows flows engine) inputs range kind lazy e = record {
   inputs = (curve_inputs m (input_at m) f o flows engine inputs kind e, all_curves m f values (uses_of (input_at m) m o (Some (Flows flows engine))) inputs (flows_curves m kinds o flows engine kind) e);
   today = tt;

@@ -20,6 +20,7 @@ use Rattle.desk_terms.specs.Cause.{object_of}
 use Rattle.desk_terms.specs.declared.job.Job.{Job}
 use Rattle.desk_terms.specs.declared.kind.Kind as kind
 use Rattle.desk_terms.specs.Kind.{prices_today}
+use Rattle.desk_terms.specs.Parts.{ArePartsInRange}
 use Rattle.desk_terms.specs.Terms.{kind_of}
 
 -- a price, or why there is none
@@ -163,7 +164,7 @@ IsDayRead true (Some today) = Unit {0}
 IsDayRead false None = Unit {0}
 IsDayRead false (Some today) = ⊥
 
--- the terms are in range, where a price rests on that: those of curves, of indexes and of flows are within their limits
+-- the terms are in range: those of curves, of indexes, of composites and of flows are within their limits
 abbrev pub AreInRange : Terms → Type 0
 AreInRange (Quote value) = Unit {0}
 AreInRange (Derived minus first second) = Unit {0}
@@ -173,7 +174,7 @@ AreInRange (Implied curve reference) = Unit {0}
 AreInRange (Index terms fixings) = IsIndexInRange terms
 AreInRange (Engine curve) = Unit {0}
 AreInRange (Stock quote) = Unit {0}
-AreInRange (Composite parts) = Unit {0}
+AreInRange (Composite parts) = ArePartsInRange parts
 AreInRange (Flows flows engine) = AreFlowsInRange flows
 
 -- a reading that a bench may be asked for

@@ -8,6 +8,7 @@
 mod asked;
 mod bench;
 mod cause;
+mod examples;
 mod job;
 mod kind;
 mod point;

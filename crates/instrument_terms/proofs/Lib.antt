@@ -1,2 +1,3 @@
 mod LawLemmas
 mod PartLemmas
+pub mod RangeLemmas

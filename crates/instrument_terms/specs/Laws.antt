@@ -1,6 +1,7 @@
 -- What is proved of the definitions.
 use Rattle.std.specs.Prelude.{◌≡◌, ◌↔◌, true, false, List, [], ◌∷◌, ◌++◌, Some, None}
 use Rattle.desk_terms.specs.declared.terms.Part.{Part}
+use Rattle.desk_terms.specs.Parts.{AreEachInRange}
 use Rattle.instrument_terms.specs.declared.faults.LimitFault.{LimitFault}
 use Rattle.instrument_terms.specs.Parts.{is_weight, has_member, part_fault, first_fault}
 
@@ -27,3 +28,7 @@ AreWithin parts =
 -- law: parts have no fault exactly where each weight is within its limit and no member stands twice
 abbrev pub FaultlessPartsAreWithin : Type 0
 FaultlessPartsAreWithin = (parts : List Part) → (first_fault [] parts ≡ None) ↔ AreWithin parts
+
+-- law: such parts are those that are each in range
+abbrev pub PartsWithinAreInRange : Type 0
+PartsWithinAreInRange = (parts : List Part) → AreWithin parts ↔ AreEachInRange parts

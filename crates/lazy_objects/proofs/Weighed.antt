@@ -1,6 +1,6 @@
 -- What stands after a change of a weight.
-use Rattle.std.proofs.Common.{◌≡◌, ◌≢◌, ◌⊎◌, inl, inr, ℕ, Bool, true, false, List, Some, refl, sym, ◌∙◌, ap, subst}
-use Rattle.std.specs.Prelude.{ℤ, pos, if◌then◌else◌}
+use Rattle.std.proofs.Common.{◌≡◌, ◌≢◌, ◌≤◌, ◌⊎◌, inl, inr, ℕ, Bool, true, false, List, length, Some, refl, sym, ◌∙◌, ap, subst}
+use Rattle.std.specs.Prelude.{ℤ, pos, if◌then◌else◌, unsigned_abs}
 use Rattle.std.specs.Ordering.{int_eq}
 use Rattle.std.proofs.lemmas.Bool.{false≢true}
 use Rattle.desk_terms.specs.declared.terms.Terms.TheVariants as terms_of
@@ -11,17 +11,18 @@ use Rattle.desk_terms.specs.declared.kind.Wanted.TheVariants.{Member}
 use Rattle.desk_model.specs.declared.kept.Kept.{Kept}
 use Rattle.desk_model.specs.declared.slot.Slot.{Slot}
 use Rattle.desk_model.specs.declared.slot.Slot.TheVariants.{Live, Free, Today, Watcher}
-use Rattle.desk_model.specs.Market.{Market, kind_at, kind_in, terms_in, slot_at, is_observable}
+use Rattle.desk_model.specs.Market.{Market, kind_at, kind_in, terms_in, terms_at, slot_at, is_observable}
 use Rattle.desk_model.specs.Held.{Changeable, changeable, weight_of, with_member}
 use Rattle.desk_model.specs.Held.Changeable.{HasParts}
 use Rattle.desk_model.specs.State.{State}
-use Rattle.desk_model.specs.Links.{IsLinked, IsKinded, serves_as, reaches}
+use Rattle.desk_model.specs.Links.{IsLinked, IsKinded, IsRanged, serves_as, reaches}
 use Rattle.desk_model.specs.Laws.{Keeps, MayLink}
 use Rattle.desk_model.specs.Effect.{with_terms, revised, weight_set, member_set}
 use Rattle.desk_model.specs.Sound.{IsSound, KeepsCurrent}
 use Rattle.desk_model.proofs.Carried.{sound_kept}
 use Rattle.desk_model.proofs.Commands.{member_keeps}
 use Rattle.desk_model.proofs.KindsKept.{member_kinded}
+use Rattle.desk_model.proofs.PartLimits.{each_with}
 use Rattle.object_store.specs.Slots.{Registry, market_of, state_of}
 use Rattle.object_store.specs.Scratch.{ScratchView}
 use Rattle.object_store.specs.Parts.{parts_in}
@@ -52,6 +53,22 @@ by_slot (Live (terms_of.Stock quote)) is = absurd (cc)
 by_slot (Live (terms_of.Composite parts)) is = refl
 by_slot (Live (terms_of.Flows flows engine)) is = absurd (cc)
 
+parts_there : (t : Slot) → kind_in t ≡ Some kind.Composite → terms_in t ≡ Some (terms_of.Composite (parts_in t))
+parts_there Free is = absurd (cc)
+parts_there Today is = absurd (cc)
+parts_there Watcher is = absurd (cc)
+parts_there (Live (terms_of.Quote held)) is = absurd (cc)
+parts_there (Live (terms_of.Derived minus first second)) is = absurd (cc)
+parts_there (Live (terms_of.Handle handle.Quote target)) is = absurd (cc)
+parts_there (Live (terms_of.Handle handle.Curve target)) is = absurd (cc)
+parts_there (Live (terms_of.Curve terms)) is = absurd (cc)
+parts_there (Live (terms_of.Implied curve reference)) is = absurd (cc)
+parts_there (Live (terms_of.Index terms fixings)) is = absurd (cc)
+parts_there (Live (terms_of.Engine curve)) is = absurd (cc)
+parts_there (Live (terms_of.Stock quote)) is = absurd (cc)
+parts_there (Live (terms_of.Composite parts)) is = refl
+parts_there (Live (terms_of.Flows flows engine)) is = absurd (cc)
+
 -- what may be a member is observed
 member_observed : (t : Slot) → serves_as (kind_in t) Member ≡ true → is_observable t ≡ true
 member_observed Free is = absurd (cc)
@@ -62,6 +79,11 @@ member_observed (Live terms) is = refl
 -- a composite, what may be its member, and no way back
 abbrev pub MayWeigh : Market → ℕ → ℕ → ℤ → Type 0
 MayWeigh market k member weight = (kind_at market k ≡ Some kind.Composite) × (serves_as (kind_at market member) Member ≡ true) × ((weight ≡ pos 0) ⊎ ((member ≢ k) × (reaches market member k ≡ false)))
+
+-- a weight within its limit, and room for the parts
+pub record Ranges (market : Market) (k member : ℕ) (weight : ℤ) : Type 0 where
+  pub limit : unsigned_abs weight ≤ 1_000_000
+  pub count : (parts : List Part) → terms_at market k ≡ Some (terms_of.Composite parts) → length (with_member parts member weight) ≤ 4096
 
 may_link : (m : Market) (k member : ℕ) (weight : ℤ) → serves_as (kind_at m member) Member ≡ true → (weight ≡ pos 0) ⊎ ((member ≢ k) × (reaches m member k ≡ false))
     → int_eq weight (pos 0) ≡ false → MayLink m k (Some member)
@@ -76,7 +98,7 @@ module _ (s : State) (k member : ℕ) (weight : ℤ) (is : kind_at s.market k �
       ∙ ap (λ (c : Bool). if c then s else revised k (terms_of.Composite (with_member (parts_in (slot_at s.market k)) member weight)) s) e
 
 module _ (today : ℤ) (slots : List Slot) (kept : List Kept) (registry : Registry) (scratch : ScratchView) (stands : Stands (state_of today slots kept registry) scratch) (k member : ℕ) (weight : ℤ)
-    (may : MayWeigh (market_of today slots) k member weight) (differs : int_eq (weight_of (parts_in (slot_at (market_of today slots) k)) member) weight ≡ false)
+    (may : MayWeigh (market_of today slots) k member weight) (ranges : Ranges (market_of today slots) k member weight) (differs : int_eq (weight_of (parts_in (slot_at (market_of today slots) k)) member) weight ≡ false)
     (parts : List Part) (reweighed : parts ≡ with_member (parts_in (slot_at (market_of today slots) k)) member weight) where
   abbrev changed : State
   changed = revised k (terms_of.Composite parts) (state_of today slots kept registry)
@@ -90,13 +112,22 @@ module _ (today : ℤ) (slots : List Slot) (kept : List Kept) (registry : Regist
   kinded : IsKinded changed.market
   kinded = subst (λ (t : State). IsKinded t.market) same (member_kinded (state_of today slots kept registry) stands.whole stands.kinds k member weight (λ some. may.1))
 
+  there : terms_at (market_of today slots) k ≡ Some (terms_of.Composite (parts_in (slot_at (market_of today slots) k)))
+  there = parts_there (slot_at (market_of today slots) k) may.0
+
+  ranged : IsRanged (Some (terms_of.Composite parts))
+  ranged = subst (λ (p : List Part). IsRanged (Some (terms_of.Composite p))) (sym reweighed) (record {
+    count = ranges.count (parts_in (slot_at (market_of today slots) k)) there;
+    each = each_with (parts_in (slot_at (market_of today slots) k)) member weight ranges.limit (subst IsRanged there (stands.ranged k)).each;
+  })
+
   pub member_links : IsLinked (with_terms k (terms_of.Composite parts) (state_of today slots kept registry)).market
   member_links = linked_before k (terms_of.Composite parts) today slots kept registry keeps.whole.links
 
   pub member_changed : (new : State) → new ≡ revised k (terms_of.Composite parts) (state_of today slots kept registry)
       → Changed (state_of today slots kept registry) new (member_set k member weight (state_of today slots kept registry)) scratch
   member_changed new e = record {
-    stands = subst (λ (t : State). Stands t scratch) (sym e) (revised_stands today slots kept registry scratch stands k (terms_of.Composite parts) may.0 tt keeps kinded);
+    stands = subst (λ (t : State). Stands t scratch) (sym e) (revised_stands today slots kept registry scratch stands k (terms_of.Composite parts) may.0 ranged keeps kinded);
     state = e ∙ sym same;
     keeps = subst (KeepsCurrent (state_of today slots kept registry)) (sym e) keeps.current;
     sound = λ calc sound. subst (IsSound calc) (sym e) (sound_kept calc (state_of today slots kept registry) changed keeps.current sound);

@@ -1,5 +1,5 @@
 // The objects of a session. A clause sees the desk as its state.
-ghost use Rattle.std.specs.Prelude.{◌≡◌, ◌≢◌, ◌↔◌, ℕ, ℤ, Option, Err, ◌⊎◌, ◌<◌, ◌^◌, ◌==◌, ◌||◌, [], ◌∷◌, not, if◌then◌else◌, true, false, pos, Some, None, length, IsOk, IfOk, is_some, IfSome, IfNone, OnOk, OnErr, ◌≤◌};
+ghost use Rattle.std.specs.Prelude.{◌≡◌, ◌≢◌, ◌↔◌, ℕ, ℤ, List, Option, Err, ◌⊎◌, ◌<◌, ◌^◌, ◌==◌, ◌||◌, [], ◌∷◌, not, if◌then◌else◌, true, false, pos, Some, None, length, IsOk, IfOk, is_some, IfSome, IfNone, OnOk, OnErr, ◌≤◌, unsigned_abs};
 ghost use Rattle.std.specs.Option.{option_copied};
 ghost use Rattle.desk_terms.specs.Reading.{Calc, AreInRange, IsFitting};
 ghost use Rattle.desk_model.specs.Market.{kind_at, terms_at, slot_at, is_given, is_watcher, is_observable, least_user};
@@ -7,7 +7,7 @@ ghost use Rattle.desk_model.specs.Told.{is_registered, is_watching};
 ghost use Rattle.desk_model.specs.Uses.{index_at, fixings_in};
 ghost use Rattle.desk_model.specs.State.{kept_at, held, is_frozen, is_late, least_source};
 ghost use Rattle.desk_model.specs.Sound.{IsSound, KeepsCurrent};
-ghost use Rattle.desk_model.specs.Links.{AreOfKind, IsWhole, Serve, is_lazy_at, reaches, serves_as};
+ghost use Rattle.desk_model.specs.Links.{AreOfKind, AreRanged, IsKinded, IsWhole, Serve, is_lazy_at, reaches, serves_as};
 ghost use Rattle.desk_model.specs.Effect.{start, made, quote_set, relinked, engine_set, member_set, fixing_added, today_set, dropped, watching, registered_with, unregistered, handed_out, frozen_set, thawed, forward_set, deferred, resumed};
 ghost use Rattle.desk_terms.specs.declared.kind.Kind.TheVariants.{Quote, Index, Composite, Flows};
 ghost use Rattle.desk_terms.specs.declared.kind.Wanted.TheVariants.{Member, Engine};
@@ -16,10 +16,12 @@ ghost use Rattle.flow_terms.specs.Fixings.{IsRate, fixing_on};
 ghost use Rattle.flow_terms.specs.declared.fixings.FixFault.TheVariants.{Exists};
 ghost use Rattle.desk_terms.specs.declared.terms.HandleKind.{HandleKind};
 ghost use Rattle.desk_terms.specs.declared.terms.Terms.TheVariants.{Handle};
+ghost use Rattle.desk_terms.specs.declared.terms.Terms.TheVariants as terms_of;
+ghost use Rattle.desk_terms.specs.declared.terms.Part.{Part};
 ghost use Rattle.desk_model.specs.Laws.{MayLink};
 ghost use Rattle.object_store.specs.Slots.{is_handle};
 ghost use Rattle.object_store.specs.Parts.{parts_in};
-ghost use Rattle.desk_model.specs.Held.{weight_of};
+ghost use Rattle.desk_model.specs.Held.{weight_of, with_member};
 ghost use Rattle.ask_walk.specs.Asks.{Asks, Stops, AnswersIdly, held_answer};
 ghost use Rattle.ask_walk.specs.Recalcs.{RecalcEnds, RecalcStops};
 ghost use Rattle.lazy_objects.specs.Untold.{TellsNobody};
@@ -194,7 +196,8 @@ impl Desk {
 
     /// Gives an instrument a weight in a composite: one that is no member joins at the end, a member keeps its place,
     /// and weight 0 takes a member out (QuantLib's `CompositeInstrument::add`). What joins must not lie above the
-    /// composite. Where the weight is the one held, nothing is told. Where memory is wanting, nothing is changed.
+    /// composite. The weight is at most 1,000,000 either way, and the composite has at most 4,096 parts then. Where the
+    /// weight is the one held, nothing is told. Where memory is wanting, nothing is changed.
     pub fn set_member(
         &mut self,
         composite: ObjId,
@@ -204,6 +207,8 @@ impl Desk {
         requires composite { kind_at self.old.market composite ≡ Some Composite }
         requires member { serves_as (kind_at self.old.market member) Member ≡ true }
         requires open { (weight ≡ pos 0) ⊎ ((member ≢ composite) × (reaches self.old.market member composite ≡ false)) }
+        requires limit { unsigned_abs weight ≤ 1_000_000 }
+        requires count { (parts : List Part) → terms_at self.old.market composite ≡ Some (terms_of.Composite parts) → length (with_member parts member weight) ≤ 4096 }
         ensures set { OnOk result (self.new ≡ member_set composite member weight self.old) }
         ensures same { OnErr result (self.new ≡ self.old) }
         // No memory is wanted for the weight held.
@@ -503,9 +508,12 @@ impl Desk {
         self.store.is_current(object)
     }
 
-    /// Does nothing: what is known of the shape of every desk.
+    /// Does nothing: what is known of the shape of every desk: each object names others of the right kinds, and its terms
+    /// are in range.
     pub fn shape(&self)
-        ensures { IsWhole self.now }
+        ensures whole { IsWhole self.now }
+        ensures kinds { IsKinded self.now.market }
+        ensures ranged { AreRanged self.now.market }
     {
         let _ = &self.scratch;
     }

@@ -41,6 +41,7 @@ use Rattle.market_file.specs.Document.{document_of}
 use Rattle.market_file.specs.Top.{top_of}
 use Rattle.market_file.specs.Market.{tables_at, sized, table_sized, quotes_onto, objects_onto, fixings_onto, objects_of, board_of}
 use Rattle.market_file.specs.Standing.{AreServed, AreLimited, IsNext, AreInOrder, IsReady}
+use Rattle.instrument_terms.proofs.RangeLemmas.{each_in_range}
 use Rattle.market_file.proofs.Given.{Given, bound, past, holds, at_given}
 use Rattle.market_file.proofs.Served.{IsEntry, new_name_free, entry_in_fits}
 
@@ -105,7 +106,7 @@ limited_ranged (terms.Implied curve reference) h = tt
 limited_ranged (terms.Index index fixings) h = h
 limited_ranged (terms.Engine curve) h = tt
 limited_ranged (terms.Stock quote) h = tt
-limited_ranged (terms.Composite parts) h = tt
+limited_ranged (terms.Composite parts) h = let few = h.few in record { count = omega (arith, few); each = each_in_range parts h.within }
 limited_ranged (terms.Flows flows engine) h = h
 
 added_built : (b : Earlier) (name : List ℕ) (t : Terms) → IsBuilt b → IsEntry b (name, t) → Given IsBuilt (added b name t)

@@ -1,4 +1,5 @@
 pub mod Alike
+pub mod Counting
 pub mod Linking
 pub mod Making
 pub mod Naming

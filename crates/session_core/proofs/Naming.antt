@@ -138,6 +138,7 @@ names_alike p of_name live state stopped alike h = record {
   objects = h.objects ∙ sym alike.length;
   today = alike.today h.today;
   living = h.living ∙ sym (count_alike p.state.market.objects state.market.objects alike.length alike.given);
+  few = h.few;
   there = λ name o is. (alike.given o ∙ (h.there name o is).0, (h.there name o is).1);
   all = λ name o is. h.all name o (sym (alike.given o) ∙ is.0, is.1);
 }
@@ -151,7 +152,7 @@ count_more [] slot given = ap (λ (b : Bool). if b then 1 else 0) given
 count_more (x ∷ xs) slot given =
     one_more (is_given x) (count_live (xs ++ slot ∷ [])) (count_live xs) (count_more xs slot given)
 
-count_less : (xs : List Slot) (o : ℕ) → is_given (slice_index_or xs o Free) ≡ true
+pub count_less : (xs : List Slot) (o : ℕ) → is_given (slice_index_or xs o Free) ≡ true
     → count_live xs ≡ count_live (slice_set xs o Free) + 1
 count_less [] o given = absurd (false≢true given)
 count_less (x ∷ xs) zero given = ap (λ (b : Bool). if b then suc (count_live xs) else count_live xs) given ∙ omega arith
@@ -164,11 +165,11 @@ none_some e = cc
 -- an object is made under a name that no live object has
 pub names_added : (p : Standing) (of_name : List (Option ℕ)) (live name number : ℕ) (slot : Slot) (state : State)
     (of_object : List ℕ) (watching : List (Option ℕ)) → is_given slot ≡ true
-    → HasNames p of_name live → object_named p name ≡ None → name < length p.names → state ≡ added slot p.state
+    → HasNames p of_name live → live < 4096 → object_named p name ≡ None → name < length p.names → state ≡ added slot p.state
     → of_object ≡ p.of_object ++ name ∷ [] → number ≡ length p.state.market.objects → length watching ≡ length p.watching
     → HasNames (record p { state = state; of_object = of_object; watching = watching }) (slice_set of_name name (Some number))
     (live + 1)
-names_added p of_name live name number slot state of_object watching taken h free within is more given long = rw (is, more) (record {
+names_added p of_name live name number slot state of_object watching taken h few free within is more given long = rw (is, more) (record {
   watching = long ∙ h.watching;
   table = length-set of_name name (Some number) ∙ h.table;
   objects = omega (
@@ -180,6 +181,7 @@ names_added p of_name live name number slot state of_object watching taken h fre
   );
   today = old_slot 0 (given_within p.state.market 0 (ap is_given h.today)) ∙ h.today;
   living = ap (λ (n : ℕ). n + 1) h.living ∙ sym (count_more p.state.market.objects slot taken);
+  few = omega (arith, few);
   there = there;
   all = all;
 })
@@ -250,23 +252,23 @@ names_added p of_name live name number slot state of_object watching taken h fre
 
 pub names_made : (p : Standing) (of_name : List (Option ℕ)) (live name number : ℕ) (terms : Terms) (state : State)
     (of_object : List ℕ)
-    → HasNames p of_name live → object_named p name ≡ None → name < length p.names → state ≡ made terms p.state
+    → HasNames p of_name live → live < 4096 → object_named p name ≡ None → name < length p.names → state ≡ made terms p.state
     → of_object ≡ p.of_object ++ name ∷ [] → number ≡ length p.state.market.objects
     → HasNames (record p { state = state; of_object = of_object }) (slice_set of_name name (Some number)) (live + 1)
 unfolding made
-names_made p of_name live name number terms state of_object h free within is more given =
-    names_added p of_name live name number (Live terms) state of_object p.watching refl h free within is more given refl
+names_made p of_name live name number terms state of_object h few free within is more given =
+    names_added p of_name live name number (Live terms) state of_object p.watching refl h few free within is more given refl
 
 -- a watcher is made
 pub names_watched : (p : Standing) (of_name : List (Option ℕ)) (live name number : ℕ) (state : State)
     (of_object : List ℕ) (actions : List (Option ℕ))
-    → HasNames p of_name live → object_named p name ≡ None → name < length p.names → state ≡ watching p.state
+    → HasNames p of_name live → live < 4096 → object_named p name ≡ None → name < length p.names → state ≡ watching p.state
     → of_object ≡ p.of_object ++ name ∷ [] → number ≡ length p.state.market.objects → length actions ≡ length p.watching
     → HasNames (record p { state = state; of_object = of_object; watching = actions }) (slice_set of_name name (Some number))
     (live + 1)
 unfolding watching
-names_watched p of_name live name number state of_object actions h free within is more given long =
-    names_added p of_name live name number Watcher state of_object actions refl h free within is more given long
+names_watched p of_name live name number state of_object actions h few free within is more given long =
+    names_added p of_name live name number Watcher state of_object actions refl h few free within is more given long
 
 -- a live object is dropped
 pub names_dropped : (p : Standing) (of_name : List (Option ℕ)) (live name o : ℕ) (state : State)
@@ -279,6 +281,7 @@ names_dropped p of_name live name o state h named apart is = rw is (record {
   objects = h.objects ∙ sym (length-set p.state.market.objects o Free);
   today = get_or-set_other p.state.market.objects o 0 Free Free apart ∙ h.today;
   living = omega (arith, h.living, count_less p.state.market.objects o named.0);
+  few = let most = h.few in omega (arith, most);
   there = there;
   all = all;
 })
@@ -341,6 +344,7 @@ names_start p table today count day begins named empty within is long = record {
       ∙ sym (ap (λ (state : State). length state.market.objects) begins);
   today = ap (λ (state : State). slot_at state.market 0) begins;
   living = sym (ap (λ (state : State). live_count state.market) begins);
+  few = omega arith;
   there = there;
   all = all;
 }

@@ -284,7 +284,7 @@ module _ (p : Standing) where
   allowed (command.Stock name q) known =
       untaken name _ (λ free. finds quote_input q _
       (λ x is. may_make name (terms.Stock x) known.first tt (taken_input _ wanted.QuoteInput is, tt) free))
-  allowed (command.Composite name) known = untaken name _ (may_make name (terms.Composite []) known.first tt tt)
+  allowed (command.Composite name) known = untaken name _ (may_make name (terms.Composite []) known.first (record { count = omega arith; each = tt }) tt)
   allowed (command.Member k i weight) known =
       finds place.Composite k _ (λ x is_composite. finds member i _ (λ y is_member. unless_allowed (joins weight p.state.market x y) refusal.Cycle
       (act.Grow (growth.Member x y weight)) (λ clear. record {

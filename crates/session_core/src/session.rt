@@ -1,5 +1,5 @@
 // A session: its objects, their names and its actions. A clause sees it as a standing of the definition.
-ghost use Rattle.std.specs.Prelude.{◌≡◌, ◌<◌, ◌==◌, ◌||◌, ◌++◌, true, false, length, codes, None, Some, Ok, Err, is_none, is_ok, is_err, IfOk, OnOk, OnErr, replicate, option_copied, slice_get, [], ◌∷◌, IfSome, IfNone, ◌≤◌, ◌+◌, ◌^◌, slice_index_or};
+ghost use Rattle.std.specs.Prelude.{◌≡◌, ◌<◌, ◌==◌, ◌||◌, ◌++◌, true, false, length, codes, None, Some, Ok, Err, is_none, is_ok, is_err, IfOk, OnOk, OnErr, replicate, option_copied, slice_get, [], ◌∷◌, IfSome, IfNone, ◌≤◌, ◌+◌, ◌^◌, slice_index_or, unsigned_abs};
 ghost use Rattle.desk_names.specs.Names.{has_text};
 ghost use Rattle.desk_terms.specs.Reading.{Calc, AreInRange};
 ghost use Rattle.desk_terms.specs.declared.kind.Kind.TheVariants as kind;
@@ -374,10 +374,12 @@ impl Session {
         requires composite { kind_at self.old.state.market composite ≡ Some kind.Composite }
         requires member { serves_as (kind_at self.old.state.market member) wanted.Member ≡ true }
         requires open { joins weight self.old.state.market composite member ≡ false }
+        requires limit { unsigned_abs weight ≤ 1_000_000 }
         ensures set { OnOk result (self.new ≡ with_state (member_set composite member weight self.old.state) self.old) }
         ensures err { OnErr result (self.new ≡ self.old) }
         ensures sound { (calc : Calc) → IsSound calc self.old.state → IsSound calc self.new.state }
     {
+        self.desk.shape();
         self.desk.set_member(composite, member, weight)
     }
 

@@ -21,7 +21,7 @@ use Rattle.object_store.specs.Store.{registry_of, IsRewatched}
 use Rattle.object_store.proofs.Joined.{joined_composite, composite_slot, composite_watches, revised_market}
 use Rattle.object_store.proofs.Telling.{kept_state, kept_marks, no_marks}
 use Rattle.lazy_objects.proofs.Revised.{tells_then, kind_within}
-use Rattle.lazy_objects.proofs.Weighed.{MayWeigh, rewatched_kept, weight_as, member_links, member_changed}
+use Rattle.lazy_objects.proofs.Weighed.{MayWeigh, Ranges, rewatched_kept, weight_as, member_links, member_changed}
 use Rattle.lazy_objects.proofs.desk.Desk.set_member.Goals as goal
 
 pub returns-then-has_weight-clause-set : goal.returns-then-has_weight-clause-set
@@ -36,6 +36,7 @@ returns-then-has_weight-clause-set c =
 pub revise-requires-clause-told : goal.revise-requires-clause-told
 revise-requires-clause-told c =
     let is = subst (λ (t : State). MayWeigh t.market c.args.composite c.args.member c.args.weight) (sym c.self.view_is) (c.requires.composite, c.requires.member, c.requires.open) in
+    let ranges = subst (λ (t : State). Ranges t.market c.args.composite c.args.member c.args.weight) (sym c.self.view_is) (record { limit = c.requires.limit; count = c.requires.count }) in
     let bits = to_z-of_z w64 c.args.weight c.ranges.weight in
     let parts = c.parts_of-parts.ensures in
     let differs = ap (λ (p : List Part). int_eq (weight_of p c.args.member) c.args.weight) (sym parts) ∙ ap (int_eq (weight_of c.parts_of-parts.result.now c.args.member)) (sym bits) ∙ sym c.has_weight.ensures ∙ c.if-has_weight.false in
@@ -44,7 +45,7 @@ revise-requires-clause-told c =
     (composite_slot (slot_at (market_of c.self.inside.today c.self.inside.objects) c.args.composite) is.0).2 c.self.inside.store c.rewatch.new.store c.self.invariant.0.whole
     (rewatched_kept c.self.inside.today c.self.inside.objects c.self.inside.store c.rewatch.new.store c.args.composite c.in_ok-changed.changed c.self.invariant.1 is.0
     (subst (λ (p : List Part). IsRewatched c.args.composite p c.self.inside.store c.rewatch.new.store) (sym c.in_ok-changed.ensures) c.in_ok-rewatch.ensures.rewatched)).registry
-    (member_links c.self.inside.today c.self.inside.objects c.self.inside.store.kept (registry_of c.self.inside.store) c.self.inside.scratch c.self.invariant.0 c.args.composite c.args.member c.args.weight is differs c.in_ok-changed.changed reweighed)
+    (member_links c.self.inside.today c.self.inside.objects c.self.inside.store.kept (registry_of c.self.inside.store) c.self.inside.scratch c.self.invariant.0 c.args.composite c.args.member c.args.weight is ranges differs c.in_ok-changed.changed reweighed)
 
 pub rewatch-requires-clause-watched : goal.rewatch-requires-clause-watched
 rewatch-requires-clause-watched c = λ x.
@@ -69,6 +70,7 @@ revise-requires-clause-sources c =
 pub invariant_of-self-2 : goal.invariant_of-self-2
 invariant_of-self-2 c =
     let is = subst (λ (t : State). MayWeigh t.market c.args.composite c.args.member c.args.weight) (sym c.self.view_is) (c.requires.composite, c.requires.member, c.requires.open) in
+    let ranges = subst (λ (t : State). Ranges t.market c.args.composite c.args.member c.args.weight) (sym c.self.view_is) (record { limit = c.requires.limit; count = c.requires.count }) in
     let bits = to_z-of_z w64 c.args.weight c.ranges.weight in
     let parts = c.parts_of-parts.ensures in
     let differs = ap (λ (p : List Part). int_eq (weight_of p c.args.member) c.args.weight) (sym parts) ∙ ap (int_eq (weight_of c.parts_of-parts.result.now c.args.member)) (sym bits) ∙ sym c.has_weight.ensures ∙ c.if-has_weight.false in
@@ -76,7 +78,7 @@ invariant_of-self-2 c =
     let e = c.revise.ensures.state
     ∙ ap (revised c.args.composite (terms_of.Composite c.in_ok-changed.changed)) (kept_state c.self.inside.today c.self.inside.objects c.self.inside.store c.rewatch.new.store (rewatched_kept c.self.inside.today c.self.inside.objects c.self.inside.store c.rewatch.new.store c.args.composite c.in_ok-changed.changed c.self.invariant.1 is.0
     (subst (λ (p : List Part). IsRewatched c.args.composite p c.self.inside.store c.rewatch.new.store) (sym c.in_ok-changed.ensures) c.in_ok-rewatch.ensures.rewatched))) in
-    let d = member_changed c.self.inside.today c.self.inside.objects c.self.inside.store.kept (registry_of c.self.inside.store) c.self.inside.scratch c.self.invariant.0 c.args.composite c.args.member c.args.weight is differs c.in_ok-changed.changed reweighed
+    let d = member_changed c.self.inside.today c.self.inside.objects c.self.inside.store.kept (registry_of c.self.inside.store) c.self.inside.scratch c.self.invariant.0 c.args.composite c.args.member c.args.weight is ranges differs c.in_ok-changed.changed reweighed
     (state_of c.self.inside.today c.revise.new.objects c.revise.new.store.kept (registry_of c.revise.new.store)) e in
     let market = ap (λ (t : State). t.market) e ∙ revised_market c.args.composite (terms_of.Composite c.in_ok-changed.changed) (state_of c.self.inside.today c.self.inside.objects c.self.inside.store.kept (registry_of c.self.inside.store)) in
     let rewatched = subst (λ (p : List Part). IsRewatched c.args.composite p c.self.inside.store c.rewatch.new.store) (sym c.in_ok-changed.ensures) c.in_ok-rewatch.ensures.rewatched in (
@@ -89,6 +91,7 @@ invariant_of-self-2 c =
 pub returns-clause-set : goal.returns-clause-set
 returns-clause-set c =
     let is = subst (λ (t : State). MayWeigh t.market c.args.composite c.args.member c.args.weight) (sym c.self.view_is) (c.requires.composite, c.requires.member, c.requires.open) in
+    let ranges = subst (λ (t : State). Ranges t.market c.args.composite c.args.member c.args.weight) (sym c.self.view_is) (record { limit = c.requires.limit; count = c.requires.count }) in
     let bits = to_z-of_z w64 c.args.weight c.ranges.weight in
     let parts = c.parts_of-parts.ensures in
     let differs = ap (λ (p : List Part). int_eq (weight_of p c.args.member) c.args.weight) (sym parts) ∙ ap (int_eq (weight_of c.parts_of-parts.result.now c.args.member)) (sym bits) ∙ sym c.has_weight.ensures ∙ c.if-has_weight.false in
@@ -96,13 +99,14 @@ returns-clause-set c =
     let e = c.revise.ensures.state
     ∙ ap (revised c.args.composite (terms_of.Composite c.in_ok-changed.changed)) (kept_state c.self.inside.today c.self.inside.objects c.self.inside.store c.rewatch.new.store (rewatched_kept c.self.inside.today c.self.inside.objects c.self.inside.store c.rewatch.new.store c.args.composite c.in_ok-changed.changed c.self.invariant.1 is.0
     (subst (λ (p : List Part). IsRewatched c.args.composite p c.self.inside.store c.rewatch.new.store) (sym c.in_ok-changed.ensures) c.in_ok-rewatch.ensures.rewatched))) in
-    let d = member_changed c.self.inside.today c.self.inside.objects c.self.inside.store.kept (registry_of c.self.inside.store) c.self.inside.scratch c.self.invariant.0 c.args.composite c.args.member c.args.weight is differs c.in_ok-changed.changed reweighed
+    let d = member_changed c.self.inside.today c.self.inside.objects c.self.inside.store.kept (registry_of c.self.inside.store) c.self.inside.scratch c.self.invariant.0 c.args.composite c.args.member c.args.weight is ranges differs c.in_ok-changed.changed reweighed
     (state_of c.self.inside.today c.revise.new.objects c.revise.new.store.kept (registry_of c.revise.new.store)) e in
     d.state ∙ ap (member_set c.args.composite c.args.member c.args.weight) c.self.view_is
 
 pub returns-clause-keeps : goal.returns-clause-keeps
 returns-clause-keeps c =
     let is = subst (λ (t : State). MayWeigh t.market c.args.composite c.args.member c.args.weight) (sym c.self.view_is) (c.requires.composite, c.requires.member, c.requires.open) in
+    let ranges = subst (λ (t : State). Ranges t.market c.args.composite c.args.member c.args.weight) (sym c.self.view_is) (record { limit = c.requires.limit; count = c.requires.count }) in
     let bits = to_z-of_z w64 c.args.weight c.ranges.weight in
     let parts = c.parts_of-parts.ensures in
     let differs = ap (λ (p : List Part). int_eq (weight_of p c.args.member) c.args.weight) (sym parts) ∙ ap (int_eq (weight_of c.parts_of-parts.result.now c.args.member)) (sym bits) ∙ sym c.has_weight.ensures ∙ c.if-has_weight.false in
@@ -110,13 +114,14 @@ returns-clause-keeps c =
     let e = c.revise.ensures.state
     ∙ ap (revised c.args.composite (terms_of.Composite c.in_ok-changed.changed)) (kept_state c.self.inside.today c.self.inside.objects c.self.inside.store c.rewatch.new.store (rewatched_kept c.self.inside.today c.self.inside.objects c.self.inside.store c.rewatch.new.store c.args.composite c.in_ok-changed.changed c.self.invariant.1 is.0
     (subst (λ (p : List Part). IsRewatched c.args.composite p c.self.inside.store c.rewatch.new.store) (sym c.in_ok-changed.ensures) c.in_ok-rewatch.ensures.rewatched))) in
-    let d = member_changed c.self.inside.today c.self.inside.objects c.self.inside.store.kept (registry_of c.self.inside.store) c.self.inside.scratch c.self.invariant.0 c.args.composite c.args.member c.args.weight is differs c.in_ok-changed.changed reweighed
+    let d = member_changed c.self.inside.today c.self.inside.objects c.self.inside.store.kept (registry_of c.self.inside.store) c.self.inside.scratch c.self.invariant.0 c.args.composite c.args.member c.args.weight is ranges differs c.in_ok-changed.changed reweighed
     (state_of c.self.inside.today c.revise.new.objects c.revise.new.store.kept (registry_of c.revise.new.store)) e in
     subst (λ (t : State). KeepsCurrent t (state_of c.self.inside.today c.revise.new.objects c.revise.new.store.kept (registry_of c.revise.new.store))) c.self.view_is d.keeps
 
 pub returns-clause-sound : goal.returns-clause-sound
 returns-clause-sound c calc sound =
     let is = subst (λ (t : State). MayWeigh t.market c.args.composite c.args.member c.args.weight) (sym c.self.view_is) (c.requires.composite, c.requires.member, c.requires.open) in
+    let ranges = subst (λ (t : State). Ranges t.market c.args.composite c.args.member c.args.weight) (sym c.self.view_is) (record { limit = c.requires.limit; count = c.requires.count }) in
     let bits = to_z-of_z w64 c.args.weight c.ranges.weight in
     let parts = c.parts_of-parts.ensures in
     let differs = ap (λ (p : List Part). int_eq (weight_of p c.args.member) c.args.weight) (sym parts) ∙ ap (int_eq (weight_of c.parts_of-parts.result.now c.args.member)) (sym bits) ∙ sym c.has_weight.ensures ∙ c.if-has_weight.false in
@@ -124,7 +129,7 @@ returns-clause-sound c calc sound =
     let e = c.revise.ensures.state
     ∙ ap (revised c.args.composite (terms_of.Composite c.in_ok-changed.changed)) (kept_state c.self.inside.today c.self.inside.objects c.self.inside.store c.rewatch.new.store (rewatched_kept c.self.inside.today c.self.inside.objects c.self.inside.store c.rewatch.new.store c.args.composite c.in_ok-changed.changed c.self.invariant.1 is.0
     (subst (λ (p : List Part). IsRewatched c.args.composite p c.self.inside.store c.rewatch.new.store) (sym c.in_ok-changed.ensures) c.in_ok-rewatch.ensures.rewatched))) in
-    let d = member_changed c.self.inside.today c.self.inside.objects c.self.inside.store.kept (registry_of c.self.inside.store) c.self.inside.scratch c.self.invariant.0 c.args.composite c.args.member c.args.weight is differs c.in_ok-changed.changed reweighed
+    let d = member_changed c.self.inside.today c.self.inside.objects c.self.inside.store.kept (registry_of c.self.inside.store) c.self.inside.scratch c.self.invariant.0 c.args.composite c.args.member c.args.weight is ranges differs c.in_ok-changed.changed reweighed
     (state_of c.self.inside.today c.revise.new.objects c.revise.new.store.kept (registry_of c.revise.new.store)) e in
     d.sound calc (subst (IsSound calc) (sym c.self.view_is) sound)
 

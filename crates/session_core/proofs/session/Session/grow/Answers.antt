@@ -1,4 +1,5 @@
-use Rattle.std.proofs.Common.{ℤ, ◌∙◌, ap, subst, arith, FitsSigned, w64}
+use Rattle.std.proofs.Common.{ℤ, ◌≤◌, sym, ◌∙◌, ap, subst, arith, FitsSigned, w64}
+use Rattle.std.specs.Prelude.{unsigned_abs}
 use Rattle.std.proofs.lemmas.Int.{to_z-of_z, fits_signed_from_abs}
 use Rattle.desk_model.specs.Effect.{member_set}
 use Rattle.session_model.specs.Change.{grown}
@@ -6,6 +7,14 @@ use Rattle.session_core.specs.Allowed.{MayWeigh, MayGrow}
 use Rattle.session_core.specs.Steps.{with_state}
 use Rattle.session_core.proofs.Turns.{on_ok}
 use Rattle.session_core.proofs.session.Session.grow.Goals as goal
+
+pub weigh-requires-clause-limit : goal.weigh-requires-clause-limit
+weigh-requires-clause-limit c =
+    let may : MayWeigh c.args.self.now c.in-Member.composite c.in-Member.member c.in-Member.weight =
+    subst (MayGrow c.args.self.now) c.in-Member.is c.requires.may in
+    let fits : FitsSigned w64 c.in-Member.weight =
+    fits_signed_from_abs w64 c.in-Member.weight (let limit = may.limit in omega (arith, limit)) in
+    subst (λ (w : ℤ). unsigned_abs w ≤ 1_000_000) (sym (to_z-of_z w64 c.in-Member.weight fits)) may.limit
 
 pub returns-in-Member-clause-set : goal.returns-in-Member-clause-set
 unfolding grown

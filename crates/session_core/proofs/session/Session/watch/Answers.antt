@@ -27,10 +27,13 @@ invariant_of-self-in-Ok c =
       watching = c.self.inside.watching.items;
       stopped = c.self.inside.stopped;
     } in
+    let room = (room_of c.self.inside.desk.market
+    (subst (λ (q : Standing). is_full q.state.market ≡ false) (sym c.self.view_is) c.requires.room)).live in
     let named : c.args.name < length c.self.inside.names =
     subst (λ (q : Standing). c.args.name < length q.names) (sym c.self.view_is) c.requires.named in
     names_watched p c.self.inside.of_name.items c.self.inside.live c.place.result c.in-Ok.watcher
     c.add_watcher.new.self c.push.new.self _ c.self.invariant
+    (omega (arith, room, c.self.invariant.living))
     (ap (object_named p) c.place.ensures ∙ ap (λ (q : Standing). object_named q c.args.name) c.self.view_is
     ∙ c.requires.free)
     (omega (arith, named, c.place.ensures)) c.in-Ok.ensures.added

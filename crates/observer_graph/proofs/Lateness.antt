@@ -1,19 +1,13 @@
 -- Clear, where no node is frozen or marked.
-use Rattle.std.proofs.Common.{◌≡◌, inl, inr, ℕ, Bool, true, false, List, [], ◌∷◌, length, refl, sym, subst, arith, Option}
-use Rattle.std.specs.Prelude.{◌↔◌, ◌==◌, not, IsTrue}
-use Rattle.std.proofs.lemmas.Bool.{or_parts, or_from, not_from_false, false_from_ne_true}
-use Rattle.walks.specs.Walk.{Among, Below}
-use Rattle.walks.specs.Walk.Below.{next, beyond}
-use Rattle.walks.proofs.Ranks.{below_wider}
+use Rattle.std.proofs.Common.{◌≡◌, ℕ, Bool, false, List, [], ◌∷◌, length, arith, Option}
+use Rattle.std.proofs.lemmas.Bool.{or_from, false_from_ne_true}
+use Rattle.walks.specs.Walk.{Among}
 use Rattle.observer_graph.specs.declared.node.Node.{Node}
 use Rattle.observer_graph.specs.Lists.{IsSet, is_marked}
-use Rattle.observer_graph.specs.GraphView.{GraphView, edges_of, is_source}
-use Rattle.observer_graph.specs.Notice.{IsLeast, Reaches}
-use Rattle.observer_graph.specs.Late.{IsClear, IsExposed, IsLateOf, frozen_count, is_frozen, is_held_back}
+use Rattle.observer_graph.specs.GraphView.{is_source}
+use Rattle.observer_graph.specs.Late.{IsClear, frozen_count, is_frozen}
 use Rattle.observer_graph.specs.Walks.{graph_of}
-use Rattle.observer_graph.proofs.Exposed.{GoesOn, leads_on}
 use Rattle.observer_graph.proofs.Frozen.{count_none}
-use Rattle.observer_graph.proofs.Least.{least_as}
 
 pub none_marked : (marks : List Bool) (items : List ℕ) → IsSet marks items → length items ≡ 0 → (o : ℕ)
     → is_marked marks o ≡ false

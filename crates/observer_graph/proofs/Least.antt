@@ -1,11 +1,9 @@
 -- The least node of a list, or of a walk.
-use Rattle.std.proofs.Common.{◌≡◌, ◌⊎◌, inl, inr, ℕ, ◌+◌, ◌<◌, ◌≤◌, Bool, true, false, List, [], ◌∷◌, ◌++◌, length, take, refl, sym, ◌∙◌, ap, subst, arith, Option, Some, None}
-use Rattle.std.specs.Prelude.{IfSome, slice_index_or, ltb, if◌then◌else◌}
-use Rattle.std.proofs.lemmas.List.{take_more}
+use Rattle.std.proofs.Common.{◌≡◌, ◌⊎◌, inl, inr, ℕ, ◌≤◌, Bool, true, false, List, ◌∷◌, refl, subst, arith, Option, Some, None}
+use Rattle.std.specs.Prelude.{IfSome, ltb, if◌then◌else◌}
 use Rattle.std.proofs.lemmas.Bool.{ltb-true, ltb-false, false≢true}
 use Rattle.walks.specs.Walk.{Among}
 use Rattle.observer_graph.specs.Notice.{IsLeast, lesser}
-use Rattle.observer_graph.proofs.Members.{among_last}
 
 -- the least of the same nodes
 pub least_as : (P Q : ℕ → Type 0) (least : Option ℕ) → ((o : ℕ) → P o → Q o) → ((o : ℕ) → Q o → P o) → IsLeast P least → IsLeast Q least

@@ -1,8 +1,8 @@
 -- Who is among the nodes of a list, after edits of it.
-use Rattle.std.proofs.Common.{◌≡◌, ◌≢◌, ◌⊎◌, inl, inr, ℕ, zero, suc, ◌+◌, ◌<◌, Bool, true, false, List, [], ◌∷◌, ◌++◌, length, refl, sym, ◌∙◌, subst, arith, Some, None}
+use Rattle.std.proofs.Common.{◌≡◌, ◌⊎◌, inl, inr, ℕ, zero, suc, ◌+◌, ◌<◌, Bool, true, false, List, [], ◌∷◌, ◌++◌, length, refl, sym, ◌∙◌, subst, arith, Some, None}
 use Rattle.std.specs.Prelude.{◌↔◌, ◌==◌, remove, slice_index_or, position, cond, not}
 use Rattle.std.specs.List.{position_or_len}
-use Rattle.std.proofs.lemmas.Bool.{cases_eq, eqb-true, eq-eqb, lt-ltb}
+use Rattle.std.proofs.lemmas.Bool.{eqb-true, eq-eqb, lt-ltb}
 use Rattle.std.proofs.lemmas.List.Quantifiers.{position-Some}
 use Rattle.walks.specs.Walk.{Among, IsOnce}
 
@@ -123,15 +123,3 @@ none_found xs y none a = let e = lt-ltb _ _ (found_first xs y a) in none_some (r
 -- an item that a loop over a list is at
 pub among_item : (xs : List ℕ) (i y : ℕ) → i < length xs → y ≡ slice_index_or xs i y → Among y xs
 among_item xs i y low is = subst (λ (z : ℕ). Among z xs) (sym is) (among_at xs i y low)
-
--- a node is among them or not
-pub among_or_not : (o : ℕ) (xs : List ℕ) → Among o xs ⊎ (Among o xs → ⊥)
-among_or_not o [] = inr (λ a. a)
-among_or_not o (x ∷ xs) = elim (cases_eq o x) [
-  | inl same ↦ inl (inl same)
-  | inr other ↦ elim (among_or_not o xs) [ inl a ↦ inl (inr a) | inr apart ↦ inr (λ a. neither a other apart) ]
-]
-  where
-    neither : Among o (x ∷ xs) → o ≢ x → (Among o xs → ⊥) → ⊥
-    neither (inl same) other apart = other same
-    neither (inr a) other apart = apart a

@@ -1,5 +1,5 @@
 -- Rising lists of numbers, and edits of them.
-use Rattle.std.proofs.Common.{◌≡◌, ◌≢◌, ◌⊎◌, inl, inr, ℕ, zero, suc, ◌+◌, ◌<◌, ◌≤◌, Bool, true, false, List, [], ◌∷◌, length, take, refl, sym, ◌∙◌, ap, subst, arith, get_or, nat_lt}
+use Rattle.std.proofs.Common.{◌≡◌, ◌≢◌, ◌⊎◌, inl, inr, ℕ, zero, suc, ◌+◌, ◌<◌, ◌≤◌, Bool, true, false, List, [], ◌∷◌, length, refl, sym, ◌∙◌, ap, subst, arith, get_or, nat_lt}
 use Rattle.std.specs.Prelude.{◌==◌, if◌then◌else◌}
 use Rattle.std.specs.List.{insert, remove}
 use Rattle.std.proofs.lemmas.Bool.{cond_both, ltb-true, ltb-false, eqb-true, eqb-false, lt-ltb, le-ltb, ne_eqb}
@@ -244,84 +244,6 @@ among_some (first ∷ rest) zero x is = inl (some_is x first (sym is))
     some_is : (a b : ℕ) → Some a ≡ Some b → a ≡ b
     some_is a b e = cc
 among_some (first ∷ rest) (suc i) x is = inr (among_some rest i x is)
-
-among_suc : (items : List ℕ) (i x v : ℕ) → slice_get items i ≡ Some x
-    → Among v (take (suc i) items) ↔ (Among v (take i items) ⊎ (v ≡ x))
-among_suc [] zero x v is = absurd (cc)
-among_suc [] (suc i) x v is = absurd (cc)
-among_suc (first ∷ rest) zero x v is = (
-  λ among. elim among [ inl same ↦ inr (same ∙ some_is first x is) | inr none ↦ absurd none ],
-  λ either. elim either [ inl none ↦ absurd none | inr same ↦ inl (same ∙ sym (some_is first x is)) ],
-)
-  where
-    some_is : (a b : ℕ) → Some a ≡ Some b → a ≡ b
-    some_is a b e = cc
-among_suc (first ∷ rest) (suc i) x v is =
-    let more = among_suc rest i x v is in (
-      λ among. elim among [ inl same ↦ inl (inl same) | inr later ↦ elim (more.0 later) [ inl was ↦ inl (inr was) | inr same ↦ inr same ] ],
-      λ either. elim either [
-        | inl among ↦ elim among [ inl same ↦ inl same | inr later ↦ inr (more.1 (inl later)) ]
-        | inr same ↦ inr (more.1 (inr same))
-      ],
-    )
-
-pub among_take : (items : List ℕ) (i x v : ℕ) → slice_get items i ≡ Some x
-    → Among v (take (i + 1) items) ↔ (Among v (take i items) ⊎ (v ≡ x))
-among_take items i x v is =
-    subst (λ (n : ℕ). Among v (take n items) ↔ (Among v (take i items) ⊎ (v ≡ x))) (one i) (among_suc items i x v is)
-  where
-    one : (i : ℕ) → suc i ≡ i + 1
-    one i = omega arith
-
-pub take_past : (items : List ℕ) (i : ℕ) → length items ≤ i → take i items ≡ items
-take_past [] zero past = refl
-take_past [] (suc i) past = refl
-take_past (first ∷ rest) zero past = absurd (omega arith)
-take_past (first ∷ rest) (suc i) past = ap (λ l. first ∷ l) (take_past rest i (omega arith))
-
--- one more of those who were told is looked at: it is a number, or not
-module _ (watch : ℕ → Type 0) (items numbers first : List ℕ) (at told : ℕ) (is : slice_get items at ≡ Some told)
-    (so : (v : ℕ) → Among v numbers ↔ (Among v first ⊎ (watch v × Among v (take at items)))) where
-  pub noted_in : watch told → (v : ℕ)
-      → Among v (with_number told numbers) ↔ (Among v first ⊎ (watch v × Among v (take (at + 1) items)))
-  noted_in watches v = (
-    λ among. elim ((among_with v told numbers).0 among) [
-      | inl was ↦ elim ((so v).0 was) [
-        | inl old ↦ inl old
-        | inr new ↦ inr (new.0, (among_take items at told v is).1 (inl new.1))
-      ]
-      | inr same ↦ inr (subst watch (sym same) watches, (among_take items at told v is).1 (inr same))
-    ],
-    λ either. (among_with v told numbers).1 (elim either [
-      | inl old ↦ inl ((so v).1 (inl old))
-      | inr new ↦ elim ((among_take items at told v is).0 new.1) [
-        | inl was ↦ inl ((so v).1 (inr (new.0, was)))
-        | inr same ↦ inr same
-      ]
-    ]),
-  )
-
-  pub noted_out : (watch told → ⊥) → (v : ℕ) → Among v numbers ↔ (Among v first ⊎ (watch v × Among v (take (at + 1) items)))
-  noted_out never v = (
-    λ among. elim ((so v).0 among) [
-      | inl old ↦ inl old
-      | inr new ↦ inr (new.0, (among_take items at told v is).1 (inl new.1))
-    ],
-    λ either. elim either [
-      | inl old ↦ (so v).1 (inl old)
-      | inr new ↦ elim ((among_take items at told v is).0 new.1) [
-        | inl was ↦ (so v).1 (inr (new.0, was))
-        | inr same ↦ absurd (never (subst watch same new.0))
-      ]
-    ],
-  )
-
-  pub noted_step : (numbers2 : List ℕ) → (watch told × (numbers2 ≡ with_number told numbers)) ⊎ ((watch told → ⊥) × (numbers2 ≡ numbers))
-      → (v : ℕ) → Among v numbers2 ↔ (Among v first ⊎ (watch v × Among v (take (at + 1) items)))
-  noted_step numbers2 (inl now) = subst (λ (l : List ℕ). (v : ℕ) → Among v l ↔ (Among v first ⊎ (watch v × Among v (take (at + 1) items))))
-      (sym now.1) (noted_in now.0)
-  noted_step numbers2 (inr never) = subst (λ (l : List ℕ). (v : ℕ) → Among v l ↔ (Among v first ⊎ (watch v × Among v (take (at + 1) items))))
-      (sym never.1) (noted_out never.0)
 
 pub any_of : (numbers : List ℕ) (b : Bool) → b ≡ (length numbers == 0) → IsTrue (not b) ↔ ((x : ℕ) × Among x numbers)
 any_of [] true is = (λ never. absurd (cc), λ some. absurd some.1)

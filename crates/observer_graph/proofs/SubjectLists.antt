@@ -1,5 +1,5 @@
 -- Linked pairs as lists of subjects.
-use Rattle.std.proofs.Common.{◌≡◌, inl, inr, ℕ, zero, suc, ◌+◌, ◌<◌, Bool, true, false, List, [], ◌∷◌, ◌++◌, length, map, refl, sym, ap, ◌∙◌, subst, arith, append-nil, Option, Some, None}
+use Rattle.std.proofs.Common.{◌≡◌, inl, inr, ℕ, zero, suc, ◌+◌, ◌<◌, Bool, true, false, List, [], ◌∷◌, ◌++◌, length, map, refl, sym, ap, ◌∙◌, subst, arith, Option, Some, None}
 use Rattle.std.specs.Prelude.{◌↔◌, is_some, IsSome, slice_index_or, slice_set}
 use Rattle.std.specs.List.{sum_by}
 use Rattle.std.proofs.lemmas.Bool.{cases_eq}
@@ -8,7 +8,7 @@ use Rattle.walks.specs.Walk.{Among, IsOnce}
 use Rattle.edge_lists.specs.EdgesView.{EdgesView, IsPair, IsWhole, SameNodes, TakesNode, pair_count, subjects_of, subject_lists, with_node, no_heads, below}
 use Rattle.edge_lists.proofs.Counting.{listed_count}
 use Rattle.edge_lists.proofs.Listing.{among_subjects, subject_list, length_below}
-use Rattle.observer_graph.specs.Lists.{list_at, is_marked, ArePairs, SetView, Extends, PairsView, IsLinked}
+use Rattle.observer_graph.specs.Lists.{list_at, is_marked, ArePairs, PairsView, IsLinked}
 
 module _ {A : Type 0} where
   -- which places hold something
@@ -109,26 +109,6 @@ pub grown_view : (v : EdgesView) → IsWhole v
     ≡ linked_view v.spare (subject_lists v ++ [] ∷ []) (map is_some v.nodes ++ true ∷ [])
 grown_view v whole = ap (λ (s : List (List ℕ)). linked_view v.spare s (map is_some (v.nodes ++ Some no_heads ∷ []))) (with_node_lists v whole)
     ∙ ap (linked_view v.spare (subject_lists v ++ [] ∷ [])) (marks_last v.nodes no_heads)
-
--- sets that grow by the same nodes
-pub extends_as : (a b : SetView) (P Q : ℕ → Type 0) → ((o : ℕ) → P o ↔ Q o) → Extends a b P → Extends a b Q
-extends_as a b P Q same f = record {
-  room = f.room;
-  spare = f.spare;
-  end = f.end;
-  items = λ o. (
-    λ x. elim ((f.items o).0 x) [ inl was ↦ inl was | inr p ↦ inr ((same o).0 p) ],
-    λ x. (f.items o).1 (elim x [ inl was ↦ inl was | inr q ↦ inr ((same o).1 q) ]),
-  );
-}
-
-pub extends_none_of : (a : SetView) (P : ℕ → Type 0) → ((o : ℕ) → P o → Among o a.items) → Extends a a P
-extends_none_of a P within = record {
-  room = refl;
-  spare = refl;
-  end = ([], sym (append-nil a.items));
-  items = λ o. ((λ x. inl x), λ x. elim x [ inl was ↦ was | inr p ↦ within o p ]);
-}
 
 -- the lists have as many pairs as there are, so where places and pairs together are as many as before, the same holds of
 -- places and lists

@@ -10,12 +10,10 @@ use Rattle.observer_graph.specs.declared.node.Flags.{Flags}
 use Rattle.observer_graph.specs.declared.node.Node.{Node}
 use Rattle.observer_graph.specs.Lists.{AreOnce, IsLinked, is_marked, list_at, PairsView, SetView}
 use Rattle.observer_graph.specs.Stands.{Stands}
-use Rattle.observer_graph.specs.Walks.{IsWithin, graph_of}
-use Rattle.walks.specs.Walk.Below.{next, beyond}
+use Rattle.observer_graph.specs.Walks.{graph_of}
 use Rattle.observer_graph.specs.GraphView.{GraphView, IsWhole, IsLive, IsLazy, IsPair, IsPlain, HasFlags, node_at, no_flags}
-use Rattle.observer_graph.specs.Notice.{IsTold, Settles, unsettled}
+use Rattle.observer_graph.specs.Notice.{Settles, unsettled}
 use Rattle.observer_graph.specs.Change.{with_node, with_flags, with_source, flagged}
-use Rattle.observer_graph.proofs.Members.{among_or_not}
 use Rattle.observer_graph.proofs.Marks.{marked_front}
 use Rattle.observer_graph.proofs.SubjectLists.{marks_some, same_marks}
 
@@ -351,12 +349,6 @@ pub node_read : (nodes : List (Option Node)) (place o : ℕ) (node : Option Node
     → node ≡ slice_index_or nodes place node → node ≡ slice_index_or nodes o None
 node_read nodes place o node same low is = is ∙ ap (λ (i : ℕ). slice_index_or nodes i node) same
     ∙ get_or_default nodes o node None low
-
--- all pairs are of nodes within
-pub pairs_within : (nodes : List (Option Node)) (pairs : PairsView) (sources wave : SetView)
-    → Stands nodes pairs sources wave → IsWithin pairs.subjects (length nodes)
-pairs_within nodes pairs sources wave s x o a = let e = s.whole.ends x o a in
-    (live_within nodes x e.0, live_within nodes o e.1)
 
 -- a graph after a notice stands
 pub stands_told : (nodes nodes2 : List (Option Node)) (pairs : PairsView) (sources sources2 wave : SetView)

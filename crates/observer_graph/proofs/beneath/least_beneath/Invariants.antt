@@ -1,4 +1,4 @@
-use Rattle.std.proofs.Common.{◌≡◌, ◌+◌, ℕ, length, true, None}
+use Rattle.std.proofs.Common.{◌≡◌, ◌+◌, length, true, None}
 use Rattle.std.specs.Prelude.{not, slice_index_or}
 use Rattle.walks.specs.Walk.{Among}
 use Rattle.wave_queue.specs.Thread.{is_marked, open_count}

@@ -1,5 +1,4 @@
 use Rattle.std.proofs.Common.{◌≡◌, ◌∙◌, ℕ, List, Bool, inl, inr, ap, refl, sym, subst, length, arith}
-use Rattle.walks.specs.Walk.{Among}
 use Rattle.edge_lists.proofs.Linking.{live_within}
 use Rattle.wave_queue.specs.Thread.{WaveView, is_marked, open_count}
 use Rattle.observer_graph.specs.Noticed.{AreNoticed}

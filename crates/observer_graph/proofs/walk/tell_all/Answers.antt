@@ -1,4 +1,4 @@
-use Rattle.std.proofs.Common.{◌≡◌, ◌∙◌, ℕ, arith, length, subst}
+use Rattle.std.proofs.Common.{◌≡◌, ℕ, arith, length, subst}
 use Rattle.observer_graph.specs.Noticed.{AreNoticed}
 use Rattle.observer_graph.proofs.Spreading.{noted_by, told_by}
 use Rattle.observer_graph.proofs.walk.tell_all.Goals as goal

@@ -1,4 +1,4 @@
-use Rattle.std.proofs.Common.{◌≡◌, ◌⊎◌, ◌<◌, ◌∙◌, ap, arith, length, refl, subst, ℕ, Bool, List, Option, None, true}
+use Rattle.std.proofs.Common.{◌≡◌, ◌⊎◌, ◌<◌, ◌∙◌, ap, arith, length, refl, subst, ℕ, Option, None, true}
 use Rattle.std.specs.Prelude.{slice_index_or, slice_set}
 use Rattle.walks.specs.Walk.{Among}
 use Rattle.observer_graph.specs.declared.node.Node.{Node}

@@ -1,4 +1,4 @@
-use Rattle.std.proofs.Common.{◌≡◌, ◌∙◌, ap, List, Option, length, refl, sym, subst, arith}
+use Rattle.std.proofs.Common.{◌∙◌, ap, List, Option, length, refl, sym, subst, arith}
 use Rattle.std.specs.Prelude.{vec_len}
 use Rattle.observer_graph.specs.declared.node.Node.{Node}
 use Rattle.observer_graph.specs.Lists.{PairsView}

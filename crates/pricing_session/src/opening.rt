@@ -1,0 +1,79 @@
+// A session for a script.
+ghost use Rattle.std.specs.Prelude.{◌≡◌, false, length, All, IfOk};
+ghost use Rattle.desk_terms.specs.Reading.{Calc};
+ghost use Rattle.desk_model.specs.Sound.{IsSound};
+ghost use Rattle.market_file.specs.Standing.{IsReady};
+ghost use Rattle.script_words.specs.Given.{Grows};
+ghost use Rattle.session_commands.specs.Whole.{IsCommand, IsScript};
+ghost use Rattle.session_lang.specs.Given.{GivesAt};
+ghost use Rattle.session_lang.specs.Reading.{script_meaning};
+ghost use Rattle.session_model.specs.Standing.{IsKnown, start_with};
+ghost use Rattle.session_model.specs.Course.{running};
+ghost use Rattle.pricing_session.specs.Opening.{opened};
+
+use day_number::Day;
+use desk_names::Names;
+use market_file::MadeList;
+use market_session::session_of;
+use session_commands::{Actions, CommandList, Script};
+use session_lang::{ScriptFault, read_script};
+use session_rounds::WatchedSession;
+use std::alloc::{AllocError, Global};
+use watch_rounds::Picker;
+
+/// The session of a market's objects that is ready for a script, and the commands of the script outside of its blocks,
+/// none of which is done yet. The names are those of the market and of the script, the actions those of the script's
+/// blocks. A text that is no script gives its first fault.
+///
+/// All that a step and a change want of their session and their command holds of it: it is not stopped, it knows each of
+/// these commands, and it is sound for every bench.
+pub fn session_for<P: Picker + Drop>(
+    alloc: Global,
+    mut names: Names,
+    today: Day,
+    made: MadeList,
+    text: &[u8],
+    picker: P,
+) -> Result<(WatchedSession<P>, CommandList), ScriptFault>
+    requires ready { IsReady names made.items }
+    ensures opens { GivesAt (λ begun. (begun.0, begun.1)) result (opened picker names today made.items text.now) }
+    ensures running { IfOk result (λ begun. begun.0.standing.stopped ≡ false) }
+    ensures known { IfOk result (λ begun. All (IsKnown begun.0.standing) begun.1) }
+    ensures sound { IfOk result (λ begun. (calc : Calc) → IsSound calc begun.0.standing.state) }
+{
+    let script = read(alloc, text, &mut names)?;
+    let session = started(alloc, names, today, made, script.actions, picker)?;
+    Ok((session, script.commands))
+}
+
+// The script of a text, whole.
+pub(crate) fn read(alloc: Global, text: &[u8], names: &mut Names) -> Result<Script, ScriptFault>
+    ensures gives { GivesAt (λ s. (s, names.new)) result (script_meaning names.old text.now) }
+    ensures whole { IfOk result (λ s. IsScript names.new s) }
+    ensures grows { Grows names.old names.new }
+{
+    let _ = names.len();
+    read_script(alloc, text, names)
+}
+
+// A session of a market's objects with the actions of a script.
+pub(crate) fn started<P: Picker + Drop>(
+    alloc: Global,
+    names: Names,
+    today: Day,
+    made: MadeList,
+    actions: Actions,
+    picker: P,
+) -> Result<WatchedSession<P>, AllocError>
+    requires ready { IsReady names made.items }
+    requires acting { All (λ block. All (IsCommand (length names) (length actions)) block) actions }
+    ensures begins { IfOk result (λ session. session ≡ running picker (start_with today names made.items actions)) }
+    ensures running { IfOk result (λ session. session.standing.stopped ≡ false) }
+    ensures names { IfOk result (λ session. session.standing.names ≡ names) }
+    ensures actions { IfOk result (λ session. session.standing.actions ≡ actions) }
+    ensures sound { IfOk result (λ session. (calc : Calc) → IsSound calc session.standing.state) }
+{
+    let session = session_of(alloc, names, today, made, actions)?;
+    let session = WatchedSession::new(alloc, session, picker)?;
+    Ok(session)
+}

@@ -3,9 +3,9 @@ use Rattle.std.proofs.Common.{◌≡◌, ℕ, zero, suc, ◌+◌, Bool, true, if
 use Rattle.std.proofs.lemmas.Int.{ints, by_lt_z}
 use Rattle.day_number.specs.Day.{IsDayNumber}
 use Rattle.day_shift.specs.Business.{previous, IsBusinessDay, IsPrevious}
-use Rattle.day_shift.specs.Counted.{business_days, business_days_from}
+use Rattle.holiday_calendars.specs.Counted.{business_days, business_days_from}
 use Rattle.day_shift.specs.Advanced.{and_then, days_before, DaysBeforeAreCounted}
-use Rattle.day_shift.proofs.CountLemmas.{count-more, count-none}
+use Rattle.holiday_calendars.proofs.CountLemmas.{count-more, count-none}
 use Rattle.day_shift.proofs.SearchLemmas.{previous-past}
 use Rattle.day_shift.proofs.SetLemmas.{by_test, by_option, previous-is, previous_is_greatest}
 

@@ -1,7 +1,6 @@
 pub mod AdjustedLemmas
 pub mod AdvanceLemmas
 pub mod AdvancedLemmas
-pub mod CountLemmas
 pub mod DaysBackLemmas
 pub mod DaysLemmas
 pub mod FoundLemmas

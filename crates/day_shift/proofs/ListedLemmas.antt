@@ -4,8 +4,8 @@ use Rattle.std.proofs.lemmas.Int.{ints, by_lt_z}
 use Rattle.std.proofs.lemmas.List.{length_push}
 use Rattle.std.proofs.lemmas.List.Elements.{Contains-get_or, Contains-append_left, Contains-push, Contains-push_cases}
 use Rattle.std.proofs.lemmas.List.Quantifiers.{all_pairs_push}
-use Rattle.day_shift.specs.Counted.{business_days, CountIsOfTheDays}
-use Rattle.day_shift.proofs.CountLemmas.{count-more, count-none}
+use Rattle.holiday_calendars.specs.Counted.{business_days, CountIsOfTheDays}
+use Rattle.holiday_calendars.proofs.CountLemmas.{count-more, count-none}
 use Rattle.day_shift.proofs.SetLemmas.{by_test}
 
 -- the list of the business days among k days from a day on

@@ -13,7 +13,7 @@ use Rattle.holiday_calendars.specs.Easter.{moon_days, sunday_days, early_weeks, 
 use Rattle.holiday_calendars.specs.Target.{is_target_holiday}
 use Rattle.day_shift.specs.Business.{first_from, last_to, next, previous}
 use Rattle.day_shift.specs.Adjusted.{adjusted}
-use Rattle.day_shift.specs.Counted.{business_days, business_days_from}
+use Rattle.holiday_calendars.specs.Counted.{business_days, business_days_from}
 use Rattle.day_shift.specs.Advanced.{days_after, days_before, advanced}
 
 abbrev target : ℤ → Bool

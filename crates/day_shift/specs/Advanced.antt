@@ -8,7 +8,7 @@ use Rattle.day_number.specs.declared.tenors.Unit.TheVariants.{Days, Weeks, Month
 use Rattle.day_number.specs.Day.{IsDayNumber}
 use Rattle.day_number.specs.Shift.{months_later}
 use Rattle.day_shift.specs.Business.{IsBusinessDay, day_at, next, previous}
-use Rattle.day_shift.specs.Counted.{business_days_from}
+use Rattle.holiday_calendars.specs.Counted.{business_days_from}
 use Rattle.day_shift.specs.Month.{IsMonthInRange, month_at}
 use Rattle.day_shift.specs.Adjusted.{IsAdjusted, adjusted}
 use Rattle.day_shift.specs.MonthEnd.{IsLastOpen, IsAtMonthEnd, last_open, is_from}

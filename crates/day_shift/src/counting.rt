@@ -1,11 +1,10 @@
 // Business days counted.
 ghost use Rattle.std.specs.Prelude.{◌≡◌, List, length, ℤ, pos, ◌≤ℤ◌};
 ghost use Rattle.holiday_calendars.specs.Calendar.{is_business_day};
-ghost use Rattle.day_shift.specs.Counted.{AreBusinessDays, business_days_from};
+ghost use Rattle.holiday_calendars.specs.Counted.{AreBusinessDays, business_days_from};
 
-use crate::searches::shifted;
 use day_number::Day;
-use holiday_calendars::Calendar;
+use holiday_calendars::{Calendar, business_days};
 
 /// How many business days lie from a day on, which counts, to a later or equal day, which does not (QuantLib's
 /// Calendar::businessDaysBetween).
@@ -15,14 +14,5 @@ pub fn business_days_between(calendar: &Calendar, from: Day, to: Day) -> i32
         × (result ≡ pos (length days)) }
     ensures value { result ≡ pos (business_days_from (is_business_day calendar.now) from to) }
 {
-    let mut count = 0;
-    let days = to.number() - from.number();
-    for step in 0..days {
-        if let Some(there) = shifted(from, step) {
-            if calendar.is_business(there) {
-                count += 1;
-            }
-        }
-    }
-    count
+    business_days(calendar, from, to)
 }

@@ -2,7 +2,7 @@
 ghost use Rattle.day_shift.specs.Adjusted.{AdjustedIsTheDay, BusinessDaysStay, AdjustedIsOpen, AdjustedKeepsOrder};
 ghost use Rattle.day_shift.specs.Advanced.{AdvancedIsTheDay, AdvancedIsOpen, AdvancedIsNotBefore, DaysAfterAreCounted, DaysBeforeAreCounted};
 ghost use Rattle.day_shift.specs.Business.{NextIsLeast, PreviousIsGreatest};
-ghost use Rattle.day_shift.specs.Counted.{CountIsOfTheDays};
+ghost use Rattle.holiday_calendars.specs.Counted.{CountIsOfTheDays};
 ghost use Rattle.day_shift.specs.Month.{OneMonthIsYearAndMonth};
 ghost use Rattle.day_shift.specs.MonthEnd.{LastOpenIsGreatest, NoLastOpenIsNoBusinessDay};
 

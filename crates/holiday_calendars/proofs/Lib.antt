@@ -1,4 +1,5 @@
 mod CastLemmas
+pub mod CountLemmas
 pub mod ListedLemmas
 pub mod Rows
 mod SundayLaw

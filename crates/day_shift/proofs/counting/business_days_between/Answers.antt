@@ -1,48 +1,12 @@
-use Rattle.std.proofs.Common.{◌≡◌, pos, ◌≤ℤ◌, ◌+ℤ◌, ◌-ℤ◌, arith, ap, ◌∙◌, sym, to_z, w32, FitsSigned, to_z-of_z, unsigned_abs}
-use Rattle.std.proofs.lemmas.Int.{ints}
+use Rattle.std.proofs.Common.{ap, ◌∙◌, arith, pos, w32, FitsSigned, to_z-of_z}
 use Rattle.jiff_core.proofs.SignedLemmas.{signed_arith}
 use Rattle.holiday_calendars.specs.Calendar.{is_business_day}
-use Rattle.day_shift.specs.Counted.{business_days}
-use Rattle.day_shift.proofs.SearchLemmas.{day_at-found, day_at-none}
-use Rattle.day_shift.proofs.CountLemmas.{business_days-one_more, business_days-no_more, count-none}
 use Rattle.day_shift.proofs.ListedLemmas.{count_is_of_the_days}
 use Rattle.day_shift.proofs.counting.business_days_between.Goals as goal
-use Rattle.day_shift.proofs.counting.business_days_between.Goals.{in-Some+then-is_business, in-Some+else-is_business, in_default}
-
-pub loop-step-init : goal.loop-step-init
-loop-step-init c =
-    record { counted = ap pos (sym (count-none (is_business_day c.args.calendar.now) c.args.from)); low = omega (arith, ints); within = omega (arith, signed_arith, c.number.ensures, c.number-2.ensures, c.requires); small = omega (arith, ints) }
-
-pub loop-step-preserved : goal.loop-step-preserved
-loop-step-preserved c =
-    let business = is_business_day c.args.calendar.now in
-    let step = to_z w32 c.loop-step.step-bits in
-    let count = to_z w32 c.loop-step.count-bits in
-    let old = c.loop-step.invariant in
-    let more : (step +ℤ pos 1) ≤ℤ (c.args.to -ℤ c.args.from) = omega (arith, signed_arith, c.number.ensures, c.number-2.ensures, c.loop-step-test.true) in
-    let fits : FitsSigned w32 (step +ℤ pos 1) = omega (arith, signed_arith, more, old.low, c.number.ensures, c.number-2.ensures) in
-    let back = to_z-of_z fits in
-    elim c.match-shifted.branch [
-      | in-Some+then-is_business w ↦
-          let there = (day_at-found (c.args.from +ℤ step) w.in-Some.there (sym c.shifted.ensures.value ∙ w.in-Some.is)).1 in
-          let is = ap business (sym there) ∙ sym w.is_business.ensures ∙ w.if-is_business.true in
-          let one = business_days-one_more business c.args.from step old.low is in
-          let room : FitsSigned w32 (count +ℤ pos 1) = omega (arith, signed_arith, more, old.low, old.small, old.counted, c.number.ensures, c.number-2.ensures) in
-          let counted = w.count-is ∙ to_z-of_z room in
-          rw back (record { counted = counted ∙ omega (arith, ints, old.counted, one); low = omega (arith, signed_arith, old.low); within = omega (arith, signed_arith, more, c.number.ensures, c.number-2.ensures); small = omega (arith, signed_arith, counted, old.small) })
-      | in-Some+else-is_business w ↦
-          let there = (day_at-found (c.args.from +ℤ step) w.in-Some.there (sym c.shifted.ensures.value ∙ w.in-Some.is)).1 in
-          let is = ap business (sym there) ∙ sym w.is_business.ensures ∙ w.if-is_business.false in
-          let none = business_days-no_more business c.args.from step old.low is in
-          rw back (record { counted = w.count-is ∙ omega (arith, ints, old.counted, none); low = omega (arith, signed_arith, old.low); within = omega (arith, signed_arith, more, c.number.ensures, c.number-2.ensures); small = omega (arith, signed_arith, w.count-is, old.small) })
-      | in_default w ↦
-          absurd (day_at-none (c.args.from +ℤ step) (sym c.shifted.ensures.value ∙ w.in_default.is) (omega (arith, signed_arith, old.low, c.number.ensures, c.number-2.ensures), omega (arith, signed_arith, more, c.number.ensures, c.number-2.ensures)))
-    ]
 
 pub returns : goal.returns
 returns c =
-    let business = is_business_day c.args.calendar.now in
-    let all : to_z w32 c.loop-step.step-bits ≡ c.args.to -ℤ c.args.from = omega (arith, signed_arith, c.number.ensures, c.number-2.ensures, c.loop-step-test.false, c.loop-step.invariant.within) in
-    let value = c.loop-step.invariant.counted ∙ ap (λ z. pos (business_days (unsigned_abs z) business c.args.from)) all in
-    let listed = count_is_of_the_days business c.args.from c.args.to c.requires in
+    let fits : FitsSigned w32 c.business_days.result = omega (arith, signed_arith, c.business_days.ensures.value, c.business_days.ensures.high) in
+    let value = to_z-of_z fits ∙ c.business_days.ensures.value in
+    let listed = count_is_of_the_days (is_business_day c.args.calendar.now) c.args.from c.args.to c.requires in
     record { days = (listed.0, listed.1, value ∙ ap pos listed.2); value = value }

@@ -1,7 +1,7 @@
 use Rattle.std.proofs.Common.{◌≡◌, pos, ◌≤ℤ◌, unsigned_abs}
 use Rattle.holiday_calendars.specs.Calendar.{is_business_day}
-use Rattle.day_shift.specs.Counted.{business_days}
-use Rattle.day_shift.proofs.counting.business_days_between.Given as goal
+use Rattle.holiday_calendars.specs.Counted.{business_days}
+use Rattle.holiday_calendars.proofs.counting.business_days.Given as goal
 
 abbrev pub invariant-loop-step : goal.invariant-loop-step
 invariant-loop-step l = record {

@@ -1,14 +1,15 @@
 -- The part of the year of an index's period is small.
-use Rattle.std.proofs.Common.{◌≡◌, ℕ, ◌≤◌, arith, refl, subst, Bool, true, false, if◌then◌else◌, min, ℤ, pos, negsuc, ◌-ℤ◌, ◌≤ℤ◌, int_lt, Option, Some, None, Ok, option_and_then}
+use Rattle.std.proofs.Common.{◌≡◌, ℕ, ◌≤◌, arith, refl, subst, Bool, true, false, if◌then◌else◌, min, ℤ, pos, negsuc, ◌-ℤ◌, ◌≤ℤ◌, unsigned_abs, int_lt, Option, Some, None, Ok, option_and_then}
 use Rattle.std.proofs.lemmas.Int.{ints}
-use Rattle.jiff_core.proofs.SignedLemmas.{signed_arith}
+use Rattle.jiff_core.proofs.SignedLemmas.{signed_arith, unsigned_abs-parts, one_part}
 use Rattle.jiff_core.proofs.CalendarLemmas.{days_in_month_bounds}
 use Rattle.day_number.specs.Day.{IsDayNumber, CivilDate, IsCivil, date_of}
 use Rattle.day_number.proofs.DayLemmas.{date_of-is}
 use Rattle.year_parts.specs.declared.counters.Counter.{Counter}
-use Rattle.year_parts.specs.declared.counters.Counter.TheVariants.{Act360, Act365, ActAct, Thirty360, ThirtyE360}
+use Rattle.year_parts.specs.declared.counters.Counter.TheVariants.{Act360, Act365, ActAct, Thirty360, ThirtyE360, Bus252}
 use Rattle.year_parts.specs.Basis.{most_of_a_period}
 use Rattle.holiday_calendars.specs.Calendar.{is_business_day}
+use Rattle.holiday_calendars.proofs.CountLemmas.{business_days-bound}
 use Rattle.day_counters.specs.CivilDate.{at_least_zero, bond_basis_days, european_days}
 use Rattle.day_counters.specs.Counter.{frac}
 use Rattle.day_counters.proofs.ThirtyLemmas.{bond_day_bounds}
@@ -50,6 +51,10 @@ parts_bound Thirty360 business from to first last =
 parts_bound ThirtyE360 business from to first last =
     let count = count_bound (european_days (date_of from) (date_of to)) (european_bound (date_of from) (date_of to) (date_of-is from first).0 (date_of-is to last).0) in
     omega (arith, count)
+parts_bound Bus252 business from to first last =
+    let count = business_days-bound (unsigned_abs (to -ℤ from)) business from in
+    let days : unsigned_abs (to -ℤ from) ≤ 110_000 = omega (arith, signed_arith, first, last, unsigned_abs-parts (to -ℤ from), one_part (to -ℤ from)) in
+    omega (arith, count, days)
 
 some_is : {A : Type 0} (a b : A) → Some a ≡ Some b → a ≡ b
 some_is {A} a b is = cc

@@ -1,5 +1,5 @@
 // The files of rows.
-use crate::counted::count_agrees;
+use crate::counted::{business_agrees, count_agrees};
 use crate::days::{
     date_agrees, day_agrees, easter_agrees, later_agrees, place_agrees, tenor_agrees,
 };
@@ -35,6 +35,7 @@ pub(crate) enum Table {
     Later,
     Tenors,
     Counts,
+    Business,
     Easter,
     Calendars,
     Adjusted,
@@ -43,13 +44,14 @@ pub(crate) enum Table {
     Schedules,
 }
 
-pub(crate) const TABLES: [Table; 12] = [
+pub(crate) const TABLES: [Table; 13] = [
     Table::Days,
     Table::Dates,
     Table::Places,
     Table::Later,
     Table::Tenors,
     Table::Counts,
+    Table::Business,
     Table::Easter,
     Table::Calendars,
     Table::Adjusted,
@@ -68,6 +70,7 @@ impl Table {
             Table::Later => "later",
             Table::Tenors => "tenors",
             Table::Counts => "counts",
+            Table::Business => "business",
             Table::Easter => "easter",
             Table::Calendars => "calendars",
             Table::Adjusted => "adjusted",
@@ -93,6 +96,7 @@ impl Table {
             Table::Later => later_agrees(row),
             Table::Tenors => tenor_agrees(row),
             Table::Counts => count_agrees(row),
+            Table::Business => business_agrees(alloc, row),
             Table::Easter => easter_agrees(row),
             Table::Calendars => calendar_agrees(alloc, row),
             Table::Adjusted => adjusted_agrees(alloc, row),

@@ -1,10 +1,14 @@
 -- The definitions at known days: numbers of days from Python's datetime, counts from QuantLib 1.29.
 use Rattle.std.proofs.Common.{◌≡◌, refl, ◌+◌, ◌*◌, ℤ, pos, Bool}
-use Rattle.year_parts.specs.declared.counters.Counter.TheVariants.{Act360, Act365, ActAct, Thirty360, ThirtyE360}
-use Rattle.holiday_calendars.specs.declared.bases.Base.TheVariants.{Null}
+use Rattle.year_parts.specs.declared.counters.Counter.TheVariants.{Act360, Act365, ActAct, Thirty360, ThirtyE360, Bus252}
+use Rattle.jiff_core.specs.Calendar.{days_from_civil, day_count, days_of_years, days_of_months, weekday_number}
+use Rattle.holiday_calendars.specs.declared.bases.Base.TheVariants.{Null, Target}
 use Rattle.holiday_calendars.specs.declared.calendars.Calendar.TheVariants.{One}
 use Rattle.holiday_calendars.specs.Calendar.{is_business_day}
-use Rattle.day_number.specs.Day.{date_of, date_after, date_in_year}
+use Rattle.holiday_calendars.specs.Counted.{business_days}
+use Rattle.holiday_calendars.specs.Easter.{moon_days, sunday_days, early_weeks, easter_place, easter_day}
+use Rattle.holiday_calendars.specs.Target.{is_target_holiday}
+use Rattle.day_number.specs.Day.{civil_number, date_of, date_after, date_in_year}
 use Rattle.day_counters.specs.Day.{act_act}
 use Rattle.day_counters.specs.Counter.{frac}
 
@@ -53,3 +57,18 @@ act_act_winter = refl
 act_act_none : frac ActAct every_day (pos 19_753) (pos 19_753) ≡ 0
 unfolding frac act_act
 act_act_none = refl
+
+-- 2024-03-28 to 2024-04-03 on TARGET: two business days, with Good Friday, a weekend and Easter Monday between them
+business_easter : frac Bus252 (is_business_day (One Target)) (pos 19_810) (pos 19_816) ≡ 89_060
+unfolding frac business_days is_business_day is_target_holiday weekday_number date_of date_after date_in_year moon_days sunday_days early_weeks easter_place easter_day civil_number days_from_civil day_count days_of_years days_of_months
+business_easter = refl
+
+-- without holidays every day counts, also that of a leap year
+business_every_day : frac Bus252 every_day (pos 19_781) (pos 19_784) ≡ 3 * 44_530
+unfolding frac business_days is_business_day
+business_every_day = refl
+
+-- a day to itself
+business_none : frac Bus252 every_day (pos 19_753) (pos 19_753) ≡ 0
+unfolding frac business_days
+business_none = refl

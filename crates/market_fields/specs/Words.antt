@@ -34,7 +34,8 @@ counter_of word =
     else (if bytes_eq word (codes "actact") then Ok counters.ActAct
     else (if bytes_eq word (codes "thirty360") then Ok counters.Thirty360
     else (if bytes_eq word (codes "thirtye360") then Ok counters.ThirtyE360
-    else Err fault.Choice))))
+    else (if bytes_eq word (codes "bus252") then Ok counters.Bus252
+    else Err fault.Choice)))))
 
 -- the rule of schedules
 abbrev pub rule_of : List ℕ → Result Rule MarketKind

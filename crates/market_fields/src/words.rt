@@ -39,6 +39,7 @@ pub(crate) fn counter_of(word: &str) -> Result<Counter, TableFault>
         "actact" => Ok(Counter::ActAct),
         "thirty360" => Ok(Counter::Thirty360),
         "thirtye360" => Ok(Counter::ThirtyE360),
+        "bus252" => Ok(Counter::Bus252),
         _ => Err(NO_CHOICE),
     }
 }

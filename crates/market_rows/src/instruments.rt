@@ -225,5 +225,6 @@ fn counter_text(counter: Counter) -> &'static [u8] {
         Counter::ActAct => b"actact",
         Counter::Thirty360 => b"thirty360",
         Counter::ThirtyE360 => b"thirtye360",
+        Counter::Bus252 => b"bus252",
     }
 }

@@ -29,4 +29,5 @@ counter_of name =
     else (if bytes_eq name (codes "act365") then Some counter.Act365
     else (if bytes_eq name (codes "actact") then Some counter.ActAct
     else (if bytes_eq name (codes "thirty360") then Some counter.Thirty360
-    else (if bytes_eq name (codes "thirtye360") then Some counter.ThirtyE360 else None))))
+    else (if bytes_eq name (codes "thirtye360") then Some counter.ThirtyE360
+    else (if bytes_eq name (codes "bus252") then Some counter.Bus252 else None)))))

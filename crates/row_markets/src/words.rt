@@ -40,6 +40,7 @@ pub fn counter_of(name: &str) -> Option<Counter>
         "actact" => Some(Counter::ActAct),
         "thirty360" => Some(Counter::Thirty360),
         "thirtye360" => Some(Counter::ThirtyE360),
+        "bus252" => Some(Counter::Bus252),
         _ => None,
     }
 }

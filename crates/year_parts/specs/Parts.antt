@@ -1,7 +1,7 @@
 -- Year fractions as whole numbers of parts.
 use Rattle.std.specs.Prelude.{ℕ, ◌*◌, ◌^◌, ℤ, pos, ◌≤ℤ◌}
 
--- the parts of a year (this project's unit: 360 * 31,171 = 365 * 30,744 = 366 * 30,660)
+-- the parts of a year (this project's unit: 360 * 31,171 = 365 * 30,744 = 366 * 30,660 = 252 * 44,530)
 abbrev pub parts_in_year : ℕ
 parts_in_year = 11_221_560
 

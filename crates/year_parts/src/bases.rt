@@ -4,16 +4,17 @@ ghost use Rattle.year_parts.specs.Basis.{parts_in_day};
 
 use crate::YearParts;
 
-/// A year of 360, 365 or 366 days.
+/// A year of 360, 365 or 366 days, or of 252 business days.
 #[derive(Clone, Copy, Debug, PartialEq, Eq)]
 pub enum Basis {
     D360,
     D365,
     D366,
+    D252,
 }
 
 impl Basis {
-    /// The parts of a day: 31,171 over 360, 30,744 over 365 and 30,660 over 366.
+    /// The parts of a day: 31,171 over 360, 30,744 over 365, 30,660 over 366 and 44,530 over 252.
     pub fn parts_in_day(self) -> i64
         ensures { result ≡ pos (parts_in_day self) }
     {
@@ -21,6 +22,7 @@ impl Basis {
             Basis::D360 => 31_171,
             Basis::D365 => 30_744,
             Basis::D366 => 30_660,
+            Basis::D252 => 44_530,
         }
     }
 }

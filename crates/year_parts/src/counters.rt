@@ -14,4 +14,6 @@ pub enum Counter {
     Thirty360,
     /// Months of 30 days and years of 360, with each day 31 taken as 30 (`Thirty360`, European).
     ThirtyE360,
+    /// The business days of a calendar from the first date to the second, which does not count, over 252 (`Business252`).
+    Bus252,
 }

@@ -1,5 +1,5 @@
-//! Year fractions as whole numbers of parts, 11,221,560 parts to the year, so that a day over 360, 365 or 366 is a whole
-//! number of parts and no fraction is ever rounded; with the names of the ways to count days.
+//! Year fractions as whole numbers of parts, 11,221,560 parts to the year, so that a day over 360, 365, 366 or 252 is a
+//! whole number of parts and no fraction is ever rounded; with the names of the ways to count days.
 //!
 //! `YearParts`, `PARTS_IN_YEAR`, `Basis`, `of_days`, `add`; `Counter`.
 #![tactic(auto)]

@@ -3,7 +3,7 @@ ghost use Rattle.std.specs.Prelude.{◌≡◌, pos, ◌^◌, ◌≤ℤ◌, ◌+�
 
 use std::marker::Model;
 
-/// The parts of a year: 360 days of 31,171 parts, 365 days of 30,744 or 366 days of 30,660.
+/// The parts of a year: 360 days of 31,171 parts, 365 of 30,744, 366 of 30,660 or 252 of 44,530.
 pub const PARTS_IN_YEAR: i64 = 11_221_560;
 
 /// A year fraction in parts, `PARTS_IN_YEAR` to the year, from 0 to 2 * 10^12 parts.

@@ -103,9 +103,9 @@ target_index days = record fifty_days { cal = One Target; fixing_days = days }
 -- the days are 2024-01-02 (19,724), 2024-02-21 (19,774), 2024-02-27 (19,780), 2024-03-27 to 2024-04-03 (19,809 to 19,816),
 -- 2024-04-11 (19,824), 2024-04-30 (19,843), 2025-01-06 (20,094), 2026-01-05 (20,458) and 2199-12-31 (84,005)
 pub record AreWorked : Type 0 where
-  pub fixed : each_period (fixed_flow every_day (neg_ℤ million) (pos 30_000_000) Act360) fifty_day_period
+  pub fixed : each_period (fixed_flow every_day 0 (neg_ℤ million) (pos 30_000_000) Act360) fifty_day_period
       ≡ Some paid_leg
-  pub floating : each_period (float_flow every_day million (pos 0) Act360 fifty_days) fifty_day_period
+  pub floating : each_period (float_flow every_day 0 million (pos 0) Act360 fifty_days) fifty_day_period
       ≡ Some received_leg
   pub swap : live_flows (Some plain_index) (pos 19_724) (pos 19_724) (Some one_node) 7 swap_flows
       ≡ Ok (paid (pos 19_824) (neg_ℤ (pos 4_166_666_667)) ∷ paid (pos 19_824) (pos 5_000_000_000) ∷ [])
@@ -115,23 +115,33 @@ pub record AreWorked : Type 0 where
   pub settled : amount_of (Some plain_index) (pos 19_724) (Some one_node) 7 three_percent ≡ Ok (pos 829_187_396)
   pub days : (cal : Bor Calendar) → schedule target (bond_plan cal) ≡ Ok (pos 19_726 ∷ pos 20_094 ∷ pos 20_458 ∷ [])
   pub coupons : each_period
-      (fixed_flow target million (pos 40_000_000) Thirty360)
+      (fixed_flow target 0 million (pos 40_000_000) Thirty360)
       (pos 19_726 ∷ pos 20_094 ∷ pos 20_458 ∷ [])
       ≡ Some (Known (pos 20_094) (pos 40_222_222_222) (accruing 19_726 20_094)
       ∷ Known (pos 20_458) (pos 39_888_888_889) (accruing 20_094 20_458) ∷ [])
-  pub redeemed : redemption_flow target (pos 20_457) million ≡ Some (Known (pos 20_458) million None)
-  pub redeemed_late : redemption_flow target (pos 19_812) million ≡ Some (Known (pos 19_815) million None)
+  pub redeemed : redemption_flow target 0 (pos 20_457) million ≡ Some (Known (pos 20_458) million None)
+  pub redeemed_late : redemption_flow target 0 (pos 19_812) million ≡ Some (Known (pos 19_815) million None)
+  pub redeemed_two_after : redemption_flow target 2 (pos 19_810) million ≡ Some (Known (pos 19_816) million None)
+  pub redeemed_one_after_a_sunday : redemption_flow target 1 (pos 20_457) million ≡ Some (Known (pos 20_458) million None)
+  pub redeemed_never : redemption_flow every_day 1 (pos 84_005) million ≡ None
+  pub redeemed_on_the_last_day : redemption_flow every_day 0 (pos 84_005) million ≡ Some (Known (pos 84_005) million None)
   pub fixed_before : fixing_day (target_index 0) (pos 19_811) ≡ Some (pos 19_810)
   pub fixed_two_before : fixing_day (target_index 2) (pos 19_816) ≡ Some (pos 19_810)
   pub fixing_first : amount_of (Some plain_index) (pos 84_005) None 7 too_late ≡ Err (NoFixing 2 (pos 84_004))
   pub then_period : amount_of (Some stored_late) (pos 84_005) None 7 too_late ≡ Err (DateRange 2)
   pub no_divisor : settlement 7 million (pos 0) (pos 1_558_550) (neg_ℤ (pos 10_000_000_000)) ≡ Err (TooLarge 7)
-  pub paid_after_a_holiday : each_period (fixed_flow target million (pos 40_000_000) Act360) month_ends
+  pub paid_after_a_holiday : each_period (fixed_flow target 0 million (pos 40_000_000) Act360) month_ends
       ≡ Some (Known (pos 19_815) (pos 3_444_444_444) (accruing 19_782 19_813)
       ∷ Known (pos 19_843) (pos 3_333_333_333) (accruing 19_813 19_843) ∷ [])
-  pub floating_after_a_holiday : each_period (float_flow target million (pos 10_000_000) Act360 (target_index 2)) month_ends
+  pub floating_after_a_holiday : each_period (float_flow target 0 million (pos 10_000_000) Act360 (target_index 2)) month_ends
       ≡ Some (Float (pos 19_815) million (pos 10_000_000) (pos 966_301) (pos 19_780)
       ∷ Float (pos 19_843) million (pos 10_000_000) (pos 935_130) (pos 19_809) ∷ [])
+  pub paid_two_after : each_period (fixed_flow target 2 million (pos 40_000_000) Act360) month_ends
+      ≡ Some (Known (pos 19_816) (pos 3_444_444_444) (accruing 19_782 19_813)
+      ∷ Known (pos 19_846) (pos 3_333_333_333) (accruing 19_813 19_843) ∷ [])
+  pub floating_two_after : each_period (float_flow target 2 million (pos 10_000_000) Act360 (target_index 2)) month_ends
+      ≡ Some (Float (pos 19_816) million (pos 10_000_000) (pos 966_301) (pos 19_780)
+      ∷ Float (pos 19_846) million (pos 10_000_000) (pos 935_130) (pos 19_809) ∷ [])
   pub spread_added : amount_of (Some plain_index) (pos 19_724) (Some one_node) 7 (spread_flow million (pos 10_000_000))
       ≡ Ok (pos 6_388_888_889)
   pub spread_taken : amount_of (Some plain_index) (pos 19_724) (Some one_node) 7 (spread_flow million (neg_ℤ (pos 10_000_000)))

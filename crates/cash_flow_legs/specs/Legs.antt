@@ -1,9 +1,7 @@
 -- The flows of a leg: one for each period of a schedule.
-use Rattle.std.specs.Prelude.{ℤ, pos, Bool, List, [], ◌∷◌, Option, Some, None}
+use Rattle.std.specs.Prelude.{ℕ, ℤ, pos, Bool, List, [], ◌∷◌, Option, Some, None}
 use Rattle.year_parts.specs.declared.counters.Counter.{Counter}
 use Rattle.day_counters.specs.Counter.{frac}
-use Rattle.day_number.specs.declared.conventions.Convention.TheVariants.{Following}
-use Rattle.day_shift.specs.Adjusted.{adjusted}
 use Rattle.holiday_calendars.specs.Calendar.{is_business_day}
 use Rattle.flow_terms.specs.declared.indexes.IndexTerms.{IndexTerms}
 use Rattle.flow_terms.specs.declared.flows.FlowTerm.{FlowTerm}
@@ -13,7 +11,7 @@ use Rattle.flow_terms.specs.Ranges.{IsNotional}
 use Rattle.cash_flow_legs.specs.declared.periods.Coupon.{Coupon}
 use Rattle.cash_flow_legs.specs.declared.periods.Coupon.TheVariants as coupon
 use Rattle.cash_flow_legs.specs.declared.periods.Leg.{Leg}
-use Rattle.cash_flow_legs.specs.Days.{fixing_day}
+use Rattle.cash_flow_legs.specs.Days.{payment_day, fixing_day}
 use Rattle.cash_flow_legs.specs.Interest.{interest}
 
 -- a flow in front of others, where all are there
@@ -43,26 +41,26 @@ float_on None fixing notional spread parts = None
 float_on (Some paid) None notional spread parts = None
 float_on (Some paid) (Some fixing) notional spread parts = Some (Float paid notional spread parts fixing)
 
--- the interest at a rate for a period, which it keeps, paid at its end adjusted (QuantLib's FixedRateCoupon)
-abbrev pub fixed_flow : (ℤ → Bool) → ℤ → ℤ → Counter → ℤ → ℤ → Option FlowTerm
-fixed_flow business notional rate counter from to =
-    known_on (adjusted business Following to) (interest notional rate (pos (frac counter business from to)))
+-- the interest at a rate for a period, which it keeps, paid a lag after its end (QuantLib's FixedRateCoupon)
+abbrev pub fixed_flow : (ℤ → Bool) → ℕ → ℤ → ℤ → Counter → ℤ → ℤ → Option FlowTerm
+fixed_flow business lag notional rate counter from to =
+    known_on (payment_day business lag to) (interest notional rate (pos (frac counter business from to)))
     (Some (from, to))
 
--- the interest at an index's rate and a spread for a period, paid at its end adjusted and fixed before its start
+-- the interest at an index's rate and a spread for a period, paid a lag after its end and fixed before its start
 -- (QuantLib's IborCoupon)
-abbrev pub float_flow : (ℤ → Bool) → ℤ → ℤ → Counter → IndexTerms → ℤ → ℤ → Option FlowTerm
-float_flow business notional spread counter index from to =
-    float_on (adjusted business Following to) (fixing_day index from) notional spread (pos (frac counter business from to))
+abbrev pub float_flow : (ℤ → Bool) → ℕ → ℤ → ℤ → Counter → IndexTerms → ℤ → ℤ → Option FlowTerm
+float_flow business lag notional spread counter index from to =
+    float_on (payment_day business lag to) (fixing_day index from) notional spread (pos (frac counter business from to))
 
 -- the flow of a period by what a leg pays
-abbrev pub flow_by : (ℤ → Bool) → ℤ → Counter → Coupon → ℤ → ℤ → Option FlowTerm
-flow_by business notional counter (coupon.Fixed rate) = fixed_flow business notional rate counter
-flow_by business notional counter (coupon.Float spread index) = float_flow business notional spread counter index.now
+abbrev pub flow_by : (ℤ → Bool) → ℕ → ℤ → Counter → Coupon → ℤ → ℤ → Option FlowTerm
+flow_by business lag notional counter (coupon.Fixed rate) = fixed_flow business lag notional rate counter
+flow_by business lag notional counter (coupon.Float spread index) = float_flow business lag notional spread counter index.now
 
 -- the flow of a leg's period
 abbrev pub flow_of : Leg → ℤ → ℤ → Option FlowTerm
-flow_of leg = flow_by (is_business_day leg.cal.now) leg.notional leg.counter leg.coupon
+flow_of leg = flow_by (is_business_day leg.cal.now) leg.lag leg.notional leg.counter leg.coupon
 
 -- the rate or spread of what a leg pays
 abbrev pub rate_of : Coupon → ℤ

@@ -1,17 +1,16 @@
 -- Flows that stand alone.
-use Rattle.std.specs.Prelude.{ℤ, Bool, Option, Some, None}
-use Rattle.day_number.specs.declared.conventions.Convention.TheVariants.{Following}
+use Rattle.std.specs.Prelude.{ℕ, ℤ, Bool, Option, Some, None}
 use Rattle.day_shift.specs.Adjusted.{adjusted}
 use Rattle.holiday_calendars.specs.Calendar.{is_business_day}
 use Rattle.flow_terms.specs.declared.indexes.IndexTerms.{IndexTerms}
 use Rattle.flow_terms.specs.declared.flows.FlowTerm.{FlowTerm}
 use Rattle.flow_terms.specs.declared.flows.FlowTerm.TheVariants.{Forward}
-use Rattle.cash_flow_legs.specs.Days.{fixing_day}
+use Rattle.cash_flow_legs.specs.Days.{payment_day, fixing_day}
 use Rattle.cash_flow_legs.specs.Legs.{known_on}
 
--- the notional, paid on the end adjusted, for no period (QuantLib's Redemption)
-abbrev pub redemption_flow : (ℤ → Bool) → ℤ → ℤ → Option FlowTerm
-redemption_flow business end notional = known_on (adjusted business Following end) notional None
+-- the notional, paid a lag after the end, for no period (QuantLib's Redemption)
+abbrev pub redemption_flow : (ℤ → Bool) → ℕ → ℤ → ℤ → Option FlowTerm
+redemption_flow business lag end notional = known_on (payment_day business lag end) notional None
 
 -- a settlement on a day, where its rate is fixed on a day
 abbrev pub settled_on : ℤ → Option ℤ → ℤ → ℤ → Option FlowTerm

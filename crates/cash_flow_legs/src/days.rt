@@ -1,20 +1,20 @@
 // The days on which flows are paid and rates are fixed.
 ghost use Rattle.std.specs.Prelude.{◌≡◌};
 ghost use Rattle.holiday_calendars.specs.Calendar.{is_business_day};
-ghost use Rattle.day_number.specs.declared.conventions.Convention.TheVariants.{Following};
-ghost use Rattle.day_shift.specs.Adjusted.{adjusted};
-ghost use Rattle.cash_flow_legs.specs.Days.{fixing_day};
+ghost use Rattle.cash_flow_legs.specs.Days.{payment_day, fixing_day};
 
 use day_number::{Convention, Day, Unit};
-use day_shift::{adjust, advance};
+use day_shift::advance;
 use flow_terms::IndexTerms;
 use holiday_calendars::Calendar;
 
-/// The day on which what is due on a day is paid: the next business day at or after it, where there is one.
-pub(crate) fn payment_day(cal: &Calendar, day: Day) -> Option<Day>
-    ensures { result ≡ adjusted (is_business_day cal.now) Following day }
+/// The day on which what is due on a day is paid, where there is one: a lag of business days after it, and without a
+/// lag the next business day at or after it.
+pub(crate) fn payment_day(cal: &Calendar, day: Day, lag: u8) -> Option<Day>
+    ensures { result ≡ payment_day (is_business_day cal.now) lag day }
 {
-    adjust(cal, day, Convention::Following).ok()
+    let on = i32::from(lag);
+    advance(cal, day, on, Unit::Days, Convention::Following, false).ok()
 }
 
 /// The day on which the rate for a period from a day on is fixed, where there is one: the index's fixing days before

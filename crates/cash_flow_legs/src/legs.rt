@@ -16,12 +16,14 @@ use schedule_rules::Schedule;
 use year_parts::Counter;
 
 /// Appends interest at a rate on a notional, at most 10^18 units either way, for each period of a schedule (QuantLib's
-/// `FixedRateLeg`). It is paid on the calendar's next business day at or after the period's end, and its parts run
-/// from one day of the schedule to the next, which it keeps as its period. `DateRange` where a payment has no day,
-/// whatever the memory; a fault leaves the list as it was.
+/// `FixedRateLeg`). It is paid so many of the calendar's business days after the period's end as the lag says, and
+/// without a lag on the next business day at or after that end. Its parts run from one day of the schedule to the next,
+/// which it keeps as its period. `DateRange` where a payment has no day, whatever the memory; a fault leaves the list as
+/// it was.
 pub fn fixed_leg(
     schedule: &Schedule,
     cal: &Calendar,
+    lag: u8,
     notional: Amount,
     rate: Rate,
     counter: Counter,
@@ -29,14 +31,15 @@ pub fn fixed_leg(
 ) -> Result<(), LegFault>
     requires notional { IsNotional notional }
     requires rate { IsRate rate }
-    ensures flows { let flow = fixed_flow (is_business_day cal.now) notional rate counter in
+    ensures flows { let flow = fixed_flow (is_business_day cal.now) lag notional rate counter in
         Appends (each_period flow schedule.now) out.old out.new result }
-    ensures day { let flow = fixed_flow (is_business_day cal.now) notional rate counter in
+    ensures day { let flow = fixed_flow (is_business_day cal.now) lag notional rate counter in
         IfNone (each_period flow schedule.now) (result ≡ Err DateRange) }
     ensures range { AddsInRange out.old out.new }
 {
     let leg = Leg {
         cal,
+        lag,
         notional,
         counter,
         coupon: Coupon::Fixed(rate),
@@ -51,6 +54,7 @@ pub fn fixed_leg(
 pub fn float_leg(
     schedule: &Schedule,
     cal: &Calendar,
+    lag: u8,
     notional: Amount,
     spread: Rate,
     counter: Counter,
@@ -59,14 +63,15 @@ pub fn float_leg(
 ) -> Result<(), LegFault>
     requires notional { IsNotional notional }
     requires spread { IsRate spread }
-    ensures flows { let flow = float_flow (is_business_day cal.now) notional spread counter index.now in
+    ensures flows { let flow = float_flow (is_business_day cal.now) lag notional spread counter index.now in
         Appends (each_period flow schedule.now) out.old out.new result }
-    ensures day { let flow = float_flow (is_business_day cal.now) notional spread counter index.now in
+    ensures day { let flow = float_flow (is_business_day cal.now) lag notional spread counter index.now in
         IfNone (each_period flow schedule.now) (result ≡ Err DateRange) }
     ensures range { AddsInRange out.old out.new }
 {
     let leg = Leg {
         cal,
+        lag,
         notional,
         counter,
         coupon: Coupon::Float(spread, index),

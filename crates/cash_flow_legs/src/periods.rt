@@ -32,6 +32,8 @@ pub enum Coupon<'a> {
 pub struct Leg<'a> {
     /// The calendar of its payments, and of the business days that its counter counts.
     pub cal: &'a Calendar,
+    /// How many business days lie from a period's end to its payment.
+    pub lag: u8,
     pub notional: Amount,
     /// How the days of a period are counted as a part of a year.
     pub counter: Counter,
@@ -102,7 +104,7 @@ fn period_flow(leg: &Leg<'_>, from: Day, to: Day) -> Option<FlowTerm>
     ensures flow { result ≡ flow_of leg.now from to }
     ensures range { IfSome result IsFlow }
 {
-    let paid = payment_day(leg.cal, to)?;
+    let paid = payment_day(leg.cal, to, leg.lag)?;
     let parts = fraction(leg.counter, leg.cal, from, to);
     match leg.coupon {
         Coupon::Fixed(rate) => Some(FlowTerm::Known {

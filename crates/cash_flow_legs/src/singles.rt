@@ -15,21 +15,23 @@ use fixed_amount::{Amount, Rate};
 use flow_terms::{FlowTerm, FlowTermList, IndexTerms};
 use holiday_calendars::Calendar;
 
-/// Appends the notional, at most 10^18 units either way, paid on the calendar's next business day at or after the end
-/// (QuantLib's `Redemption`). `DateRange` where there is none, whatever the memory; a fault leaves the list as it was.
+/// Appends the notional, at most 10^18 units either way, paid a lag of the calendar's business days after the end, and
+/// without a lag on the next business day at or after it (QuantLib's `Redemption`). `DateRange` where there is no such
+/// day, whatever the memory; a fault leaves the list as it was.
 pub fn redemption(
     cal: &Calendar,
     end: Day,
+    lag: u8,
     notional: Amount,
     out: &mut FlowTermList,
 ) -> Result<(), LegFault>
     requires { IsNotional notional }
-    ensures flows { let flow = single.redemption_flow (is_business_day cal.now) end notional in
+    ensures flows { let flow = single.redemption_flow (is_business_day cal.now) lag end notional in
         Appends (one_flow flow) out.old out.new result }
-    ensures day { IfNone (single.redemption_flow (is_business_day cal.now) end notional) (result ≡ Err DateRange) }
+    ensures day { IfNone (single.redemption_flow (is_business_day cal.now) lag end notional) (result ≡ Err DateRange) }
     ensures range { AddsInRange out.old out.new }
 {
-    let Some(flow) = redemption_flow(cal, end, notional) else {
+    let Some(flow) = redemption_flow(cal, end, lag, notional) else {
         return Err(LegFault::DateRange);
     };
     out.push(flow)?;
@@ -37,12 +39,12 @@ pub fn redemption(
 }
 
 // The flow of a redemption, where there is a day for it.
-fn redemption_flow(cal: &Calendar, end: Day, notional: Amount) -> Option<FlowTerm>
+fn redemption_flow(cal: &Calendar, end: Day, lag: u8, notional: Amount) -> Option<FlowTerm>
     requires { IsNotional notional }
-    ensures flow { result ≡ single.redemption_flow (is_business_day cal.now) end notional }
+    ensures flow { result ≡ single.redemption_flow (is_business_day cal.now) lag end notional }
     ensures range { IfSome result IsFlow }
 {
-    let paid = payment_day(cal, end)?;
+    let paid = payment_day(cal, end, lag)?;
     Some(FlowTerm::Known {
         paid,
         amount: notional,

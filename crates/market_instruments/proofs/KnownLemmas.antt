@@ -1,5 +1,5 @@
 -- Flows on no index.
-use Rattle.std.proofs.Common.{◌≡◌, refl, ℤ, Bool, List, [], ◌∷◌, Option, None, Some}
+use Rattle.std.proofs.Common.{◌≡◌, refl, ℕ, ℤ, Bool, List, [], ◌∷◌, Option, None, Some}
 use Rattle.std.specs.Prelude.{IfSome}
 use Rattle.std.specs.List.{All}
 use Rattle.std.proofs.lemmas.List.Elements.{All-nil, All-cons}
@@ -35,12 +35,12 @@ known_there : (paid : Option ℤ) (amount : ℤ) (period : Option (ℤ × ℤ)) 
 known_there None amount period = tt
 known_there (Some paid) amount period = refl
 
-pub fixed_known : (business : ℤ → Bool) (notional rate : ℤ) (counter : Counter) (from to : ℤ) → IfSome (fixed_flow business notional rate counter from to) IsKnown
-fixed_known business notional rate counter from to = known_there _ _ _
+pub fixed_known : (business : ℤ → Bool) (lag : ℕ) (notional rate : ℤ) (counter : Counter) (from to : ℤ) → IfSome (fixed_flow business lag notional rate counter from to) IsKnown
+fixed_known business lag notional rate counter from to = known_there _ _ _
 
 one_known : (flow : Option FlowTerm) → IfSome flow IsKnown → IfSome (one_flow flow) AreKnown
 one_known None h = tt
 one_known (Some flow) h = All-cons IsKnown flow [] h (All-nil IsKnown)
 
-pub redemption_known : (business : ℤ → Bool) (end notional : ℤ) → IfSome (one_flow (redemption_flow business end notional)) AreKnown
-redemption_known business end notional = one_known _ (known_there _ _ _)
+pub redemption_known : (business : ℤ → Bool) (lag : ℕ) (end notional : ℤ) → IfSome (one_flow (redemption_flow business lag end notional)) AreKnown
+redemption_known business lag end notional = one_known _ (known_there _ _ _)

@@ -32,16 +32,16 @@ behind flows due = or_fault fault.Range due >>= (λ more. Ok (flows ++ more))
 -- fixed interest for each period of some days
 abbrev pub fixed_behind : List FlowTerm → Calendar → ℤ → ℤ → Counter → List ℤ → Result (List FlowTerm) MarketKind
 fixed_behind flows cal notional rate counter days =
-    behind flows (each_period (fixed_flow (is_business_day cal) notional rate counter) days)
+    behind flows (each_period (fixed_flow (is_business_day cal) 0 notional rate counter) days)
 
 -- interest at an index's rate and a spread for each period of some days
 abbrev pub float_behind : List FlowTerm → Calendar → ℤ → ℤ → Counter → IndexTerms → List ℤ → Result (List FlowTerm) MarketKind
 float_behind flows cal notional spread counter index days =
-    behind flows (each_period (float_flow (is_business_day cal) notional spread counter index) days)
+    behind flows (each_period (float_flow (is_business_day cal) 0 notional spread counter index) days)
 
 -- the notional, paid on the end adjusted
 abbrev pub redeemed : List FlowTerm → Calendar → ℤ → ℤ → Result (List FlowTerm) MarketKind
-redeemed flows cal end notional = behind flows (one_flow (redemption_flow (is_business_day cal) end notional))
+redeemed flows cal end notional = behind flows (one_flow (redemption_flow (is_business_day cal) 0 end notional))
 
 -- the settlement of a forward rate agreement
 abbrev pub settled : List FlowTerm → IndexTerms → ℤ → ℤ → ℤ → Result (List FlowTerm) MarketKind

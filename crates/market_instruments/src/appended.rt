@@ -46,7 +46,7 @@ pub(crate) fn push_fixed(
     ensures told { Refuses result (fixed_behind out.old cal.now notional rate counter schedule.now) }
     ensures range { (index : Option ℕ) → StayWithin index out.old out.new }
 {
-    ranged(fixed_leg(schedule, cal, notional, rate, counter, out))
+    ranged(fixed_leg(schedule, cal, 0, notional, rate, counter, out))
 }
 
 // Appends interest at an index's rate, or `Range`, whatever the memory.
@@ -65,7 +65,7 @@ pub(crate) fn push_float(
     ensures told { Refuses result (float_behind out.old cal.now notional spread counter index.now schedule.now) }
     ensures range { (object : ℕ) → StayWithin (Some object) out.old out.new }
 {
-    ranged(float_leg(schedule, cal, notional, spread, counter, index, out))
+    ranged(float_leg(schedule, cal, 0, notional, spread, counter, index, out))
 }
 
 // Appends a redemption, or `Range`, whatever the memory.
@@ -80,7 +80,7 @@ pub(crate) fn push_redemption(
     ensures told { Refuses result (redeemed out.old cal.now end notional) }
     ensures range { (index : Option ℕ) → StayWithin index out.old out.new }
 {
-    ranged(redemption(cal, end, notional, out))
+    ranged(redemption(cal, end, 0, notional, out))
 }
 
 // Appends a settlement, or `Range`, whatever the memory.

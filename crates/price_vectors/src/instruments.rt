@@ -76,8 +76,8 @@ fn bond(alloc: Global, market: &Market<'_>, words: &mut Split<'_, char>) -> Opti
     let counter = counter_of(words.next()?)?;
     let schedule = schedule_of(alloc, &cal, start, end, every, conv)?;
     let mut flows = FlowTermList::new(alloc);
-    fixed_leg(&schedule, &cal, NOTIONAL, coupon, counter, &mut flows).ok()?;
-    redemption(&cal, end, NOTIONAL, &mut flows).ok()?;
+    fixed_leg(&schedule, &cal, 0, NOTIONAL, coupon, counter, &mut flows).ok()?;
+    redemption(&cal, end, 0, NOTIONAL, &mut flows).ok()?;
     Some(Instrument { flows, index: None })
 }
 
@@ -125,10 +125,11 @@ fn swap(alloc: Global, market: &Market<'_>, words: &mut Split<'_, char>) -> Opti
     } else {
         (NOTIONAL, PAID)
     };
-    fixed_leg(&fixed, &cal, paid, rate, counter, &mut flows).ok()?;
+    fixed_leg(&fixed, &cal, 0, paid, rate, counter, &mut flows).ok()?;
     float_leg(
         &floating,
         &cal,
+        0,
         received,
         spread,
         Counter::Act360,

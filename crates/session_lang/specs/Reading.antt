@@ -1,5 +1,5 @@
 -- A whole script: what its lines say, one after another, and what they say together.
-use Rattle.std.specs.Prelude.{◌≡◌, ℕ, ◌+◌, Bool, true, false, nat_lt, if◌then◌else◌, List, [], ◌∷◌, ◌++◌, length, slice_index_or, Option, Some, None, is_some, Result, Ok, Err}
+use Rattle.std.specs.Prelude.{◌≡◌, ℕ, ◌+◌, Bool, true, false, nat_lt, if◌then◌else◌, List, [], ◌∷◌, length, slice_index_or, Option, Some, None, is_some, Result, Ok, Err}
 use Rattle.std.specs.List.{find}
 use Rattle.std.specs.Str.Lines.{lines}
 use Rattle.desk_names.specs.Names.{has_text, place_of}
@@ -16,7 +16,6 @@ use Rattle.session_lang.specs.declared.statement.Statement.TheVariants.{Blank, B
 use Rattle.session_lang.specs.declared.steps.Step.{Step}
 use Rattle.session_commands.specs.declared.script.Script.{Script}
 use Rattle.script_words.specs.Given.{◌>>=◌}
-use Rattle.session_lang.specs.Given.{FailsAt}
 use Rattle.session_lang.specs.Statement.{Known, line_meaning}
 
 -- the most bytes of a script (this project's profile)
@@ -83,16 +82,6 @@ abbrev pub AreLeft : {X : Type 0} → Result X ScriptFault → List (List ℕ) �
 AreLeft (Ok x) names left = names ≡ left
 AreLeft (Err script.NoMemory) names left = Unit {0}
 AreLeft (Err (script.At line k)) names left = names ≡ left
-
--- statements in front of what was said
-abbrev pub onto : List Step → Result Said (ℕ × ScriptKind) → Result Said (ℕ × ScriptKind)
-onto front (Ok said) = Ok (record { steps = front ++ said.steps; known = said.known; open_at = said.open_at })
-onto front (Err e) = Err e
-
--- one line was taken: what is told goes on with what follows it, or the line's fault is told
-abbrev pub Takes : Result (Option ℕ) ScriptFault → (Option ℕ → Result Said (ℕ × ScriptKind)) → Result Said (ℕ × ScriptKind) → Type 0
-Takes (Ok open_at) next told = told ≡ next open_at
-Takes (Err e) next told = FailsAt e told
 
 -- the text of a name that was read
 abbrev pub text_of : Known → ℕ → List ℕ

@@ -1,5 +1,5 @@
 // Scripts, read.
-ghost use Rattle.std.specs.Prelude.{◌≡◌, ◌<◌, ◌^◌, ◌+◌, ◌∷◌, ℕ, List, length, None, IfOk, IsErrOf};
+ghost use Rattle.std.specs.Prelude.{◌≡◌, ◌<◌, ◌^◌, ◌+◌, ◌∷◌, [], ℕ, List, length, None, is_some, false, IfOk, IsErrOf};
 ghost use Rattle.std.specs.Str.Lines.{lines};
 ghost use Rattle.session_lang.specs.Given.{GivesAt, at_number};
 ghost use Rattle.script_words.specs.Given.{Grows};
@@ -8,22 +8,25 @@ ghost use Rattle.session_commands.specs.Whole.{IsScript};
 ghost use Rattle.session_commands.specs.declared.script_kind.ScriptKind.TheVariants.{TooLong};
 ghost use Rattle.session_lang.specs.declared.fault.ScriptFault.TheVariants.{At};
 ghost use Rattle.session_lang.specs.FirstFault.{ToldFirst, FaultKeeps, names_after};
-ghost use Rattle.session_lang.specs.Reading.{onto, Takes, Leaves, AreLeft, lines_meaning, names_left, together_of, script_meaning, script_left};
+ghost use Rattle.session_lang.specs.Reading.{Leaves, AreLeft, lines_meaning, names_left, script_meaning, script_left};
+ghost use Rattle.session_lang.specs.Held.{held_behind, Takes, together_held};
 
 use crate::ScriptFault;
 use crate::statement::read_line;
-use crate::steps::{Step, action_names_of, actions_of, add, commands_of, first_lacking, is_open};
+use crate::steps::{Step, action_names_of, actions_of, add, all_linked, first_lacking, is_open};
 use desk_names::Names;
 use script_words::{LineFault, next_line};
-use session_commands::{Script, ScriptKind};
+use session_commands::{CommandList, Script, ScriptKind};
 use std::alloc::Global;
 
 /// The most bytes of a script.
 const MOST_BYTES: usize = 8_388_608;
 
-// The statements of a text, and the line of a block that stands open behind them.
+// What is held of the lines of a text: the commands outside of blocks, each watch with the number of its action's name; the
+// statements that are asked for after all lines; and the line of a block that stands open behind them.
 #[derive(Drop)]
 struct Read {
+    commands: CommandList,
     steps: Vec<Step>,
     open_at: Option<u32>,
 }
@@ -45,24 +48,25 @@ fn take_line<'a>(
     number: u32,
     names: &mut Names,
     begun: &mut Names,
+    commands: &mut CommandList,
     steps: &mut Vec<Step>,
     open_at: Option<u32>,
 ) -> Result<Option<u32>, ScriptFault>
     ensures takes { (rest : List (List ℕ)) → Takes result
-        (λ o. onto steps.new.items (lines_meaning (record { names = names.new; begun = begun.new }) o (number + 1) rest))
-        (onto steps.old.items (lines_meaning (record { names = names.old; begun = begun.old }) open_at number (line.now ∷ rest))) }
+        (λ o. held_behind steps.new.items commands.new (is_some o) (lines_meaning (record { names = names.new; begun = begun.new }) o (number + 1) rest))
+        (held_behind steps.old.items commands.old (is_some open_at) (lines_meaning (record { names = names.old; begun = begun.old }) open_at number (line.now ∷ rest))) }
     ensures leaves { (rest : List (List ℕ)) → Leaves result names.new
         (λ o. names_left (record { names = names.new; begun = begun.new }) o (number + 1) rest)
         (names_left (record { names = names.old; begun = begun.old }) open_at number (line.now ∷ rest)) }
     ensures grows { Grows names.old names.new }
 {
     match read_line(line, words, names, begun, is_open(open_at)) {
-        Ok(statement) => Ok(add(steps, number, statement, open_at)?),
+        Ok(statement) => Ok(add(commands, steps, number, statement, open_at)?),
         Err(fault) => Err(at_number(number, fault)),
     }
 }
 
-// What the lines of a text say, up to the first fault.
+// What is held of the lines of a text, up to the first fault.
 fn read_lines(
     alloc: Global,
     text: &[u8],
@@ -70,11 +74,12 @@ fn read_lines(
     begun: &mut Names,
 ) -> Result<Read, ScriptFault>
     requires { length text.now < 2 ^ 31 }
-    ensures gives { GivesAt (λ read. record { steps = read.steps.items; known = record { names = names.new; begun = begun.new }; open_at = read.open_at }) result
-        (lines_meaning (record { names = names.old; begun = begun.old }) None 1 (lines text.now)) }
+    ensures gives { GivesAt (λ read. record { steps = read.steps.items; commands = read.commands; known = record { names = names.new; begun = begun.new }; open_at = read.open_at }) result
+        (held_behind [] [] false (lines_meaning (record { names = names.old; begun = begun.old }) None 1 (lines text.now))) }
     ensures left { AreLeft result names.new (names_left (record { names = names.old; begun = begun.old }) None 1 (lines text.now)) }
     ensures grows { Grows names.old names.new }
 {
+    let mut commands = CommandList::new(alloc);
     let mut steps = Vec::new(alloc);
     let mut words = Vec::new(alloc);
     let mut open_at = None;
@@ -82,23 +87,37 @@ fn read_lines(
     let mut rest = text;
     while !rest.is_empty() {
         let (line, after) = next_line(rest);
-        open_at = take_line(line, &mut words, number, names, begun, &mut steps, open_at)?;
+        open_at = take_line(
+            line,
+            &mut words,
+            number,
+            names,
+            begun,
+            &mut commands,
+            &mut steps,
+            open_at,
+        )?;
         number += 1;
         rest = after;
     }
-    Ok(Read { steps, open_at })
+    Ok(Read {
+        commands,
+        steps,
+        open_at,
+    })
 }
 
-// What statements say together where no block stands open.
+// What is held says together where no block stands open.
 #[tactic(auto, using(crate::proofs::Blocks::one_name_each))]
 fn script_of(
     alloc: Global,
     names: &Names,
     begun: &Names,
     steps: &[Step],
+    commands: CommandList,
 ) -> Result<Script, ScriptFault>
     ensures paired { IfOk result (λ s. length s.actions ≡ length s.action_names) }
-    ensures gives { GivesAt (λ s. (s, names.now)) result (together_of (record { names = names.now; begun = begun.now }) steps.now None) }
+    ensures gives { GivesAt (λ s. (s, names.now)) result (together_held (record { names = names.now; begun = begun.now }) steps.now commands None) }
 {
     if let Some(line) = first_lacking(names, begun, steps) {
         return Err(ScriptFault::At {
@@ -107,7 +126,7 @@ fn script_of(
         });
     }
     let actions = actions_of(alloc, names, begun, steps)?;
-    let commands = commands_of(alloc, names, begun, steps)?;
+    let commands = all_linked(alloc, names, begun, commands)?;
     let action_names = action_names_of(alloc, steps)?;
     Ok(Script {
         actions,
@@ -116,18 +135,19 @@ fn script_of(
     })
 }
 
-// What statements say together.
-fn finished(alloc: Global, names: &Names, begun: &Names, read: &Read) -> Result<Script, ScriptFault>
+// What is held says together.
+fn finished(alloc: Global, names: &Names, begun: &Names, read: Read) -> Result<Script, ScriptFault>
     ensures paired { IfOk result (λ s. length s.actions ≡ length s.action_names) }
     ensures gives { GivesAt (λ s. (s, names.now)) result
-        (together_of (record { names = names.now; begun = begun.now }) read.now.steps.items read.now.open_at) }
+        (together_held (record { names = names.now; begun = begun.now }) read.steps.items read.commands read.open_at) }
 {
+    let commands = read.commands;
     match read.open_at {
         Some(line) => Err(ScriptFault::At {
             line,
             kind: ScriptKind::Unclosed,
         }),
-        None => script_of(alloc, names, begun, read.steps.as_slice()),
+        None => script_of(alloc, names, begun, read.steps.as_slice(), commands),
     }
 }
 
@@ -148,7 +168,7 @@ fn read_text(alloc: Global, text: &[u8], names: &mut Names) -> Result<Script, Sc
     }
     let mut begun = Names::new(alloc);
     let read = read_lines(alloc, text, names, &mut begun)?;
-    finished(alloc, names, &begun, &read)
+    finished(alloc, names, &begun, read)
 }
 
 /// The script that a text says, or its first fault with the line, counted from 1 (this project's profile).

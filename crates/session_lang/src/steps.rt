@@ -1,9 +1,10 @@
 // The statements of a script, and what they say together.
-ghost use Rattle.std.specs.Prelude.{◌≡◌, ◌∷◌, ◌++◌, [], ℕ, List, IfOk, OnOk, slice_index_or, cond, false, is_some};
-ghost use Rattle.std.specs.List.{find};
+ghost use Rattle.std.specs.Prelude.{◌≡◌, ◌∷◌, ◌++◌, [], List, IfOk, OnOk, slice_index_or, cond, is_some, map};
+ghost use Rattle.std.specs.List.{find, list_any};
 ghost use Rattle.desk_names.specs.Names.{place_of};
 ghost use Rattle.session_lang.specs.Statement.{Known};
-ghost use Rattle.session_lang.specs.Reading.{kept, opened, text_of, action_of, lacks, linked, line_of, block_of, actions_of, action_with, action_names_of, commands_of, inside_after};
+ghost use Rattle.session_lang.specs.Reading.{opened, text_of, action_of, lacks, linked, line_of, block_of, actions_of, action_with, action_names_of};
+ghost use Rattle.session_lang.specs.Held.{is_held, held_with, outside_with};
 ghost use Rattle.session_commands.specs.declared.command.Command.{Command};
 
 use crate::statement::Statement;
@@ -40,47 +41,10 @@ pub(crate) fn is_open(open_at: Option<u32>) -> bool
     }
 }
 
-fn is_blank(statement: &Statement) -> bool
-    ensures { (line : ℕ) → kept line statement.now [] ≡ cond result [] (record { line = line; what = statement.now } ∷ []) }
-{
-    match statement {
-        Statement::Blank => true,
-        Statement::Begin(_) | Statement::End | Statement::Run(_) => false,
-    }
-}
-
 fn step_at(line: u32, what: Statement) -> Step
     ensures { result ≡ record { line = line; what = what } }
 {
     Step { line, what }
-}
-
-/// Puts a statement behind the others, unless its line is blank.
-pub(crate) fn keep(
-    steps: &mut Vec<Step>,
-    line: u32,
-    statement: &Statement,
-) -> Result<(), AllocError>
-    ensures { OnOk result (steps.new.items ≡ steps.old.items ++ kept line statement.now []) }
-{
-    if is_blank(statement) {
-        return Ok(());
-    }
-    steps.extend_from_slice(&[step_at(line, *statement)])
-}
-
-/// Puts a statement behind the others, and tells the line of the block that stands open after it.
-pub(crate) fn add(
-    steps: &mut Vec<Step>,
-    line: u32,
-    statement: Statement,
-    open_at: Option<u32>,
-) -> Result<Option<u32>, AllocError>
-    ensures kept { OnOk result (steps.new.items ≡ steps.old.items ++ kept line statement []) }
-    ensures open_at { IfOk result (λ o. o ≡ opened statement line open_at) }
-{
-    keep(steps, line, &statement)?;
-    Ok(opened(&statement, line, open_at))
 }
 
 // The name of the action that a command names.
@@ -88,6 +52,79 @@ fn action_of(command: Command) -> Option<ActionId>
     ensures { result ≡ action_of command }
 {
     Parts::of(command).second.action()
+}
+
+// Whether a statement is asked for after all lines.
+fn is_held(inside: bool, statement: &Statement) -> bool
+    ensures { result ≡ is_held inside statement.now }
+{
+    match statement {
+        Statement::Run(command) => inside || action_of(*command).is_some(),
+        Statement::Begin(_) | Statement::End => true,
+        Statement::Blank => false,
+    }
+}
+
+// Puts a statement behind the others where it is asked for after all lines.
+fn hold(
+    steps: &mut Vec<Step>,
+    line: u32,
+    statement: Statement,
+    inside: bool,
+) -> Result<(), AllocError>
+    ensures { OnOk result (steps.new.items ≡ steps.old.items ++ held_with inside (record { line = line; what = statement }) []) }
+{
+    if !is_held(inside, &statement) {
+        return Ok(());
+    }
+    steps.extend_from_slice(&[step_at(line, statement)])
+}
+
+// Puts commands behind the others.
+fn push_each(commands: &mut CommandList, more: &[Command]) -> Result<(), AllocError>
+    ensures { OnOk result (commands.new ≡ commands.old ++ more.now) }
+{
+    for command in more {
+        commands.push(*command)?;
+    }
+    Ok(())
+}
+
+// Puts a command behind the others where it stands outside of blocks.
+fn put_outside(
+    commands: &mut CommandList,
+    statement: Statement,
+    inside: bool,
+) -> Result<(), AllocError>
+    ensures { OnOk result (commands.new ≡ commands.old ++ outside_with inside statement []) }
+{
+    if inside {
+        return Ok(());
+    }
+    match statement {
+        Statement::Run(command) => push_each(commands, &[command]),
+        Statement::Blank | Statement::Begin(_) | Statement::End => Ok(()),
+    }
+}
+
+/// Puts a statement behind the others, and tells the line of the block that stands open after it. A command outside of
+/// blocks goes to the commands; `steps` gets what is asked for after all lines alone, so that a long script of commands is
+/// held once.
+pub(crate) fn add(
+    commands: &mut CommandList,
+    steps: &mut Vec<Step>,
+    line: u32,
+    statement: Statement,
+    open_at: Option<u32>,
+) -> Result<Option<u32>, AllocError>
+    ensures held { OnOk result (steps.new.items ≡ steps.old.items ++ held_with (is_some open_at) (record { line = line; what = statement }) []) }
+    ensures outside { OnOk result (commands.new ≡ commands.old ++ outside_with (is_some open_at) statement []) }
+    ensures open_at { IfOk result (λ o. o ≡ opened statement line open_at) }
+{
+    let inside = is_open(open_at);
+    hold(steps, line, statement, inside)?;
+    put_outside(commands, statement, inside)?;
+    Ok(opened(&statement, line, open_at))
 }
 
 /// Whether a statement names an action that no block defines.
@@ -202,33 +239,41 @@ pub(crate) fn action_names_of(alloc: Global, steps: &[Step]) -> Result<NameList,
     Ok(names)
 }
 
-fn inside_after(statement: Statement, inside: bool) -> bool
-    ensures { result ≡ inside_after statement inside }
+// Whether a command names an action.
+fn has_watch(commands: &[Command]) -> bool
+    ensures { result ≡ list_any (λ command. is_some (action_of command)) commands.now }
 {
-    match statement {
-        Statement::Begin(_) => true,
-        Statement::End => false,
-        Statement::Blank | Statement::Run(_) => inside,
-    }
+    commands.iter().any(|command| action_of(*command).is_some())
 }
 
-/// The commands outside of blocks.
-#[tactic(auto, unfolding(crate::specs::Reading::commands_of))]
-pub(crate) fn commands_of(
+// The commands in a list of their own, each watch with the place of its action's block.
+fn linked_each(
     alloc: Global,
     names: &Names,
     begun: &Names,
-    steps: &[Step],
+    commands: &[Command],
 ) -> Result<CommandList, AllocError>
-    ensures { IfOk result (λ commands. commands ≡ commands_of (record { names = names.now; begun = begun.now }) false steps.now) }
+    ensures { IfOk result (λ list. list ≡ map (linked (record { names = names.now; begun = begun.now })) commands.now) }
 {
-    let mut commands = CommandList::new(alloc);
-    let mut inside = false;
-    for step in steps {
-        if let (false, Statement::Run(command)) = (inside, step.what) {
-            commands.push(linked(names, begun, command))?;
-        }
-        inside = inside_after(step.what, inside);
+    let mut list = CommandList::new(alloc);
+    for command in commands {
+        list.push(linked(names, begun, *command))?;
     }
-    Ok(commands)
+    Ok(list)
+}
+
+/// The commands, each watch with the place of its action's block. Commands without a watch stay where they are, so that
+/// they take no second list.
+pub(crate) fn all_linked(
+    alloc: Global,
+    names: &Names,
+    begun: &Names,
+    commands: CommandList,
+) -> Result<CommandList, AllocError>
+    ensures { IfOk result (λ list. list ≡ map (linked (record { names = names.now; begun = begun.now })) commands) }
+{
+    if !has_watch(commands.items()) {
+        return Ok(commands);
+    }
+    linked_each(alloc, names, begun, commands.items())
 }

@@ -68,6 +68,7 @@ pub relinks_same : (graph : GraphView) (links : List (Option Link)) (holder : �
 relinks_same graph links holder target fits same = record {
   nodes = refl;
   sources = refl;
+  noticed = refl;
   pairs = λ x o. (λ a. apart x o (cases_eq o holder) (is_or_not (target_at links holder) x) a, λ h. back x o h);
 }
   where
@@ -90,6 +91,7 @@ pub relinks_other : (old mid new : GraphView) (holder : ℕ) (was now : Option �
 relinks_other old mid new holder was now leaves joins = record {
   nodes = joins.nodes ∙ leaves.nodes;
   sources = joins.sources ∙ leaves.sources;
+  noticed = joins.noticed ∙ leaves.noticed;
   pairs = λ x o. (
     λ a. elim ((joins.pairs x o).0 a) [ inl was ↦ inl ((leaves.pairs x o).0 was) | inr j ↦ inr j ],
     λ h. (joins.pairs x o).1 (elim h [ inl p ↦ inl ((leaves.pairs x o).1 p) | inr j ↦ inr j ]),
@@ -140,6 +142,7 @@ pub joins_one : (old new : GraphView) (holder t : ℕ) (target : Option ℕ) →
 joins_one old new holder t target is adds = record {
   nodes = adds.nodes;
   sources = adds.sources;
+  noticed = adds.noticed;
   pairs = λ x o. (
     λ a. elim ((adds.pairs x o).0 a) [ inl was ↦ inl was | inr e ↦ inr (e.1, is ∙ ap Some (sym e.0)) ],
     λ h. (adds.pairs x o).1 (elim h [ inl was ↦ inl was | inr j ↦ inr (some_is x t (sym j.1 ∙ is), j.0) ]),
@@ -152,6 +155,7 @@ pub leaves_one : (old new : GraphView) (holder t : ℕ) (target : Option ℕ) �
 leaves_one old new holder t target is takes = record {
   nodes = takes.nodes;
   sources = takes.sources;
+  noticed = takes.noticed;
   pairs = λ x o. (
     λ a. let h = (takes.pairs x o).0 a in (h.0, λ p. h.1 (some_is x t (sym p.1 ∙ is), p.0)),
     λ h. (takes.pairs x o).1 (h.0, λ p. h.1 (p.1, is ∙ ap Some (sym p.0))),

@@ -47,10 +47,12 @@ pub record FitsBut (but : ℕ) (links : List (Option Link)) (graph : GraphView) 
       → Observes graph holder target
   pub spare : free_count (slice_set links but None) ≤ graph.spare
 
--- the holder observes the new target and not the old one; every other pair, every node and every source stays
+-- the holder observes the new target and not the old one; every other pair, every node, every source and every told
+-- watcher stays
 pub record Relinks (old new : GraphView) (holder : ℕ) (was now : Option ℕ) : Type 0 where
   pub nodes : new.nodes ≡ old.nodes
   pub sources : new.sources ≡ old.sources
+  pub noticed : new.noticed ≡ old.noticed
   pub pairs : (x o : ℕ) → IsPair new x o ↔ ((IsPair old x o × ((o ≡ holder) × (was ≡ Some x) → ⊥))
       ⊎ ((o ≡ holder) × (now ≡ Some x)))
 
@@ -58,10 +60,12 @@ pub record Relinks (old new : GraphView) (holder : ℕ) (was now : Option ℕ) :
 pub record Joins (old new : GraphView) (holder : ℕ) (now : Option ℕ) : Type 0 where
   pub nodes : new.nodes ≡ old.nodes
   pub sources : new.sources ≡ old.sources
+  pub noticed : new.noticed ≡ old.noticed
   pub pairs : (x o : ℕ) → IsPair new x o ↔ (IsPair old x o ⊎ ((o ≡ holder) × (now ≡ Some x)))
 
 -- the holder does not observe this target, if there is one
 pub record Leaves (old new : GraphView) (holder : ℕ) (was : Option ℕ) : Type 0 where
   pub nodes : new.nodes ≡ old.nodes
   pub sources : new.sources ≡ old.sources
+  pub noticed : new.noticed ≡ old.noticed
   pub pairs : (x o : ℕ) → IsPair new x o ↔ (IsPair old x o × ((o ≡ holder) × (was ≡ Some x) → ⊥))

@@ -1,20 +1,19 @@
 //! Tells graphs of stated shapes from their bottom and counts whom the notice reached: prints each row of `shapes.csv`
-//! that differs, and how many agree. Then moves a holder between targets by the rows of `moves.csv`, and holds
-//! notices back by the rows of `deferrals.txt`, and does the random steps of `watchers.txt`.
+//! that differs, and how many agree. Then moves a holder between targets by the rows of `moves.csv`, and does the steps of
+//! `deferrals.txt`, worked by hand over one net of five nodes, and of `watchers.txt`, random ones beside a plain model that
+//! keeps sets (`tools/watcher_rows.py` writes them).
 #![tactic(auto)]
 
-mod deferrals;
 mod moves;
 mod nets;
 mod shapes;
-mod watchers;
+mod steps;
 
-use deferrals::deferral_agrees;
 use moves::moves_agree;
 use shapes::shape_agrees;
 use std::alloc::Global;
 use std::{fs, io};
-use watchers::watchers_agree;
+use steps::steps_agree;
 
 fn main(rt: HostRuntime) -> io::Result<()> {
     let shapes = fs::read_to_string(&rt, "shapes.csv")?;
@@ -23,9 +22,9 @@ fn main(rt: HostRuntime) -> io::Result<()> {
     let agree = moves_agree(rt.alloc(), &moves).unwrap_or(false);
     println!(rt; "moves: agree {agree}")?;
     let deferrals = fs::read_to_string(&rt, "deferrals.txt")?;
-    compare_deferrals(&rt, rt.alloc(), &deferrals)?;
+    compare_steps(&rt, rt.alloc(), "deferrals", &deferrals)?;
     let watchers = fs::read_to_string(&rt, "watchers.txt")?;
-    compare_watchers(&rt, rt.alloc(), &watchers)
+    compare_steps(&rt, rt.alloc(), "watchers", &watchers)
 }
 
 // Prints each shape that differs, and how many agree and differ.
@@ -43,32 +42,17 @@ fn compare(rt: &impl Print, alloc: Global, rows: &str) -> io::Result<()> {
     println!(rt; "shapes: {agree} agree, {differ} differ")
 }
 
-// Prints each row of steps that differs, and how many agree and differ.
-fn compare_deferrals(rt: &impl Print, alloc: Global, rows: &str) -> io::Result<()> {
+// Prints each row of steps that differs, with the name of its file, and how many agree and differ.
+fn compare_steps(rt: &impl Print, alloc: Global, name: &str, rows: &str) -> io::Result<()> {
     let mut agree = 0u64;
     let mut differ = 0u64;
     for row in rows.lines() {
-        if deferral_agrees(alloc, row).unwrap_or(false) {
+        if steps_agree(alloc, row).unwrap_or(false) {
             agree = agree.saturating_add(1);
         } else {
             differ = differ.saturating_add(1);
-            println!(rt; "deferrals: {row}")?;
+            println!(rt; "{name}: {row}")?;
         }
     }
-    println!(rt; "deferrals: {agree} agree, {differ} differ")
-}
-
-// Prints the nodes of each graph with a step that differs, and how many graphs agree and differ.
-fn compare_watchers(rt: &impl Print, alloc: Global, rows: &str) -> io::Result<()> {
-    let mut agree = 0u64;
-    let mut differ = 0u64;
-    for row in rows.lines() {
-        if watchers_agree(alloc, row).unwrap_or(false) {
-            agree = agree.saturating_add(1);
-        } else {
-            differ = differ.saturating_add(1);
-            println!(rt; "watchers: {row}")?;
-        }
-    }
-    println!(rt; "watchers: {agree} agree, {differ} differ")
+    println!(rt; "{name}: {agree} agree, {differ} differ")
 }

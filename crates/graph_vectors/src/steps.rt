@@ -1,10 +1,8 @@
-// Rows `nodes: steps`, `;` between the steps: random steps over a graph with watchers, beside a plain model that keeps sets
-// (`tools/watcher_rows.py` writes them). The letters of a row are its nodes by number: s a source, f a forwarder, l a lazy
-// node, w a watcher.
+// Rows `nodes: steps`, `;` between the steps: changes of a graph whose notices may be held back, and questions about it with
+// their answers. The letters of a row are its nodes by number: s a source, f a forwarder, l a lazy node, w a watcher.
 ghost use Rattle.std.specs.Prelude.{◌≡◌, ◌+◌, ◌<◌, length, OnOk};
 ghost use Rattle.observer_graph.specs.GraphView.{IsWhole};
 
-use crate::deferrals::{is_yes, set};
 use deferred_sources::Deferral;
 use desk_names::ObjId;
 use observer_graph::{Flags, Graph, Role};
@@ -14,7 +12,7 @@ use std::alloc::{AllocError, Global};
 const MOST_LETTERS: usize = 1_000;
 
 /// Whether each step of a row agrees. None where one is no step of its graph, or where memory is wanting.
-pub(crate) fn watchers_agree(alloc: Global, row: &str) -> Option<bool> {
+pub(crate) fn steps_agree(alloc: Global, row: &str) -> Option<bool> {
     let mut parts = row.split(": ");
     let letters = parts.next()?;
     let mut held = Deferral::new(net(alloc, letters.as_bytes())?);
@@ -137,15 +135,40 @@ fn change(held: &mut Deferral, verb: &str, node: ObjId) -> Option<bool> {
     Some(true)
 }
 
+// The flags of a lazy node.
+fn set(graph: &mut Graph, node: ObjId, flags: Flags) -> Option<bool> {
+    if !graph.is_lazy(node) {
+        return None;
+    }
+    graph.set_flags(node, flags);
+    Some(true)
+}
+
 // The flags of a lazy node after a step.
 fn flags_by(verb: &str, flags: Flags) -> Option<Flags> {
-    if verb == "backward" {
-        return Some(Flags {
+    match verb {
+        "freeze" => Some(Flags {
+            frozen: true,
+            ..flags
+        }),
+        "thaw" => Some(Flags {
+            frozen: false,
+            ..flags
+        }),
+        "forward" => Some(Flags {
+            forward: true,
+            ..flags
+        }),
+        "backward" => Some(Flags {
             forward: false,
             ..flags
-        });
+        }),
+        "settle" => Some(Flags {
+            current: true,
+            ..flags
+        }),
+        _ => None,
     }
-    crate::deferrals::flags_by(verb, flags)
 }
 
 fn node_of(word: &str) -> Option<ObjId> {
@@ -158,4 +181,13 @@ fn node_or_none(word: &str) -> Option<Option<ObjId>> {
         return Some(None);
     }
     Some(Some(node_of(word)?))
+}
+
+// Whether a word is `yes` and not `no`.
+fn is_yes(word: &str) -> Option<bool> {
+    match word {
+        "yes" => Some(true),
+        "no" => Some(false),
+        _ => None,
+    }
 }

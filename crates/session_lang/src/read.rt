@@ -113,21 +113,23 @@ fn script_of(
     alloc: Global,
     names: &Names,
     begun: &Names,
-    steps: &[Step],
+    steps: Vec<Step>,
     commands: CommandList,
 ) -> Result<Script, ScriptFault>
     ensures paired { IfOk result (λ s. length s.actions ≡ length s.action_names) }
-    ensures gives { GivesAt (λ s. (s, names.now)) result (together_held (record { names = names.now; begun = begun.now }) steps.now commands None) }
+    ensures gives { GivesAt (λ s. (s, names.now)) result (together_held (record { names = names.now; begun = begun.now }) steps.items commands None) }
 {
-    if let Some(line) = first_lacking(names, begun, steps) {
+    if let Some(line) = first_lacking(names, begun, &steps) {
         return Err(ScriptFault::At {
             line,
             kind: ScriptKind::NoAction,
         });
     }
-    let actions = actions_of(alloc, names, begun, steps)?;
+    let actions = actions_of(alloc, names, begun, &steps)?;
+    let action_names = action_names_of(alloc, &steps)?;
+    // Their memory is given back before a second list of commands may be made.
+    drop(steps);
     let commands = all_linked(alloc, names, begun, commands)?;
-    let action_names = action_names_of(alloc, steps)?;
     Ok(Script {
         actions,
         commands,
@@ -147,7 +149,7 @@ fn finished(alloc: Global, names: &Names, begun: &Names, read: Read) -> Result<S
             line,
             kind: ScriptKind::Unclosed,
         }),
-        None => script_of(alloc, names, begun, read.steps.as_slice(), commands),
+        None => script_of(alloc, names, begun, read.steps, commands),
     }
 }
 

@@ -1,0 +1,41 @@
+-- The course of commands: its lines, its computations and the session that it leaves are those of their rounds.
+use Rattle.std.proofs.Common.{◌≡◌, ℕ, Bool, List, [], ◌∷◌, ◌++◌, refl, sym, ◌∙◌, ap}
+use Rattle.desk_terms.specs.Reading.{Calc}
+use Rattle.session_commands.specs.declared.command.Command.{Command}
+use Rattle.watch_rounds.specs.declared.picker.Order.{Order}
+use Rattle.session_model.specs.Course.{Running, Course, quiet, before, and_then, round_of}
+use Rattle.session_model.specs.Rounds.{rounds, lines_of, calls_in, transcript, calls_of}
+use Rattle.session_rounds.proofs.Going.{joined}
+use Rattle.grid_model.specs.Scenario.{ordered, after}
+use Rattle.scenario_grid.specs.Course.{course_of}
+
+module _ (calc : Calc) where
+  pub course_lines : (commands : List Command) (r : Running Order)
+      → (course_of calc commands r).lines ≡ transcript (ordered calc) r commands
+  unfolding course_of and_then rounds lines_of
+  course_lines [] r = refl
+  course_lines (c ∷ commands) r =
+      ap (λ (l : List ℕ). (round_of (ordered calc) r c).lines ++ l) (course_lines commands (round_of (ordered calc) r c).next)
+
+  pub course_calls : (commands : List Command) (r : Running Order)
+      → (course_of calc commands r).calls ≡ calls_of (ordered calc) r commands
+  unfolding course_of and_then rounds calls_in
+  course_calls [] r = refl
+  course_calls (c ∷ commands) r =
+      ap (λ (l : List (ℕ × Bool)). (round_of (ordered calc) r c).calls ++ l) (course_calls commands (round_of (ordered calc) r c).next)
+
+  pub course_next : (commands : List Command) (r : Running Order) → (course_of calc commands r).next ≡ after calc commands r
+  unfolding course_of and_then after
+  course_next [] r = refl
+  course_next (c ∷ commands) r = course_next commands (round_of (ordered calc) r c).next
+
+  -- commands behind others
+  pub course_joined : (first second : List Command) (r : Running Order)
+      → course_of calc (first ++ second) r ≡ and_then (course_of calc first r) (course_of calc second)
+  unfolding course_of and_then
+  course_joined [] second r = refl
+  course_joined (c ∷ first) second r =
+      let t = round_of (ordered calc) r c in
+      let own = course_of calc first t.next in
+      ap (λ (u : Course Order). before t.lines t.calls u) (course_joined first second t.next)
+      ∙ joined t.lines own.lines t.calls own.calls (course_of calc second own.next)

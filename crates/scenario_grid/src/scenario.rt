@@ -1,0 +1,123 @@
+// One scenario.
+ghost use Rattle.std.specs.Prelude.{◌≡◌, ◌++◌, true, length, All, OnOk, OnErr};
+ghost use Rattle.desk_terms.specs.Bench.{counted, logged};
+ghost use Rattle.market_loader.specs.Market.{texts_in};
+ghost use Rattle.session_commands.specs.Whole.{IsCommand};
+ghost use Rattle.session_rounds.specs.Goes.{Halts, with_more};
+ghost use Rattle.watch_rounds.specs.declared.picker.Order.{Order as OfOrder};
+ghost use Rattle.grid_shape.specs.Kinds.{is_move, is_ask};
+ghost use Rattle.grid_model.specs.Scenario.{first_of, scenario_lines, scenario_calls, scenario_values};
+ghost use Rattle.scenario_grid.specs.Basis.{basis_of, IsGround};
+ghost use Rattle.scenario_grid.specs.Course.{course_of, output, scenario_of};
+ghost use Rattle.scenario_grid.specs.Calls.{Begins};
+ghost use Rattle.scenario_grid.specs.Going.{Extends};
+
+use crate::asking::ask_all;
+use crate::moving::move_all;
+use crate::opening::begun;
+use desk_names::Names;
+use desk_terms::Bench;
+use fixed_amount::Amount;
+use item_lists::Items;
+use market_loader::MarketTexts;
+use session_commands::{Command, CommandList};
+use std::alloc::{AllocError, Global};
+
+/// The money that each ask of a scenario shows, in order; none where an ask shows none. A clause sees the list.
+pub type MoneyList = Items<Option<Amount>>;
+
+/// Does a scenario in a session of its own: the market that the texts say, read anew, under these names; then the moves, and
+/// then the asks. The lines are appended to `lines`, and to `values` for each ask the money that it shows. The texts, the
+/// names and the commands are read alone, so that the next scenario has the same market. One session stands at a time.
+///
+/// It fails for want of memory alone, and then lines and values are as before.
+pub fn one_scenario<B: Bench>(
+    alloc: Global,
+    texts: &MarketTexts,
+    names: &Names,
+    moves: &CommandList,
+    asks: &CommandList,
+    bench: &mut B,
+    lines: &mut Vec<u8>,
+    values: &mut MoneyList,
+) -> Result<(), AllocError>
+    requires ground { IsGround (texts_in texts.now) names.now }
+    requires moves { All (λ c. is_move c ≡ true) moves.now }
+    requires asks { All (λ c. is_ask c ≡ true) asks.now }
+    requires known { All (IsCommand (length names.now) 0) moves.now }
+    requires named { All (IsCommand (length names.now) 0) asks.now }
+    ensures same { B.calc bench.new ≡ B.calc bench.old }
+
+    // The lines and the values are those of the scenario on the basis that the texts say.
+    ensures lines { OnOk result (lines.new.items ≡ lines.old.items
+        ++ scenario_lines (B.calc bench.old) (basis_of (texts_in texts.now) names.now) asks.now (scenario_of moves.now)) }
+    ensures values { OnOk result (values.new ≡ values.old
+        ++ scenario_values (B.calc bench.old) (basis_of (texts_in texts.now) names.now) asks.now (scenario_of moves.now)) }
+
+    // The bench was called for its computations, in their order, and for no other; where memory ran out, for a front of them.
+    ensures count { OnOk result (B.count bench.new ≡ counted (B.count bench.old)
+        (length (scenario_calls (B.calc bench.old) (basis_of (texts_in texts.now) names.now) asks.now (scenario_of moves.now)))) }
+    ensures log { OnOk result (B.log bench.new ≡ logged (B.log bench.old)
+        (scenario_calls (B.calc bench.old) (basis_of (texts_in texts.now) names.now) asks.now (scenario_of moves.now))) }
+    ensures begins { OnErr result (Begins (scenario_calls (B.calc bench.old) (basis_of (texts_in texts.now) names.now) asks.now (scenario_of moves.now))
+        (B.count bench.old) (B.count bench.new) (B.log bench.old) (B.log bench.new)) }
+
+    // After want of memory nothing is left of it.
+    ensures no_lines { OnErr result (lines.new.items ≡ lines.old.items) }
+    ensures no_values { OnErr result (values.new ≡ values.old) }
+{
+    let lines_before = lines.len();
+    let values_before = values.len();
+    match played(
+        alloc,
+        texts,
+        names,
+        moves.items(),
+        asks.items(),
+        bench,
+        lines,
+        values,
+    ) {
+        Ok(()) => Ok(()),
+        Err(fault) => {
+            lines.truncate(lines_before);
+            values.truncate(values_before);
+            Err(fault)
+        }
+    }
+}
+
+// The same, where what was appended before memory ran out is left.
+fn played<B: Bench>(
+    alloc: Global,
+    texts: &MarketTexts,
+    names: &Names,
+    moves: &[Command],
+    asks: &[Command],
+    bench: &mut B,
+    lines: &mut Vec<u8>,
+    values: &mut MoneyList,
+) -> Result<(), AllocError>
+    requires ground { IsGround (texts_in texts.now) names.now }
+    requires moves { All (λ c. is_move c ≡ true) moves.now }
+    requires asks { All (λ c. is_ask c ≡ true) asks.now }
+    requires known { All (IsCommand (length names.now) 0) moves.now }
+    requires named { All (IsCommand (length names.now) 0) asks.now }
+    ensures same { B.calc bench.new ≡ B.calc bench.old }
+    ensures out { OnOk result (output lines.new.items (B.count bench.new) (B.log bench.new)
+        ≡ with_more (scenario_lines (B.calc bench.old) (basis_of (texts_in texts.now) names.now) asks.now (scenario_of moves.now))
+        (scenario_calls (B.calc bench.old) (basis_of (texts_in texts.now) names.now) asks.now (scenario_of moves.now))
+        (output lines.old.items (B.count bench.old) (B.log bench.old))) }
+    ensures values { OnOk result (values.new ≡ values.old
+        ++ scenario_values (B.calc bench.old) (basis_of (texts_in texts.now) names.now) asks.now (scenario_of moves.now)) }
+    ensures halts { OnErr result (Halts OfOrder
+        (course_of (B.calc bench.old) (moves.now ++ asks.now) (first_of (basis_of (texts_in texts.now) names.now)))
+        (output lines.old.items (B.count bench.old) (B.log bench.old))
+        (output lines.new.items (B.count bench.new) (B.log bench.new))) }
+    ensures kept { Extends values.old values.new }
+{
+    let mut session = begun(alloc, texts, names)?;
+    move_all(&mut session, moves, bench, lines)?;
+    ask_all(&mut session, asks, bench, lines, values)?;
+    Ok(())
+}

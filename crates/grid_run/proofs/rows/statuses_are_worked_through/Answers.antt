@@ -1,0 +1,14 @@
+use Rattle.std.proofs.Common.{refl}
+use Rattle.std.specs.Fmt.{digits}
+use Rattle.grid_run.proofs.rows.statuses_are_worked_through.Goals as goal
+
+pub returns : goal.returns
+unfolding digits
+returns c = record {
+  done = refl;
+  shape = refl;
+  shape_code = refl;
+  script = refl;
+  absent = refl;
+  usage = refl;
+}

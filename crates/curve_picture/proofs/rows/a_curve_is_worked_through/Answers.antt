@@ -1,0 +1,33 @@
+use Rattle.std.proofs.Common.{refl}
+use Rattle.std.specs.Fmt.{digits}
+use Rattle.day_number.specs.Day.{civil_number, date_in_year, date_after, date_of}
+use Rattle.fixed_amount.specs.Decimal.{decimal_text}
+use Rattle.curve_picture.specs.Places.{day_place, factor_place}
+use Rattle.curve_picture.specs.Points.{all_points, first_day, span_from, lowest, highest, point_text}
+use Rattle.curve_picture.specs.Scale.{first_from, scale_of}
+use Rattle.curve_picture.specs.Table.{row_text, rows_text, curves_rows, table_text}
+use Rattle.curve_picture.proofs.rows.a_curve_is_worked_through.Goals as goal
+
+pub returns : goal.returns
+unfolding digits civil_number date_in_year date_after date_of decimal_text day_place factor_place all_points first_day span_from lowest highest point_text first_from scale_of row_text rows_text curves_rows table_text
+returns c = record {
+  scale = refl;
+  earlier = refl;
+  bare_span = refl;
+  least_step = refl;
+  within_step = refl;
+  beyond_step = refl;
+  greatest_step = refl;
+  ten_years = refl;
+  beyond_ten = refl;
+  greatest_years = refl;
+  right = refl;
+  left = refl;
+  third = refl;
+  one = refl;
+  node = refl;
+  foot = refl;
+  six_marks = refl;
+  seven_marks = refl;
+  table = refl;
+}

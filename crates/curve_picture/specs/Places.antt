@@ -1,0 +1,31 @@
+-- Places in the picture, in hundredths of a pixel from its left and upper edge: whole numbers, quotients without what is
+-- left (this project's profile).
+use Rattle.std.specs.Prelude.{ℕ, ℤ, pos, ◌+◌, ◌-◌, ◌*◌, ◌/◌, List, ◌++◌}
+use Rattle.fixed_amount.specs.Decimal.{decimal_text}
+use Rattle.curve_picture.specs.declared.scale.Scale.{Scale}
+use Rattle.curve_picture.specs.declared.places.TheConstants.{LEFT, WIDTH, FOOT, HEIGHT}
+use Rattle.curve_picture.specs.Points.{days_from, units_of}
+
+-- where a day lies from the left
+unfoldable pub day_place : Scale → ℤ → ℕ
+day_place scale day = LEFT + days_from scale.first day * WIDTH / scale.span
+
+-- where a factor lies from above
+unfoldable pub factor_place : Scale → ℤ → ℕ
+factor_place scale factor = FOOT - (units_of factor - scale.low) * HEIGHT / scale.rise
+
+-- where a mark of the axis of years lies from the left: the first is 0, a year has 365.25 days
+unfoldable pub year_place : Scale → ℕ → ℕ
+year_place scale mark = LEFT + mark * (scale.years * 36_525) * WIDTH / (scale.span * 10_000)
+
+-- where a mark of the axis of factors lies from above: the first is 0
+unfoldable pub step_place : Scale → ℕ → ℕ
+step_place scale mark = FOOT - mark * scale.step * HEIGHT / scale.rise
+
+-- a place in pixels, with two digits behind the point
+abbrev pub px : ℕ → List ℕ
+px place = decimal_text (pos place) 2
+
+-- a text, and a place in pixels behind it
+unfoldable pub placed : List ℕ → ℕ → List ℕ
+placed text place = text ++ px place

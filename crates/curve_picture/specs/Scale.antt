@@ -1,0 +1,58 @@
+-- What lies where in a picture of curves: all whole numbers (this project's profile).
+use Rattle.std.specs.Prelude.{ℕ, ℤ, ◌+◌, ◌-◌, ◌*◌, ◌%◌, ◌≤◌, Bool, ◌&&◌, nat_le, if◌then◌else◌, List, [], ◌∷◌}
+use Rattle.std.specs.Int.{div_ceil}
+use Rattle.curve_points.specs.declared.curves.CurveNode.{CurveNode}
+use Rattle.curve_picture.specs.declared.scale.Scale.{Scale}
+use Rattle.curve_picture.specs.declared.scale.TheConstants.{STEPS, MOST_STEP, YEARS, MOST_YEARS}
+use Rattle.curve_picture.specs.Points.{first_day, span_from, lowest, highest}
+
+-- the first of these steps that is at least so long, or else the last
+unfoldable pub first_from : ℕ → List ℕ → ℕ → ℕ
+first_from need [] last = last
+first_from need (step ∷ steps) last = if nat_le need step then step else first_from need steps last
+
+-- the step of the axis of factors: at most eight steps reach so many units
+abbrev pub step_for : ℕ → ℕ
+step_for reach = first_from (div_ceil reach 8) STEPS MOST_STEP
+
+-- the step of the axis of years in hundredths: at most ten steps reach so many days, a year having 365.25 days
+abbrev pub years_for : ℕ → ℕ
+years_for span = first_from (div_ceil (span * 1000) 36_525) YEARS MOST_YEARS
+
+-- The axis of days from a day on; that of factors from the greatest multiple of its step that is not above the lowest, to
+-- the least that is above the highest.
+abbrev pub scale_from : ℤ → ℕ → ℕ → ℕ → ℕ → Scale
+scale_from first span step low reach = record {
+  first = first;
+  span = span;
+  years = years_for span;
+  low = low;
+  step = step;
+  rise = reach + (step - reach % step);
+}
+
+abbrev pub scale_by : ℤ → ℕ → ℕ → ℕ → ℕ → Scale
+scale_by first span lowest highest step =
+    scale_from first span step (lowest - lowest % step) (highest - (lowest - lowest % step))
+
+-- THE SCALE of points: the axis of days begins with the earliest of them and of a day, and ends with the last
+unfoldable pub scale_of : ℤ → List CurveNode → Scale
+scale_of today points =
+    scale_by (first_day today points) (span_from (first_day today points) points) (lowest points) (highest points)
+    (step_for (highest points - lowest points))
+
+-- a length that a step may have
+abbrev pub is_step : ℕ → Bool
+is_step step = nat_le 1 step && nat_le step 1_000_000_000_000
+
+-- how large the parts of a scale are
+pub record IsScale (scale : Scale) : Type 0 where
+  pub some : 1 ≤ scale.span
+  pub span : scale.span ≤ 110_000
+  pub year : 1 ≤ scale.years
+  pub years : scale.years ≤ 1_000_000_000_000
+  pub low : scale.low ≤ 1_000_000_000_000
+  pub unit : 1 ≤ scale.step
+  pub step : scale.step ≤ 1_000_000_000_000
+  pub some_rise : 1 ≤ scale.rise
+  pub rise : scale.rise ≤ 10_000_000_000_000

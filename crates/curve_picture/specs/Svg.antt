@@ -1,0 +1,150 @@
+-- THE PICTURE as text: an SVG of 800 by 500 pixels, whose plot is 700 by 350 (this project's profile, after the World Wide
+-- Web Consortium's Scalable Vector Graphics 1.1). `names` are the texts of the names by their numbers, `of_object` the names
+-- of the objects by theirs. The pieces of text stand in `src/texts.rt`. A name is made of letters, digits and `_`, so nothing in it has
+-- to be escaped.
+use Rattle.std.specs.Prelude.{ℕ, zero, suc, ℤ, pos, ◌+◌, ◌*◌, ◌/◌, ◌%◌, ◌==◌, if◌then◌else◌, List, [], ◌∷◌, ◌++◌, codes}
+use Rattle.day_number.specs.Day.{day_text}
+use Rattle.fixed_amount.specs.Decimal.{decimal_text}
+use Rattle.price_report.specs.Namer.{object_text}
+use Rattle.curve_points.specs.declared.curves.CurveNode.{CurveNode}
+use Rattle.curve_points.specs.Curve.{Curve, points}
+use Rattle.curve_picture.specs.declared.texts.TheConstants.{BELOW, BESIDE, CENTRED, CONTENT, DISK, DISK_DOWN, DISK_END, ENTRY, ENTRY_DOWN, ENTRY_NAME, FILLED, FLUSH, FOOTER, FRAME, GROUP, GROUP_END, HEAD, LINE, LINE_END, OPENED, RIGHTWARDS, TEXT_END, TITLE, UPWARDS, YEARS_FROM}
+use Rattle.curve_picture.specs.declared.scale.Scale.{Scale}
+use Rattle.curve_picture.specs.Places.{placed, day_place, factor_place, year_place, step_place}
+use Rattle.curve_picture.specs.Points.{all_points, point_text}
+use Rattle.curve_picture.specs.Scale.{scale_of}
+
+-- ---- the axes
+
+-- how many marks the axis of years has: as many as lie within the span
+abbrev pub year_count : Scale → ℕ
+year_count scale = scale.span * 10_000 / (scale.years * 36_525) + 1
+
+-- hundredths of a year as years: a whole number where they are one
+unfoldable pub years_text : ℕ → List ℕ
+years_text hundredths =
+    if hundredths % 100 == 0 then decimal_text (pos (hundredths / 100)) 0 else decimal_text (pos hundredths) 2
+
+-- a mark of the axis of years: a line upwards, and how many years lie there
+unfoldable pub year_mark : Scale → ℕ → List ℕ
+year_mark scale mark =
+    placed UPWARDS.now (year_place scale mark)
+    ++ placed BELOW.now (year_place scale mark)
+    ++ CENTRED.now ++ years_text (mark * scale.years) ++ TEXT_END.now
+
+-- the first marks, as many as are given
+unfoldable pub years_below : Scale → ℕ → List ℕ
+years_below scale zero = []
+years_below scale (suc mark) = years_below scale mark ++ year_mark scale mark
+
+-- how many marks the axis of factors has
+abbrev pub step_count : Scale → ℕ
+step_count scale = scale.rise / scale.step + 1
+
+-- the factor at a mark, with four places
+unfoldable pub mark_text : Scale → ℕ → List ℕ
+mark_text scale mark = decimal_text (pos ((scale.low + mark * scale.step) / 100_000_000)) 4
+
+-- a mark of the axis of factors: a line to the right, and the factor there
+unfoldable pub step_mark : Scale → ℕ → List ℕ
+step_mark scale mark =
+    placed RIGHTWARDS.now (step_place scale mark)
+    ++ placed BESIDE.now (step_place scale mark)
+    ++ FLUSH.now
+    ++ mark_text scale mark ++ TEXT_END.now
+
+unfoldable pub steps_below : Scale → ℕ → List ℕ
+steps_below scale zero = []
+steps_below scale (suc mark) = steps_below scale mark ++ step_mark scale mark
+
+-- the marks of both axes
+unfoldable pub axes_text : Scale → List ℕ
+axes_text scale = years_below scale (year_count scale) ++ steps_below scale (step_count scale)
+
+-- ---- the curves
+
+-- the colours, eight of them, in turn
+abbrev pub colour_at : ℕ → List ℕ
+colour_at place =
+    if place == 0 then codes "#1f77b4" else if place == 1 then codes "#d62728" else if place == 2 then codes "#2ca02c"
+    else if place == 3 then codes "#ff7f0e" else if place == 4 then codes "#9467bd" else if place == 5 then codes "#8c564b"
+    else if place == 6 then codes "#e377c2" else codes "#17becf"
+
+unfoldable pub colour_of : ℕ → List ℕ
+colour_of k = colour_at (k % 8)
+
+-- a point of the line of a curve, which is straight between its points as the curve is
+unfoldable pub corner_text : Scale → CurveNode → List ℕ
+corner_text scale point =
+    placed (codes " ") (day_place scale point.day) ++ placed (codes ",") (factor_place scale point.factor)
+
+unfoldable pub corners_text : Scale → List CurveNode → List ℕ
+corners_text scale [] = []
+corners_text scale (point ∷ points) = corner_text scale point ++ corners_text scale points
+
+-- a point marked by a disk, whose title is the day and the factor with twelve places
+unfoldable pub disk_text : Scale → CurveNode → List ℕ
+disk_text scale point =
+    placed DISK.now (day_place scale point.day) ++ placed DISK_DOWN.now (factor_place scale point.factor)
+    ++ TITLE.now ++ point_text (codes " ") point ++ DISK_END.now
+
+unfoldable pub disks_text : Scale → List CurveNode → List ℕ
+disks_text scale [] = []
+disks_text scale (point ∷ points) = disk_text scale point ++ disks_text scale points
+
+-- where the entry of a curve in the legend lies: two beside one another, the first pair at 454 pixels, a pair 14 below
+-- another
+unfoldable pub entry_left : ℕ → ℕ
+entry_left k = 7_000 + k % 2 * 35_000
+
+unfoldable pub entry_foot : ℕ → ℕ
+entry_foot k = 45_400 + k / 2 * 1_400
+
+-- a name as the content of an element
+unfoldable pub name_content : List ℕ → List ℕ
+name_content name = CONTENT.now ++ name ++ TEXT_END.now
+
+-- the entry: a line in the colour of the curve, and its name
+unfoldable pub entry_text : ℕ → List ℕ → List ℕ
+entry_text k name =
+    placed ENTRY.now (entry_left k) ++ placed (codes " ") (entry_foot k)
+    ++ placed ENTRY_NAME.now (entry_left k + 3_200)
+    ++ placed ENTRY_DOWN.now (entry_foot k) ++ name_content name
+
+-- a group in the colour of a curve begins
+unfoldable pub group_text : ℕ → List ℕ
+group_text k = GROUP.now ++ colour_of k ++ FILLED.now ++ colour_of k ++ OPENED.now
+
+-- the line of a curve
+unfoldable pub line_text : Scale → List CurveNode → List ℕ
+line_text scale points =
+    LINE.now ++ corners_text scale points ++ LINE_END.now
+
+-- a curve, the first being number 0: its line, its points, and its entry
+unfoldable pub curve_text : List (List ℕ) → List ℕ → Scale → ℕ → Curve → List ℕ
+curve_text names of_object scale k curve =
+    group_text k ++ line_text scale (points curve) ++ disks_text scale (points curve)
+    ++ entry_text k (object_text names of_object curve.owner) ++ GROUP_END.now
+
+unfoldable pub curves_text : List (List ℕ) → List ℕ → Scale → ℕ → List Curve → List ℕ
+curves_text names of_object scale k [] = []
+curves_text names of_object scale k (curve ∷ curves) =
+    curve_text names of_object scale k curve ++ curves_text names of_object scale (k + 1) curves
+
+-- ---- the whole
+
+-- the heading with the day of the market, and below the plot the day from which the years count
+unfoldable pub heading_text : ℤ → ℤ → List ℕ
+heading_text today first =
+    HEAD.now ++ day_text today ++ YEARS_FROM.now
+    ++ day_text first ++ TEXT_END.now
+
+unfoldable pub picture_on : List (List ℕ) → List ℕ → ℤ → Scale → List Curve → List ℕ
+picture_on names of_object today scale curves =
+    heading_text today scale.first ++ axes_text scale ++ FRAME.now ++ curves_text names of_object scale 0 curves
+    ++ FOOTER.now
+
+-- THE PICTURE of curves on the day of their market
+abbrev pub picture_text : List (List ℕ) → List ℕ → ℤ → List Curve → List ℕ
+picture_text names of_object today curves =
+    picture_on names of_object today (scale_of today (all_points curves)) curves

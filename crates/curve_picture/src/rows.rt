@@ -1,0 +1,12 @@
+// Texts that are written out by hand.
+ghost use Rattle.curve_picture.specs.Rows.{AreWorked, AreDrawn};
+
+// The definitions give the scale and the rows that a hand works out.
+fn a_curve_is_worked_through()
+    ensures { AreWorked }
+{}
+
+// The definitions give the pieces of a picture that a hand writes.
+fn pieces_are_drawn()
+    ensures { AreDrawn }
+{}

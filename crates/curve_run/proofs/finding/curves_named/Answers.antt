@@ -11,7 +11,7 @@ returns-then-has_curve-clause-named c =
     (sym (named_some c.args.desk.now.market c.args.names.now (map string_bytes c.args.texts.now) (sym c.has_curve.ensures ∙ c.if-has_curve.true)))
     c.all_named.ensures.named
 
-pub returns-in_ok-none_line-clause-named : goal.returns-else-has_curve-clause-named
+pub returns-in_ok-none_line-clause-named : goal.returns-in_ok-none_line-clause-named
 returns-in_ok-none_line-clause-named c =
     named_none c.args.desk.now.market c.args.names.now (map string_bytes c.args.texts.now) (sym c.has_curve.ensures ∙ c.if-has_curve.false)
     ∙ ap Err (sym c.in_ok-none_line.ensures)

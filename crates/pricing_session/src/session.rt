@@ -6,13 +6,14 @@ ghost use Rattle.desk_terms.specs.Reading.{Calc};
 ghost use Rattle.market_file.specs.Standing.{IsReady};
 ghost use Rattle.session_core.specs.Values.{value_of, is_current_of, held_of};
 ghost use Rattle.session_lang.specs.Given.{GivesAt};
-ghost use Rattle.session_model.specs.Course.{taken, round_of};
-ghost use Rattle.session_model.specs.Quiet.{is_quiet};
+ghost use Rattle.session_model.specs.Course.{taken, round_of, opened as begun};
 ghost use Rattle.session_model.specs.Resolve.{resolve};
 ghost use Rattle.session_model.specs.Standing.{IsKnown};
 ghost use Rattle.session_model.specs.Turn.{turn};
-ghost use Rattle.session_rounds.specs.Goes.{Does, Halts};
+ghost use Rattle.session_rounds.specs.Goes.{Does, Halts, Stays, HasEnded};
+ghost use Rattle.session_rounds.specs.Quiet.{IsQuiet};
 ghost use Rattle.pricing_session.specs.Opening.{opened};
+ghost use Rattle.pricing_session.specs.Taking.{Takes, Misses, LeavesToAStep};
 
 use crate::known::is_known;
 use crate::opening::{read, started};
@@ -139,14 +140,17 @@ impl<P: Picker + Drop, B: Bench + Drop> PricingSession<P, B> {
     pub fn change(&mut self, command: &Command) -> Result<Option<Refusal>, ChangeFault>
         ensures turns { OnOk result ((calc : Calc) → self.new.running ≡ (taken (turn calc self.old.running.standing command.now) self.old.running).next) }
         ensures refusal { IfOk result (λ refusal. refusal ≡ result_err (resolve self.old.running.standing command.now)) }
+        ensures refused { IfOk result (λ refusal. IfSome refusal (λ _. self.new.running.standing ≡ self.old.running.standing)) }
         ensures same { OnErr result (self.new ≡ self.old) }
-        // The bench is not called, and the session goes on.
+        // The bench is not called, and the session goes on with its names and its actions.
         ensures bench { self.new ≡ record self.old { running = self.new.running } }
         ensures stops { self.new.running.standing.stopped ≡ self.old.running.standing.stopped }
-        // It is not tried in these cases alone.
+        ensures names { self.new.running.standing.names ≡ self.old.running.standing.names }
+        ensures actions { self.new.running.standing.actions ≡ self.old.running.standing.actions }
+        // It is not tried in these cases exactly.
         ensures stopped { IsErrOf result ChangeFault.Stopped ↔ (self.old.running.standing.stopped ≡ true) }
-        ensures unknown { IsErrOf result ChangeFault.Unknown → IsKnown self.old.running.standing command.now → ⊥ }
-        ensures not_quiet { IsErrOf result ChangeFault.NotQuiet → is_quiet command.now ≡ false }
+        ensures unknown { IsErrOf result ChangeFault.Unknown ↔ Misses self.old.running.standing command.now }
+        ensures not_quiet { IsErrOf result ChangeFault.NotQuiet ↔ LeavesToAStep self.old.running.standing command.now }
     {
         if self.session.is_stopped() {
             return Err(ChangeFault::Stopped);
@@ -170,9 +174,16 @@ impl<P: Picker + Drop, B: Bench + Drop> PricingSession<P, B> {
         ensures calc { B.calc self.new.bench ≡ B.calc self.old.bench }
         ensures stops { IsErrOf result StepFault.NoMemory → self.new.running.standing.stopped ≡ true }
         ensures runs { OnOk result (self.new.running.standing.stopped ≡ false) }
-        // It is not tried in these cases alone, and then changes nothing.
+        ensures ends { OnOk result (HasEnded self.new.running.round) }
+        ensures stays { Stays (B.calc self.old.bench) self.old.running.standing self.new.running.standing }
+        // A command that takes no memory and is not refused, that makes no watcher due and calls for no `over` line, is done
+        // though memory is short.
+        ensures ready { Takes self.old.running.standing command.now
+            → IsQuiet P (record { calc = B.calc self.old.bench; at = P.at; after = P.after }) (begun self.old.running) command.now
+            → IsOk result }
+        // It is not tried in these cases exactly, and then changes nothing.
         ensures stopped { IsErrOf result StepFault.Stopped ↔ (self.old.running.standing.stopped ≡ true) }
-        ensures unknown { IsErrOf result StepFault.Unknown → IsKnown self.old.running.standing command.now → ⊥ }
+        ensures unknown { IsErrOf result StepFault.Unknown ↔ Misses self.old.running.standing command.now }
         ensures same { IsErrOf result StepFault.Stopped ⊎ IsErrOf result StepFault.Unknown
             → (self.new ≡ self.old) × (lines.new.items ≡ lines.old.items) }
     {

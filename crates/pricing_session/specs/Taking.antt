@@ -1,5 +1,5 @@
 -- Which commands a session takes.
-use Rattle.std.specs.Prelude.{◌≡◌, true, false}
+use Rattle.std.specs.Prelude.{◌≡◌, false}
 use Rattle.session_commands.specs.declared.command.Command.{Command}
 use Rattle.session_model.specs.Quiet.{is_quiet}
 use Rattle.session_model.specs.Standing.{Standing, IsKnown}

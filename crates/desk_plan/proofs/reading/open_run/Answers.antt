@@ -1,0 +1,13 @@
+use Rattle.std.proofs.lemmas.Result.{err_from_is_err_and}
+use Rattle.desk_plan.proofs.Steps.{run_found, run_lost}
+use Rattle.desk_plan.proofs.reading.open_run.Goals as goal
+
+pub returns-in_err-market-clause-reads : goal.returns-in_err-market-clause-reads
+returns-in_err-market-clause-reads g c =
+    let p = err_from_is_err_and c.from_residual.result c.from_residual.ensures.1 in
+    rw (p.1, p.2) (run_lost c.args.market.now c.args.script.now _ _ _ c.in_err-market.ensures.reads)
+
+pub returns-clause-reads : goal.returns-clause-reads
+returns-clause-reads g c =
+    run_found c.args.market.now c.args.script.now _ _ _ c.in_ok-market.market c.open_script.result c.in_ok-market.ensures.reads
+    c.open_script.ensures.reads

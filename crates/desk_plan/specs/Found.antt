@@ -1,0 +1,86 @@
+-- What the reading of words and files gives, as the definitions see it, and the statuses with which it ends.
+use Rattle.std.specs.Prelude.{◌≡◌, ◌⊎◌, ℕ, Result, Ok, Err}
+use Rattle.desk_edge.specs.Count.{raised}
+use Rattle.market_file.specs.Market.{Market}
+use Rattle.market_file.specs.Standing.{IsReady}
+use Rattle.session_commands.specs.Whole.{IsScript}
+use Rattle.desk_plan.specs.declared.status.Status.{Status}
+use Rattle.desk_plan.specs.declared.status.Status.TheVariants.{Done, Usage, Market as OfMarket, Script, ReadFault, WriteFault, NoMemory, Absent}
+use Rattle.desk_plan.specs.declared.plan.Opened as opened
+use Rattle.desk_plan.specs.declared.plan.Plan as planned
+use Rattle.desk_plan.specs.declared.plan.ScriptRun as scripted
+use Rattle.desk_plan.specs.Verdict.{ScriptRun, Plan, Run, Load, Check}
+
+-- a market of the code, as the definition sees it
+abbrev pub market_in : opened.Opened → Market
+market_in opened = record { today = opened.today; made = opened.made.items; names = opened.names }
+
+-- a script to be run, as the definition sees it
+abbrev pub run_in : scripted.ScriptRun → ScriptRun
+run_in run =
+    record { names = run.market.names; today = run.market.today; made = run.market.made.items; script = run.script }
+
+-- a plan of the code, as the definition sees it
+abbrev pub plan_in : planned.Plan → Plan
+plan_in (planned.TheVariants.Run run order) = Run (run_in run) order
+plan_in (planned.TheVariants.Load size run) = Load size (run_in run)
+plan_in (planned.TheVariants.Check objects fixings) = Check objects fixings
+
+-- a session can be made of the objects, and the script is whole
+abbrev pub CanRun : scripted.ScriptRun → Type 0
+CanRun run = IsReady run.market.names run.market.made.items × IsScript run.market.names run.script
+
+-- the same of a plan: a report needs nothing
+abbrev pub CanDo : planned.Plan → Type 0
+CanDo (planned.TheVariants.Run run order) = CanRun run
+CanDo (planned.TheVariants.Load size run) = CanRun run
+CanDo (planned.TheVariants.Check objects fixings) = Unit {0}
+
+-- a status of reading that words and files do not decide
+abbrev pub IsReading : Status → Type 0
+IsReading ReadFault = Unit {0}
+IsReading NoMemory = Unit {0}
+IsReading status = ⊥
+
+-- the answer, seen by view, is this, but for a fault of reading or want of memory
+abbrev pub Tells : {X Y : Type 0} → (X → Y) → Result X Status → Result Y Status → Type 0
+Tells view (Ok x) told = told ≡ Ok (view x)
+Tells view (Err status) told = IsReading status ⊎ (told ≡ Err status)
+
+-- a status that the reading of files may end with
+abbrev pub IsRefusal : Status → Type 0
+IsRefusal Done = ⊥
+IsRefusal Usage = ⊥
+IsRefusal WriteFault = ⊥
+IsRefusal (OfMarket section entry why) = Unit {0}
+IsRefusal (Script line why) = Unit {0}
+IsRefusal ReadFault = Unit {0}
+IsRefusal NoMemory = Unit {0}
+IsRefusal (Absent role) = Unit {0}
+
+-- a status that may come before the first command is done
+abbrev pub IsBefore : Status → Type 0
+IsBefore Done = ⊥
+IsBefore WriteFault = ⊥
+IsBefore Usage = Unit {0}
+IsBefore (OfMarket section entry why) = Unit {0}
+IsBefore (Script line why) = Unit {0}
+IsBefore ReadFault = Unit {0}
+IsBefore NoMemory = Unit {0}
+IsBefore (Absent role) = Unit {0}
+
+-- the count of faults of a shelf where this is the status: a call that failed is the answer, and is counted once
+abbrev pub faults_then : Status → ℕ → ℕ
+faults_then ReadFault faults = raised faults
+faults_then Done faults = faults
+faults_then Usage faults = faults
+faults_then (OfMarket section entry why) faults = faults
+faults_then (Script line why) faults = faults
+faults_then WriteFault faults = faults
+faults_then NoMemory faults = faults
+faults_then (Absent role) faults = faults
+
+-- the same after a step of reading
+abbrev pub faults_after : {X : Type 0} → Result X Status → ℕ → ℕ
+faults_after (Ok x) faults = faults
+faults_after (Err status) faults = faults_then status faults

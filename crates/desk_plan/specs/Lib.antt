@@ -1,0 +1,6 @@
+pub mod Fixings
+pub mod Found
+pub mod Reading
+pub mod Refusals
+pub mod Status
+pub mod Verdict

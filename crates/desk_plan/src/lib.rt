@@ -1,0 +1,19 @@
+//! What words and files ask for: a script that is to be run over a market, the script of a load, or the report of a market;
+//! or the status with which they are refused, the first failure in the order in which files are read.
+//!
+//! `plan_of`, `Plan`, `ScriptRun`, `Opened`; `Status` with `Section`, `MarketKind` and `FileRole`.
+#![tactic(auto)]
+
+mod counting;
+mod loading;
+mod plan;
+mod planning;
+mod reading;
+mod refusals;
+mod status;
+
+pub use market_file::{MarketKind, Section};
+pub use plan::{Opened, Plan, ScriptRun};
+pub use planning::plan_of;
+pub use session_commands::ScriptKind;
+pub use status::{FileRole, Status};

@@ -1,0 +1,100 @@
+// The files that a request names, in reading order.
+ghost use Rattle.std.specs.Prelude.{◌≡◌, IfOk, IfErr};
+ghost use Rattle.desk_names.specs.Names.{IsNames};
+ghost use Rattle.market_file.specs.Standing.{IsReady};
+ghost use Rattle.market_loader.specs.Files.{file_calls};
+ghost use Rattle.market_loader.specs.Market.{market_calls};
+ghost use Rattle.market_loader.specs.Reads.{Reads, Says, seen};
+ghost use Rattle.desk_plan.specs.Found.{CanRun, IsRefusal, market_in, run_in};
+ghost use Rattle.desk_plan.specs.Reading.{market_at};
+ghost use Rattle.desk_plan.specs.Refusals.{status_end};
+ghost use Rattle.desk_plan.specs.Verdict.{scripted, run_over, run_at, run_calls};
+
+use crate::refusals::{file_status, load_status, script_status};
+use crate::{Opened, ScriptRun, Status};
+use desk_edge::Shelf;
+use desk_names::Names;
+use market_loader::{load_file, load_market};
+use session_lang::read_script;
+use std::alloc::Global;
+
+// The script at a path, over the market at another.
+pub(crate) fn open_run<H: Shelf>(
+    alloc: Global,
+    shelf: &mut H,
+    market: &str,
+    script: &str,
+) -> Result<ScriptRun, Status>
+    ensures reads { Reads status_end run_in (run_at market.now script.now) (run_calls market.now script.now)
+        (seen (H.contents shelf.old) (H.faults shelf.old) (H.misses shelf.old) (H.calls shelf.old))
+        (seen (H.contents shelf.new) (H.faults shelf.new) (H.misses shelf.new) (H.calls shelf.new)) result }
+    ensures whole { IfOk result CanRun }
+    ensures refused { IfErr result IsRefusal }
+{
+    let market = open_market(alloc, shelf, market)?;
+    open_script(alloc, shelf, market, script)
+}
+
+// The market at a path, with the tables that it names.
+pub(crate) fn open_market<H: Shelf>(
+    alloc: Global,
+    shelf: &mut H,
+    path: &str,
+) -> Result<Opened, Status>
+    ensures reads { Reads status_end market_in (market_at path.now) (market_calls path.now)
+        (seen (H.contents shelf.old) (H.faults shelf.old) (H.misses shelf.old) (H.calls shelf.old))
+        (seen (H.contents shelf.new) (H.faults shelf.new) (H.misses shelf.new) (H.calls shelf.new)) result }
+    ensures ready { IfOk result (λ market. IsReady market.names market.made.items) }
+    ensures refused { IfErr result IsRefusal }
+{
+    let mut names = Names::new(alloc);
+    match load_market(alloc, path, shelf, &mut names) {
+        Ok(market) => Ok(Opened {
+            names,
+            today: market.today,
+            made: market.made,
+        }),
+        Err(fault) => Err(load_status(fault)),
+    }
+}
+
+// The script at a path, over a market.
+fn open_script<H: Shelf>(
+    alloc: Global,
+    shelf: &mut H,
+    market: Opened,
+    path: &str,
+) -> Result<ScriptRun, Status>
+    requires ready { IsReady market.names market.made.items }
+    ensures reads { Reads status_end run_in (run_over (market_in market) path.now) (file_calls path.now)
+        (seen (H.contents shelf.old) (H.faults shelf.old) (H.misses shelf.old) (H.calls shelf.old))
+        (seen (H.contents shelf.new) (H.faults shelf.new) (H.misses shelf.new) (H.calls shelf.new)) result }
+    ensures whole { IfOk result CanRun }
+    ensures refused { IfErr result IsRefusal }
+{
+    match load_file(alloc, path, shelf) {
+        Ok(text) => scripted(alloc, market, &text),
+        Err(fault) => Err(file_status(fault)),
+    }
+}
+
+// The script of a text, over a market.
+pub(crate) fn scripted(alloc: Global, mut market: Opened, text: &[u8]) -> Result<ScriptRun, Status>
+    requires ready { IsReady market.names market.made.items }
+    ensures says { Says status_end run_in result (scripted (market_in market) text.now) }
+    ensures whole { IfOk result CanRun }
+    ensures refused { IfErr result IsRefusal }
+{
+    check_names(&market.names);
+    match read_script(alloc, text, &mut market.names) {
+        Ok(script) => Ok(ScriptRun { market, script }),
+        Err(fault) => Err(script_status(fault)),
+    }
+}
+
+// Names are distinct, and no more than there may be.
+fn check_names(names: &Names)
+    ensures { IsNames names.now }
+{
+    let _ = names.len();
+}

@@ -1,0 +1,5 @@
+pub mod Loaded
+pub mod Played
+pub mod Progress
+pub mod Reported
+pub mod Summed

@@ -1,0 +1,14 @@
+use Rattle.std.proofs.Common.{◌≡◌, ◌≤◌, drop}
+use Rattle.session_play.specs.Early.{outside}
+use Rattle.session_play.proofs.Progress.{Progress}
+use Rattle.session_play.proofs.play.play.Given as goal
+
+abbrev pub invariant-loop-command : goal.invariant-loop-command
+invariant-loop-command g l = record {
+  same : g.B.Bench.calc l.bench ≡ g.B.Bench.calc l.initial.bench;
+  progress : Progress g.row.P.Denot (record { calc = g.B.Bench.calc l.initial.bench; at = g.P.Picker.at; after = g.P.Picker.after })
+      l.fn.session l.commands (drop l.command-index l.commands) l.session
+      (outside (g.K.Sink.bytes l.initial.out) (g.B.Bench.count l.initial.bench) (g.B.Bench.log l.initial.bench))
+      (outside (g.K.Sink.bytes l.out) (g.B.Bench.count l.bench) (g.B.Bench.log l.bench));
+  faults : g.K.Sink.faults l.initial.out ≤ g.K.Sink.faults l.out;
+}

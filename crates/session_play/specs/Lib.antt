@@ -1,0 +1,5 @@
+pub mod Early
+pub mod Output
+pub mod Report
+pub mod Round
+pub mod Written

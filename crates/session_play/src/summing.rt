@@ -1,0 +1,83 @@
+// A load: its script is run, and what it writes is summed up.
+ghost use Rattle.std.specs.Prelude.{◌≡◌, false, None, length, All, IfOk, IfErr, OnOk, OnErr, IsErrOf};
+ghost use Rattle.desk_edge.specs.Count.{Rose};
+ghost use Rattle.desk_terms.specs.Bench.{counted, logged};
+ghost use Rattle.desk_model.specs.Sound.{IsSound};
+ghost use Rattle.session_model.specs.Standing.{IsKnown};
+ghost use Rattle.session_model.specs.Rounds.{transcript, calls_of};
+ghost use Rattle.session_play.specs.Early.{outside, IsCut, IsHalted};
+ghost use Rattle.desk_plan.specs.Found.{CanRun, run_in};
+ghost use Rattle.desk_plan.specs.Verdict.{Load as LoadWanted};
+ghost use Rattle.session_play.specs.Round.{StopsWithin};
+ghost use Rattle.session_play.specs.Written.{IsLate, Writes, ended};
+ghost use Rattle.load_summary.specs.Summary.{tally_of};
+ghost use Rattle.session_play.specs.Output.{output_in, computed_in, rounds_in};
+
+use crate::starting::begun;
+use desk_edge::{Sink, write_whole};
+use desk_plan::{ScriptRun, Status};
+use desk_terms::Bench;
+use load_summary::{Tally, summary};
+use session_commands::Command;
+use session_rounds::WatchedSession;
+use std::alloc::{AllocError, Global};
+use watch_rounds::{Order, Picker};
+
+// Runs the script of a load, and writes the sum of its transcript and the last line of it.
+pub(crate) fn sum_up<K: Sink, B: Bench>(
+    alloc: Global,
+    size: u32,
+    run: ScriptRun,
+    out: &mut K,
+    bench: &mut B,
+) -> Result<(), Status>
+    requires can { CanRun run }
+    ensures written { Writes (K.bytes out.old) (K.bytes out.new) (output_in (B.calc bench.old) (LoadWanted size (run_in run))) (ended result) }
+    ensures count { OnOk result (B.count bench.new ≡ counted (B.count bench.old) (length (computed_in (B.calc bench.old) (LoadWanted size (run_in run))))) }
+    ensures log { OnOk result (B.log bench.new ≡ logged (B.log bench.old) (computed_in (B.calc bench.old) (LoadWanted size (run_in run)))) }
+    ensures cut { IsErrOf result Status.WriteFault → IsCut (rounds_in (B.calc bench.old) (LoadWanted size (run_in run)))
+        (outside (K.bytes out.old) (B.count bench.old) (B.log bench.old)) (outside (K.bytes out.new) (B.count bench.new) (B.log bench.new)) }
+    ensures halted { IsErrOf result Status.NoMemory → IsHalted (rounds_in (B.calc bench.old) (LoadWanted size (run_in run)))
+        (outside (K.bytes out.old) (B.count bench.old) (B.log bench.old)) (outside (K.bytes out.new) (B.count bench.new) (B.log bench.new)) }
+    ensures same { B.calc bench.new ≡ B.calc bench.old }
+    ensures late { IfErr result IsLate }
+    ensures write { IsErrOf result Status.WriteFault → Rose (K.faults out.old) (K.faults out.new) }
+{
+    let (session, commands) = begun(alloc, run, Order::First)?;
+    let tally = tallied(alloc, session, commands.items(), bench)?;
+    let summary = summary(alloc, size, &tally)?;
+    match write_whole(out, &summary) {
+        Ok(()) => Ok(()),
+        Err(_) => Err(Status::WriteFault),
+    }
+}
+
+// Does the round of each command in order over a session, and counts its lines.
+fn tallied<P: Picker + Drop, B: Bench>(
+    alloc: Global,
+    mut session: WatchedSession<P>,
+    commands: &[Command],
+    bench: &mut B,
+) -> Result<Tally, AllocError>
+    requires running { session.standing.stopped ≡ false }
+    requires known { All (IsKnown session.standing) commands.now }
+    requires sound { IsSound (B.calc bench.old) session.standing.state }
+    ensures same { B.calc bench.new ≡ B.calc bench.old }
+    ensures tally { IfOk result (λ tally. tally ≡ tally_of
+        (transcript (record { calc = B.calc bench.old; at = P.at; after = P.after }) session commands.now)) }
+    ensures count { OnOk result (B.count bench.new ≡ counted (B.count bench.old)
+        (length (calls_of (record { calc = B.calc bench.old; at = P.at; after = P.after }) session commands.now))) }
+    ensures log { OnOk result (B.log bench.new ≡ logged (B.log bench.old)
+        (calls_of (record { calc = B.calc bench.old; at = P.at; after = P.after }) session commands.now)) }
+    ensures stops { OnErr result (StopsWithin (calls_of (record { calc = B.calc bench.old; at = P.at; after = P.after }) session commands.now)
+        (outside None (B.count bench.old) (B.log bench.old)) (outside None (B.count bench.new) (B.log bench.new))) }
+{
+    let mut tally = Tally::new(alloc);
+    let mut lines = Vec::new(alloc);
+    for command in commands {
+        lines.clear();
+        session.step(command, bench, &mut lines)?;
+        tally.add(&lines)?;
+    }
+    Ok(tally)
+}

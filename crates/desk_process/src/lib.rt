@@ -6,7 +6,7 @@
 
 ghost use Rattle.std.specs.Prelude.{◌≡◌};
 ghost use Rattle.std.specs.Process.{exit_status};
-ghost use Rattle.desk_top.specs.Status.{code_of};
+ghost use Rattle.desk_plan.specs.Status.{code_of};
 
 use desk_bench::DeskBench;
 use desk_edge::{FileShelf, OutSink};
@@ -24,7 +24,7 @@ pub struct Ended {
 }
 
 impl Model for Ended {
-    ghost use Rattle.desk_top.specs.declared.status.Status.{Status};
+    ghost use Rattle.desk_plan.specs.declared.status.Status.{Status};
 
     ghost Value = { Status };
 

@@ -1,12 +1,1 @@
-pub mod Calls
-pub mod Loaded
-pub mod Opening
-pub mod Planning
-pub mod Played
-pub mod Progress
-pub mod ReadFaults
-pub mod Reported
-pub mod Started
-pub mod Steps
-pub mod Summed
-pub mod Tallies
+pub mod Ended

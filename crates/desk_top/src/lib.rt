@@ -4,17 +4,7 @@
 //! `run`, `Status` with `Section`, `MarketKind` and `FileRole`.
 #![tactic(auto)]
 
-mod loading;
-mod plan;
-mod play;
-mod reading;
-mod report;
 mod running;
-mod starting;
-mod status;
-mod summing;
-mod tally;
 
-pub use market_file::{MarketKind, Section};
+pub use desk_plan::{FileRole, MarketKind, Section, Status};
 pub use running::run;
-pub use status::{FileRole, Status};

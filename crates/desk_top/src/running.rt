@@ -1,30 +1,25 @@
 // The top call.
-ghost use Rattle.std.specs.Prelude.{◌≡◌, ◌⊎◌, ◌↔◌, ◌+◌, ◌≤◌, Ok, length, map, Some, None, IfSome, IfOk, IfErr, IsErrOf, OnOk};
+ghost use Rattle.std.specs.Prelude.{◌≡◌, ◌⊎◌, ◌↔◌, ◌+◌, ◌≤◌, Ok, length, map, None, IfSome};
 ghost use Rattle.std.specs.String.{string_bytes};
 ghost use Rattle.desk_edge.specs.Count.{Rose};
 ghost use Rattle.desk_edge.specs.Shelf.{files_of};
 ghost use Rattle.desk_terms.specs.Bench.{counted, logged};
-ghost use Rattle.desk_top.specs.declared.status.FileRole.{FileRole};
-ghost use Rattle.desk_top.specs.Found.{IsBefore, CanRun, CanDo, Tells, Reads, faults_after, seen, run_in, plan_in};
-ghost use Rattle.desk_top.specs.Early.{outside, IsCut, IsHalted};
-ghost use Rattle.desk_top.specs.Run.{IsOutside, IsEarly, IsLate, IsAccepted, IsQuiet, Writes, ended, faults_then};
-ghost use Rattle.desk_top.specs.Verdict.{Plan as Wanted, Run as RunWanted, IsCheck, IsReport, plan_of, plan_calls, reading_calls, verdict_of, status_of, output_in, output_of, computed_in, computed_by, rounds_in, rounds_of};
-ghost use Rattle.desk_words.specs.Answers.{request_in, IsSized};
 ghost use Rattle.desk_words.specs.Words.{request_of};
+ghost use Rattle.desk_plan.specs.declared.status.FileRole.{FileRole};
+ghost use Rattle.desk_plan.specs.declared.status.Status.{Status};
+ghost use Rattle.desk_plan.specs.Found.{faults_then};
+ghost use Rattle.desk_plan.specs.Verdict.{Plan as Wanted, IsAccepted, IsCheck, reading_calls, status_of, verdict_of};
+ghost use Rattle.session_play.specs.Early.{outside, IsCut, IsHalted};
+ghost use Rattle.session_play.specs.Output.{computed_by, output_of, rounds_of};
+ghost use Rattle.session_play.specs.Written.{Writes};
+ghost use Rattle.desk_top.specs.Run.{IsOutside, IsEarly, IsQuiet};
 
 use crate::Status;
-use crate::loading::plan_load;
-use crate::plan::{Plan, ScriptRun};
-use crate::play::play;
-use crate::reading::{open_market, open_script};
-use crate::report::{check_of, report};
-use crate::starting::begun;
-use crate::summing::sum_up;
 use desk_edge::{Shelf, Sink};
+use desk_plan::plan_of;
 use desk_terms::Bench;
-use desk_words::{Request, WordsFault, read_words};
+use session_play::carry_out;
 use std::alloc::Global;
-use watch_rounds::Order;
 
 /// Does what the words ask for over the files of the shelf, writes the transcript to `out`, and answers how that went.
 /// The words are those behind the program's name. The prices are those of the bench.
@@ -105,103 +100,4 @@ pub fn run<H: Shelf, K: Sink, B: Bench>(
         Ok(()) => Status::Done,
         Err(status) => status,
     }
-}
-
-// What the words and the files ask for.
-fn plan_of<H: Shelf>(alloc: Global, words: &[String], shelf: &mut H) -> Result<Plan, Status>
-    ensures plans { IfSome (files_of (H.contents shelf.old)) (λ files. Tells plan_in result (verdict_of files (map string_bytes words.now))) }
-    ensures usage { IsErrOf result Status.Usage ↔ (request_of (map string_bytes words.now) ≡ None) }
-    ensures checked { IsCheck (request_of (map string_bytes words.now)) → IfOk result (λ plan. IsReport (plan_in plan)) }
-    ensures can { IfOk result CanDo }
-    ensures before { IfErr result IsBefore }
-    ensures files { files_of (H.contents shelf.new) ≡ files_of (H.contents shelf.old) }
-    ensures calls { IfSome (files_of (H.contents shelf.old)) (λ files.
-        H.calls shelf.new ≤ H.calls shelf.old + reading_calls files (map string_bytes words.now)) }
-    ensures read { IsErrOf result Status.ReadFault → Rose (H.faults shelf.old) (H.faults shelf.new) }
-    ensures counted { H.faults shelf.new ≡ faults_after result (H.faults shelf.old) }
-    ensures absent { (role : FileRole) → IsErrOf result (Status.Absent role) → Rose (H.misses shelf.old) (H.misses shelf.new) }
-{
-    match read_words(alloc, words) {
-        Ok(request) => plan_for(alloc, &request, shelf),
-        Err(WordsFault::Usage) => Err(Status::Usage),
-        Err(WordsFault::NoMemory) => Err(Status::NoMemory),
-    }
-}
-
-// What a request asks for, over the files.
-fn plan_for<H: Shelf>(alloc: Global, request: &Request, shelf: &mut H) -> Result<Plan, Status>
-    requires sized { IsSized request.now }
-    ensures reads { Reads plan_in (plan_of (request_in request.now)) (plan_calls (request_in request.now))
-        (seen (H.contents shelf.old) (H.faults shelf.old) (H.misses shelf.old) (H.calls shelf.old))
-        (seen (H.contents shelf.new) (H.faults shelf.new) (H.misses shelf.new) (H.calls shelf.new)) result }
-    ensures checked { IsCheck (Some (request_in request.now)) → IfOk result (λ plan. IsReport (plan_in plan)) }
-    ensures can { IfOk result CanDo }
-{
-    match request {
-        Request::Run {
-            market,
-            script,
-            order,
-        } => {
-            let market = open_market(alloc, shelf, market.text())?;
-            let run = open_script(alloc, shelf, market, script.text())?;
-            Ok(Plan::Run { run, order: *order })
-        }
-        Request::Load(size) => plan_load(alloc, *size),
-        Request::Check { market } => {
-            let market = open_market(alloc, shelf, market.text())?;
-            Ok(check_of(&market))
-        }
-    }
-}
-
-// Does what is to be done.
-fn carry_out<K: Sink, B: Bench>(
-    alloc: Global,
-    plan: Plan,
-    out: &mut K,
-    bench: &mut B,
-) -> Result<(), Status>
-    requires can { CanDo plan }
-    ensures written { Writes (K.bytes out.old) (K.bytes out.new) (output_in (B.calc bench.old) (plan_in plan)) (ended result) }
-    ensures count { OnOk result (B.count bench.new ≡ counted (B.count bench.old) (length (computed_in (B.calc bench.old) (plan_in plan)))) }
-    ensures log { OnOk result (B.log bench.new ≡ logged (B.log bench.old) (computed_in (B.calc bench.old) (plan_in plan))) }
-    ensures cut { IsErrOf result Status.WriteFault → IsCut (rounds_in (B.calc bench.old) (plan_in plan))
-        (outside (K.bytes out.old) (B.count bench.old) (B.log bench.old)) (outside (K.bytes out.new) (B.count bench.new) (B.log bench.new)) }
-    ensures halted { IsErrOf result Status.NoMemory → IsHalted (rounds_in (B.calc bench.old) (plan_in plan))
-        (outside (K.bytes out.old) (B.count bench.old) (B.log bench.old)) (outside (K.bytes out.new) (B.count bench.new) (B.log bench.new)) }
-    ensures checked { IsReport (plan_in plan) → bench.new ≡ bench.old }
-    ensures same { B.calc bench.new ≡ B.calc bench.old }
-    ensures late { IfErr result IsLate }
-    ensures write { IsErrOf result Status.WriteFault → Rose (K.faults out.old) (K.faults out.new) }
-{
-    match plan {
-        Plan::Run { run, order } => play_script(alloc, run, order, out, bench),
-        Plan::Load { size, run } => sum_up(alloc, size, run, out, bench),
-        Plan::Check { objects, fixings } => report(alloc, objects, fixings, out),
-    }
-}
-
-// Plays a script over a session of its market's objects.
-fn play_script<K: Sink, B: Bench>(
-    alloc: Global,
-    run: ScriptRun,
-    order: Order,
-    out: &mut K,
-    bench: &mut B,
-) -> Result<(), Status>
-    requires can { CanRun run }
-    ensures written { Writes (K.bytes out.old) (K.bytes out.new) (output_in (B.calc bench.old) (RunWanted (run_in run) order)) (ended result) }
-    ensures count { OnOk result (B.count bench.new ≡ counted (B.count bench.old) (length (computed_in (B.calc bench.old) (RunWanted (run_in run) order)))) }
-    ensures log { OnOk result (B.log bench.new ≡ logged (B.log bench.old) (computed_in (B.calc bench.old) (RunWanted (run_in run) order))) }
-    ensures cut { IsErrOf result Status.WriteFault → IsCut (rounds_in (B.calc bench.old) (RunWanted (run_in run) order))
-        (outside (K.bytes out.old) (B.count bench.old) (B.log bench.old)) (outside (K.bytes out.new) (B.count bench.new) (B.log bench.new)) }
-    ensures halted { IsErrOf result Status.NoMemory → IsHalted (rounds_in (B.calc bench.old) (RunWanted (run_in run) order))
-        (outside (K.bytes out.old) (B.count bench.old) (B.log bench.old)) (outside (K.bytes out.new) (B.count bench.new) (B.log bench.new)) }
-    ensures same { B.calc bench.new ≡ B.calc bench.old }
-    ensures late { IfErr result IsLate }
-    ensures write { IsErrOf result Status.WriteFault → Rose (K.faults out.old) (K.faults out.new) }
-{
-    let (session, commands) = begun(alloc, run, order)?;
-    play(alloc, session, commands.items(), out, bench)
 }

@@ -1,11 +1,11 @@
 use Rattle.std.specs.Prelude.{map}
 use Rattle.std.specs.String.{string_bytes}
 use Rattle.desk_edge.specs.Shelf.{files_of}
-use Rattle.desk_top.specs.Found.{plan_in}
-use Rattle.desk_top.proofs.Planning.{told_written}
-use Rattle.desk_top.specs.Verdict.{Check}
-use Rattle.desk_top.proofs.Progress.{halted_before}
-use Rattle.desk_top.proofs.Steps.{told_any}
+use Rattle.market_loader.proofs.Steps.{told_any}
+use Rattle.desk_plan.specs.Found.{plan_in}
+use Rattle.desk_plan.specs.Verdict.{Check}
+use Rattle.session_play.proofs.Progress.{halted_before}
+use Rattle.desk_top.proofs.Ended.{told_written}
 use Rattle.desk_top.proofs.running.run.Goals as goal
 
 pub returns-in-Err-clause-halted : goal.returns-in-Err-clause-halted

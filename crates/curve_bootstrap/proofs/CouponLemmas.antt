@@ -6,12 +6,13 @@ use Rattle.std.specs.declared.cmp.Ordering.{Ordering}
 use Rattle.std.specs.declared.cmp.Ordering.TheVariants.{Less}
 use Rattle.std.specs.Cmp.{int_ranks}
 use Rattle.std.specs.Ordering.{MatchOrdering}
-use Rattle.std.specs.List.{slice_get, AllWithin}
+use Rattle.std.specs.List.{slice_get, list_any, AllWithin}
 use Rattle.std.specs.List.Sorted.{IsPartitionedBy, IsStrictlySortedBy}
-use Rattle.std.specs.Ordering.{int_cmp}
+use Rattle.std.specs.Ordering.{int_cmp, int_eq}
 use Rattle.day_counters.specs.Counter.{frac}
 use Rattle.day_shift.specs.Adjusted.{day_or_fault}
 use Rattle.year_parts.specs.declared.counters.Counter.{Counter}
+use Rattle.schedule_rules.proofs.RisingLemmas.{day_itself, or_left, or_right}
 use Rattle.curve_points.proofs.PointLemmas.{le_true}
 use Rattle.curve_bootstrap.specs.declared.coupons.Coupon.{Coupon}
 use Rattle.curve_bootstrap.specs.Coupon.{AreOrdered, AreAfter, AreUpTo, AreParts, AreCoupons}
@@ -134,19 +135,33 @@ period_count : (counter : Counter) (business : ℤ → Bool) (from : ℤ) (days 
 period_count counter business from [] = refl
 period_count counter business from (day ∷ days) = ap suc (period_count counter business day days)
 
-pub periods_are : (counter : Counter) (business : ℤ → Bool) (reference : ℤ) (days : List ℤ) → IsStrictlySortedBy int_cmp days → slice_get days 0 ≡ Some reference → length days ≤ 801
+-- the coupons of a swap that starts on a day: its schedule's days behind the first are after that day
+pub periods_are : (counter : Counter) (business : ℤ → Bool) (reference first : ℤ) (days : List ℤ) → IsStrictlySortedBy int_cmp days → slice_get days 0 ≡ Some first
+    → ((x : ℤ) → list_any (int_eq x) days ≡ true → first <ℤ x → reference <ℤ x) → length days ≤ 801
     → AreCoupons reference (end_of reference (periods counter business days)) (periods counter business days)
-periods_are counter business reference [] sorted first few = absurd cc
-periods_are counter business reference (day ∷ days) sorted first few =
-    let same : day ≡ reference = cc in
-    let rising = subst (λ (d : ℤ). AreRising d days) same (from_sorted day days sorted) in
-    rw same (record {
-      few = omega (arith, period_count counter business reference days);
-      ordered = period_ordered counter business reference days rising;
-      up_to = period_up_to counter business reference days rising;
-      after = λ _. period_after counter business reference reference days (omega (arith, ints)) rising;
-      parts = period_parts counter business reference days;
-    })
+periods_are counter business reference first [] sorted is later few = absurd cc
+periods_are counter business reference first (day ∷ []) sorted is later few = record {
+  few = omega arith;
+  ordered = tt;
+  up_to = All-nil (λ (c : Coupon). c.day ≤ℤ reference);
+  after = λ _. All-nil (λ (c : Coupon). reference <ℤ c.day);
+  parts = All-nil (λ (c : Coupon). pos 0 ≤ℤ c.parts);
+}
+periods_are counter business reference first (day ∷ next ∷ days) sorted is later few =
+    let same : day ≡ first = cc in
+    let rising = from_sorted day (next ∷ days) sorted in
+    let step = rising.0 in
+    let listed = or_right (int_eq next day) (list_any (int_eq next) (next ∷ days)) (or_left (int_eq next next) (list_any (int_eq next) days) (day_itself next)) in
+    let gone = later next listed (omega (arith, ints, step, same)) in
+    let one : Coupon = record { day = next; parts = pos (frac counter business day next) } in
+    let rest = periods_from counter business next days in
+    record {
+      few = omega (arith, period_count counter business next days);
+      ordered = (omega (arith, ints, gone), period_ordered counter business next days rising.1);
+      up_to = All-cons (λ (c : Coupon). c.day ≤ℤ end_of next rest) one rest (period_not_past counter business next days rising.1) (period_up_to counter business next days rising.1);
+      after = λ _. All-cons (λ (c : Coupon). reference <ℤ c.day) one rest gone (period_after counter business reference next days (omega (arith, ints, gone)) rising.1);
+      parts = All-cons (λ (c : Coupon). pos 0 ≤ℤ c.parts) one rest (omega (arith, ints)) (period_parts counter business next days);
+    }
 
 -- one coupon of a period, paid at its end
 pub only_is : (from day : ℤ) (parts : ℕ) → from ≤ℤ day → AreCoupons from day (record { day = day; parts = pos parts } ∷ [])

@@ -3,6 +3,7 @@ pub mod SumLemmas
 pub mod CouponLemmas
 pub mod GivenLemmas
 pub mod SwapLemmas
+pub mod StartLemmas
 pub mod NodeLemmas
 pub mod BuiltLemmas
 pub mod LawLemmas

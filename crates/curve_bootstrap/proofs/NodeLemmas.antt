@@ -29,7 +29,7 @@ beyond-settled from (n ∷ nodes) e day after up =
     (λ more. let test = is_not_lt n.day day more in rw test refl)
 
 -- no node of rising ones is after the last
-last-after : (from : CurveNode) (nodes : List CurveNode) → IsRisingFrom from.day nodes → from.day ≤ℤ (last_of from nodes).day
+pub last-after : (from : CurveNode) (nodes : List CurveNode) → IsRisingFrom from.day nodes → from.day ≤ℤ (last_of from nodes).day
 last-after from [] rising = omega (arith, ints)
 last-after from (n ∷ nodes) rising = let next = last-after n nodes rising.1 in let here = rising.0 in omega (arith, ints, next, here)
 

@@ -2,7 +2,7 @@
 use Rattle.std.proofs.Common.{◌≡◌, ℕ, zero, suc, ◌*◌, ◌/◌, ◌≤◌, arith, refl, sym, ap, subst, ◌∙◌, ◌⊎◌, inl, inr, ℤ, pos, negsuc, ◌+ℤ◌, ◌-ℤ◌, ◌*ℤ◌, ◌<ℤ◌, ◌≤ℤ◌, unsigned_abs, true, false, Bool, if◌then◌else◌, List, [], ◌++◌, length, length-append, Option, Some, None, is_some, Ok, Err, w32, FitsSigned}
 use Rattle.std.proofs.lemmas.Int.{ints}
 use Rattle.std.proofs.Math.Nat.{div-le_of_le-mul}
-use Rattle.std.specs.List.{cons_option, slice_get}
+use Rattle.std.specs.List.{cons_option}
 use Rattle.std.specs.Int.Signed.{le_z}
 use Rattle.day_number.specs.Day.{IsDayNumber}
 use Rattle.day_number.specs.Tenor.{IsTenor, unit_limit}
@@ -31,9 +31,7 @@ use Rattle.curve_bootstrap.specs.declared.faults.HelperFault.TheVariants as help
 use Rattle.curve_bootstrap.specs.Built.{Comes, plan_of, swap_to, swap_over, where_adjusted, swap_end}
 use Rattle.day_number.specs.declared.conventions.Convention.{Convention}
 use Rattle.holiday_calendars.specs.Calendar.{is_business_day}
-use Rattle.day_shift.specs.Business.{IsBusinessDay}
 use Rattle.day_shift.specs.Adjusted.{adjusted}
-use Rattle.day_shift.proofs.OpenLemmas.{business_days_stay}
 
 -- the count of a tenor fits its type
 pub tenor_fits : (tenor : Tenor) → IsTenor tenor → FitsSigned w32 tenor.count
@@ -147,14 +145,8 @@ pub swap_due : (calendar : Calendar) (reference : ℤ) (helper : Helper) (every 
     ≡ swap_over helper.counter (is_business_day calendar) (schedule (is_business_day calendar) (plan_of calendar reference helper every end))
 swap_due calendar reference helper every end is = ap (swap_to calendar reference helper every) (sym is)
 
--- the first day of its schedule is the reference day
-pub first_there : (business : ℤ → Bool) (convention : Convention) (b : Bool) (reference : ℤ) (days dates : List ℤ) → IsBusinessDay business reference
-    → slice_get days 0 ≡ adjusted business (if b then convention else convention) reference → dates ≡ days → slice_get dates 0 ≡ Some reference
-first_there business convention b reference days dates open_there first same =
-    ap (λ (ds : List ℤ). slice_get ds 0) same ∙ (first ∙ business_days_stay business (if b then convention else convention) reference open_there)
-
 -- one convention, whichever of two alike is taken
-alike : (business : ℤ → Bool) (convention : Convention) (b : Bool) (day : ℤ) → adjusted business (if b then convention else convention) day ≡ adjusted business convention day
+pub alike : (business : ℤ → Bool) (convention : Convention) (b : Bool) (day : ℤ) → adjusted business (if b then convention else convention) day ≡ adjusted business convention day
 alike business convention true day = refl
 alike business convention false day = refl
 

@@ -17,6 +17,8 @@ use Rattle.schedule_rules.specs.declared.faults.PlanFault.{PlanFault}
 use Rattle.schedule_rules.specs.declared.faults.PlanFault.TheVariants.{Collapsed, DateRange as PlanRange, Order, Tenor as TenorFault, Stub, TooMany, NoMemory as PlanMemory}
 use Rattle.schedule_rules.specs.Schedule.{schedule}
 use Rattle.curve_terms.specs.declared.terms.Helper.{Helper}
+use Rattle.curve_terms.specs.declared.terms.CurveStart.{CurveStart}
+use Rattle.curve_terms.specs.declared.terms.CurveStart.TheVariants.{Moving, Fixed}
 use Rattle.curve_terms.specs.declared.terms.CurveTerms.{CurveTerms}
 use Rattle.curve_points.specs.declared.curves.CurveNode.{CurveNode}
 use Rattle.curve_points.specs.Curve.{Curve, origin}
@@ -63,11 +65,6 @@ abbrev pub deposit_to : Counter → (ℤ → Bool) → ℤ → Option ℤ → Re
 deposit_to counter business reference (Some day) =
     Ok (record { day = day; parts = pos (frac counter business reference day) } ∷ [])
 deposit_to counter business reference None = Err DateRange
-
--- a coupon that is the only one
-abbrev pub alone : Result Coupon HelperFault → Result (List Coupon) HelperFault
-alone (Ok coupon) = Ok (coupon ∷ [])
-alone (Err fault) = Err fault
 
 -- the coupons of a schedule
 abbrev pub swap_over : Counter → (ℤ → Bool) → Result (List ℤ) PlanFault → Result (List Coupon) HelperFault
@@ -169,10 +166,15 @@ nodes_of coupons from k nodes (helper ∷ helpers) [] = Ok nodes
 nodes_of coupons from k nodes (helper ∷ helpers) (rate ∷ rates) =
     go_on k (node_by from nodes rate (coupons helper)) (λ node. nodes_of coupons from (suc k) (nodes ++ node ∷ []) helpers rates)
 
--- the reference day: the settlement days on from a day
+-- the day that a curve starts on: the settlement days on from an evaluation date, or its own as it is, which may be a
+-- holiday (QuantLib's settlementDays and referenceDate)
+abbrev pub started_on : (ℤ → Bool) → ℤ → CurveStart → Option ℤ
+started_on business today (Moving settlement) = advanced business Days Following false today (pos settlement)
+started_on business today (Fixed day) = Some day
+
+-- the reference day of terms on an evaluation date
 abbrev pub reference_day : CurveTerms → ℤ → Option ℤ
-reference_day terms today =
-    advanced (is_business_day terms.cal) Days Following false today (pos terms.settlement)
+reference_day terms today = started_on (is_business_day terms.cal) today terms.start
 
 -- the curve of an owner, a reference day and nodes
 abbrev pub curve_of : ℕ → ℤ → Result (List CurveNode) BuildFault → Result Curve BuildFault

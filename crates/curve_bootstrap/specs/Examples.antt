@@ -10,6 +10,7 @@ use Rattle.holiday_calendars.specs.declared.bases.Base.TheVariants.{Null, Weeken
 use Rattle.holiday_calendars.specs.declared.calendars.Calendar.{Calendar}
 use Rattle.holiday_calendars.specs.declared.calendars.Calendar.TheVariants.{One}
 use Rattle.curve_terms.specs.declared.terms.Helper.{Helper}
+use Rattle.curve_terms.specs.declared.terms.CurveStart.TheVariants.{Moving, Fixed}
 use Rattle.curve_terms.specs.declared.terms.CurveTerms.{CurveTerms}
 use Rattle.curve_bootstrap.specs.declared.coupons.Coupon.{Coupon}
 use Rattle.curve_bootstrap.specs.declared.faults.HelperFault.TheVariants as helper
@@ -38,7 +39,10 @@ abbrev pub days : ℤ → Helper
 days count = helper_of (tenor_of count Days) None Following false
 
 abbrev pub terms_of : Calendar → ℕ → List Helper → CurveTerms
-terms_of cal settlement helpers = record { cal = cal; settlement = settlement; helpers = helpers }
+terms_of cal settlement helpers = record { cal = cal; start = Moving settlement; helpers = helpers }
+
+abbrev pub fixed_terms : Calendar → ℤ → List Helper → CurveTerms
+fixed_terms cal day helpers = record { cal = cal; start = Fixed day; helpers = helpers }
 
 -- a coupon by its day and its days over 360
 abbrev pub paid : ℤ → ℤ → Coupon
@@ -51,12 +55,14 @@ curve_to day factor = record { owner = 1; reference = pos 19_810; nodes = record
 -- the days are 2024-01-02 (19,724), 2024-01-04 (19,726), 2024-02-29 (19,782), 2024-03-01 (19,783), 2024-03-27 to
 -- 2024-04-02 (19,809 to 19,815, with Good Friday and Easter Monday), 2024-04-29 (19,842), 2024-04-30 (19,843),
 -- 2024-08-28 (19,963), 2024-08-30 to 2024-09-02 (19,965 to 19,968, with a weekend), 2025-02-28 (20,147), 2025-03-01
--- (20,148, a Saturday), 2025-03-03 (20,150), 2199-12-05 (83,979) and 2199-12-31 (84,005)
+-- (20,148, a Saturday), 2025-03-03 (20,150), 2025-08-29 (20,329), 2025-08-31 (20,331, a Sunday), 2025-09-01 (20,332),
+-- 2199-12-05 (83,979) and 2199-12-31 (84,005)
 pub record AreWorked : Type 0 where
   pub settled : reference_day (terms_of (One Target) 2 []) (pos 19_724) ≡ Some (pos 19_726)
   pub settled_over_easter : reference_day (terms_of (One Target) 1 []) (pos 19_810) ≡ Some (pos 19_815)
   pub settled_from_a_weekend : reference_day (terms_of (One Weekends) 0 []) (pos 19_812) ≡ Some (pos 19_814)
   pub settled_past : reference_day (terms_of (One Null) 1 []) (pos 84_005) ≡ None
+  pub fixed_on_a_holiday : reference_day (fixed_terms (One Target) (pos 19_811) []) (pos 84_005) ≡ Some (pos 19_811)
   pub deposit_to_a_month_end : coupons_of (One Null) (pos 19_782) (deposit Following true)
       ≡ Ok (paid (pos 19_813) (pos 966_301) ∷ [])
   pub deposit_by_the_day : coupons_of (One Null) (pos 19_782) (deposit Following false)
@@ -81,6 +87,15 @@ pub record AreWorked : Type 0 where
       ≡ Ok (paid (pos 19_965) (pos 5_673_122) ∷ paid (pos 20_147) (pos 5_673_122) ∷ [])
   pub swap_end_unadjusted : coupons_of (One Weekends) (pos 19_783) (swap Unadjusted false)
       ≡ Ok (paid (pos 19_967) (pos 5_735_464) ∷ paid (pos 20_148) (pos 5_641_951) ∷ [])
+  pub deposit_from_a_holiday : coupons_of (One Target) (pos 19_811) (deposit Following false)
+      ≡ Ok (paid (pos 19_842) (pos 966_301) ∷ [])
+  pub days_from_a_holiday : coupons_of (One Target) (pos 19_811) (days (pos 1)) ≡ Ok (paid (pos 19_815) (pos 124_684) ∷ [])
+  pub swap_from_a_holiday_following : coupons_of (One Weekends) (pos 19_966) (swap Following false)
+      ≡ Ok (paid (pos 20_147) (pos 5_579_609) ∷ paid (pos 20_332) (pos 5_766_635) ∷ [])
+  pub swap_from_a_holiday_preceding : coupons_of (One Weekends) (pos 19_966) (swap Preceding false)
+      ≡ Ok (paid (pos 20_147) (pos 5_673_122) ∷ paid (pos 20_329) (pos 5_673_122) ∷ [])
+  pub swap_from_a_holiday_unadjusted : coupons_of (One Weekends) (pos 19_966) (swap Unadjusted false)
+      ≡ Ok (paid (pos 20_147) (pos 5_641_951) ∷ paid (pos 20_331) (pos 5_735_464) ∷ [])
   pub deposit_past : coupons_of (One Null) (pos 83_979) (deposit Following false) ≡ Err helper.DateRange
   pub swap_past : coupons_of (One Null) (pos 83_979) (swap Following false) ≡ Err helper.DateRange
   pub built_past : built_curve 1 (terms_of (One Null) 1 (deposit Following false ∷ [])) (pos 84_005) (pos 36_000_000 ∷ [])

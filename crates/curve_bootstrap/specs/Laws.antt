@@ -1,6 +1,7 @@
 -- Laws of bootstrapped curves, in the words of those who build them.
 use Rattle.std.specs.Prelude.{◌≡◌, ℕ, suc, ℤ, pos, ◌-ℤ◌, ◌≤ℤ◌, ◌<ℤ◌, false, List, [], ◌∷◌, ◌++◌, Some, Result, Ok, Err}
 use Rattle.curve_terms.specs.declared.terms.Helper.{Helper}
+use Rattle.curve_terms.specs.declared.terms.CurveStart.TheVariants.{Fixed}
 use Rattle.curve_terms.specs.declared.terms.CurveTerms.{CurveTerms}
 use Rattle.curve_points.specs.declared.curves.CurveNode.{CurveNode}
 use Rattle.curve_points.specs.Curve.{Curve, IsRisingFrom, origin}
@@ -8,7 +9,7 @@ use Rattle.curve_points.specs.Segment.{most}
 use Rattle.curve_points.specs.Point.{discount_at}
 use Rattle.curve_bootstrap.specs.declared.coupons.Coupon.{Coupon}
 use Rattle.curve_bootstrap.specs.declared.faults.HelperFault.{HelperFault}
-use Rattle.curve_bootstrap.specs.Built.{coupons_of, end_of, reference_day}
+use Rattle.curve_bootstrap.specs.Built.{coupons_of, end_of, reference_day, built_curve}
 use Rattle.curve_bootstrap.specs.Coupon.{total, parts_of, AreCoupons}
 use Rattle.curve_bootstrap.specs.Node.{node_of, excess, last_of, is_negative_sum, trial}
 
@@ -58,3 +59,8 @@ abbrev pub IsBuilt : CurveTerms → ℤ → List ℤ → Curve → Type 0
 IsBuilt terms today rates curve =
     (reference_day terms today ≡ Some curve.reference)
     × AreNodesOf (coupons_of terms.cal curve.reference) (origin curve.reference) [] terms.helpers rates curve.nodes
+
+-- law: a curve that starts on a day of its own is the same on each evaluation date
+abbrev pub FixedCurvesStay : Type 0
+FixedCurvesStay = (owner : ℕ) (terms : CurveTerms) (day today other : ℤ) (rates : List ℤ)
+    → terms.start ≡ Fixed day → built_curve owner terms today rates ≡ built_curve owner terms other rates

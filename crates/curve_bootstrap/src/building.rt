@@ -1,7 +1,9 @@
 // A curve from its terms.
-ghost use Rattle.std.specs.Prelude.{◌≡◌, ◌≤◌, length, false, [], ◌<ℤ◌, IfOk, IfSome, IfNone, Some, None, Ok, Err};
+ghost use Rattle.std.specs.Prelude.{◌≡◌, ◌≤◌, pos, length, false, [], ◌<ℤ◌, IfOk, IfSome, IfNone, Some, None, Ok, Err};
 ghost use Rattle.std.specs.List.{All};
-ghost use Rattle.day_shift.specs.Business.{IsBusinessDay};
+ghost use Rattle.day_number.specs.declared.conventions.Convention.TheVariants.{Following};
+ghost use Rattle.day_number.specs.declared.tenors.Unit.TheVariants.{Days};
+ghost use Rattle.day_shift.specs.Advanced.{advanced};
 ghost use Rattle.holiday_calendars.specs.Calendar.{is_business_day};
 ghost use Rattle.day_number.specs.Tenor.{IsTenor};
 ghost use Rattle.curve_terms.specs.Terms.{IsInRange, IsHelper, IsOfMonths};
@@ -12,11 +14,11 @@ ghost use Rattle.curve_bootstrap.specs.Built as due;
 ghost use Rattle.curve_bootstrap.specs.Laws.{IsBuilt};
 
 use crate::faults::{HelperFault, numbered};
-use crate::helpers::{deposit_coupon, swap_coupons};
-use crate::nodes::node;
+use crate::helpers::{coupon, deposit_end, swap_coupons};
+use crate::nodes::{is_not_after, node};
 use crate::{BuildFault, Coupon};
 use curve_points::{CurveNode, CurveValue, NodeList, ONE};
-use curve_terms::{CurveTerms, Helper};
+use curve_terms::{CurveStart, CurveTerms, Helper};
 use day_number::{Convention, Day, Tenor, Unit};
 use day_shift::advance;
 use desk_names::ObjId;
@@ -25,7 +27,7 @@ use holiday_calendars::Calendar;
 use std::alloc::Global;
 
 /// The curve of terms on an evaluation date, by the rates of the helpers in their order. The reference day is the date
-/// with the settlement days added; every helper starts there. The factor at a helper's end is the least whole number of
+/// with the settlement days added, or the curve's own day as it is, which may be a holiday; every helper starts there. The factor at a helper's end is the least whole number of
 /// units from 1 to 4 * 10^12 at which the helper is worth 1 or more on the curve so far. That the reference day, or the day
 /// that the first helper's tenor leads to, is out of range is told without memory, and so is why a first deposit has no
 /// node.
@@ -45,19 +47,28 @@ pub fn build(
         IfNone (due.first_led terms.now.cal reference terms.now.helpers) (result ≡ Err BuildFault.DateRange)) }
     ensures memory { due.takes_memory terms.now today rates.now ≡ false → result ≡ due.built_curve owner terms.now today rates.now }
 {
-    let _number = today.number();
-    let settlement = i32::from(terms.settlement);
-    match advance(
-        &terms.cal,
-        today,
-        settlement,
-        Unit::Days,
-        Convention::Following,
-        false,
-    ) {
-        Ok(reference) => built(alloc, owner, terms, reference, rates),
-        Err(_) => Err(BuildFault::DateRange),
+    match reference_day(terms, today) {
+        Some(reference) => built(alloc, owner, terms, reference, rates),
+        None => Err(BuildFault::DateRange),
     }
+}
+
+// The reference day, where there is one: so many business days on from the evaluation date, or the curve's own.
+fn reference_day(terms: &CurveTerms, today: Day) -> Option<Day>
+    ensures { result ≡ due.reference_day terms.now today }
+{
+    match terms.start {
+        CurveStart::Moving(settlement) => settled_day(&terms.cal, settlement, today),
+        CurveStart::Fixed(day) => Some(day),
+    }
+}
+
+// The day so many business days on from the evaluation date, where there is one.
+fn settled_day(cal: &Calendar, settlement: u8, today: Day) -> Option<Day>
+    ensures { result ≡ advanced (is_business_day cal.now) Days Following false today (pos settlement) }
+{
+    let on = i32::from(settlement);
+    advance(cal, today, on, Unit::Days, Convention::Following, false).ok()
 }
 
 // The curve from a reference day.
@@ -70,7 +81,6 @@ fn built(
 ) -> Result<CurveValue, BuildFault>
     requires range { IsInRange terms.now }
     requires rates { length rates.now ≡ length terms.now.helpers }
-    requires business { IsBusinessDay (is_business_day terms.now.cal) reference }
     ensures given { due.Gives (due.curve_of owner reference
         (due.nodes_of (due.coupons_of terms.now.cal reference) (origin reference) 1 [] terms.now.helpers rates.now)) result }
     ensures day { IfNone (due.first_led terms.now.cal reference terms.now.helpers) (result ≡ Err BuildFault.DateRange) }
@@ -91,7 +101,6 @@ fn nodes_from(
     helpers: &[Helper],
     rates: &[Rate],
 ) -> Result<NodeList, BuildFault>
-    requires business { IsBusinessDay (is_business_day calendar.now) reference }
     requires range { All IsHelper helpers.now }
     requires count { length helpers.now ≤ 64 }
     requires rates { length rates.now ≡ length helpers.now }
@@ -137,7 +146,6 @@ fn next_node(
     helper: &Helper,
     rate: Rate,
 ) -> Result<CurveNode, HelperFault>
-    requires business { IsBusinessDay (is_business_day calendar.now) from.now.day }
     requires range { IsHelper helper.now }
     requires rising { IsRisingFrom from.now.day nodes.now }
     requires last { last.now ≡ last_of from.now nodes.now }
@@ -162,17 +170,21 @@ fn deposit_node(
     helper: &Helper,
     rate: Rate,
 ) -> Result<CurveNode, HelperFault>
-    requires business { IsBusinessDay (is_business_day calendar.now) from.now.day }
     requires range { IsTenor helper.now.tenor }
     requires rising { IsRisingFrom from.now.day nodes.now }
     requires last { last.now ≡ last_of from.now nodes.now }
     ensures given { result ≡ due.node_by from.now nodes.now rate (due.coupons_by calendar.now from.now.day helper.now None) }
     ensures after { IfOk result (λ node. last.now.day <ℤ node.day) }
 {
-    match deposit_coupon(calendar, from.day, helper) {
-        Ok(coupon) => node_by(from, nodes, last, rate, &[coupon]),
-        Err(fault) => Err(fault),
+    let Some(end) = deposit_end(calendar, from.day, helper) else {
+        return Err(HelperFault::DateRange);
+    };
+    // The order comes first: an end may lie before a reference day that is a holiday.
+    if is_not_after(end, last.day) {
+        return Err(HelperFault::Pillar);
     }
+    let only = coupon(helper.counter, calendar, from.day, end);
+    node_by(from, nodes, last, rate, &[only])
 }
 
 // The node of a par swap behind others.
@@ -186,7 +198,6 @@ fn swap_node(
     every: Tenor,
     rate: Rate,
 ) -> Result<CurveNode, HelperFault>
-    requires business { IsBusinessDay (is_business_day calendar.now) from.now.day }
     requires tenor { IsOfMonths helper.now.tenor }
     requires every { IsOfMonths every }
     requires rising { IsRisingFrom from.now.day nodes.now }

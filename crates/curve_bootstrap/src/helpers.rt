@@ -1,10 +1,9 @@
 // The coupons of a helper.
-ghost use Rattle.std.specs.Prelude.{◌≡◌, ◌≤ℤ◌, pos, [], ◌∷◌, IfOk, IfNone, Some, None, Ok, Err};
+ghost use Rattle.std.specs.Prelude.{◌≡◌, ◌≤ℤ◌, pos, IfOk, IfNone, Some, None, Ok, Err};
 ghost use Rattle.std.specs.List.Sorted.{IsStrictlySortedBy};
 ghost use Rattle.std.specs.Ordering.{int_cmp};
 ghost use Rattle.day_counters.specs.Counter.{frac};
 ghost use Rattle.day_number.specs.Tenor.{IsTenor};
-ghost use Rattle.day_shift.specs.Business.{IsBusinessDay};
 ghost use Rattle.holiday_calendars.specs.Calendar.{is_business_day};
 ghost use Rattle.schedule_rules.specs.Step.{units_on};
 ghost use Rattle.curve_terms.specs.Terms.{IsOfMonths};
@@ -22,16 +21,10 @@ use schedule_rules::{Plan, PlanFault, Rule, make};
 use std::alloc::Global;
 use year_parts::Counter;
 
-/// The one coupon of a deposit that starts at the reference day. It takes no memory.
-pub(crate) fn deposit_coupon(
-    calendar: &Calendar,
-    reference: Day,
-    helper: &Helper,
-) -> Result<Coupon, HelperFault>
-    requires business { IsBusinessDay (is_business_day calendar.now) reference }
-    requires range { IsTenor helper.now.tenor }
-    ensures given { due.alone result ≡ due.coupons_by calendar.now reference helper.now None }
-    ensures fits { IfOk result (λ coupon. AreCoupons reference coupon.day (coupon ∷ [])) }
+/// The end of a deposit that starts at the reference day: the day that its tenor leads to, where there is one.
+pub(crate) fn deposit_end(calendar: &Calendar, reference: Day, helper: &Helper) -> Option<Day>
+    requires { IsTenor helper.now.tenor }
+    ensures { result ≡ due.led_by calendar.now reference helper.now None }
 {
     let tenor = helper.tenor;
     match advance(
@@ -42,13 +35,13 @@ pub(crate) fn deposit_coupon(
         helper.conv,
         helper.eom,
     ) {
-        Ok(day) => Ok(coupon(helper.counter, calendar, reference, day)),
-        Err(_) => Err(HelperFault::DateRange),
+        Ok(day) => Some(day),
+        Err(_) => None,
     }
 }
 
-// The coupon of a period.
-fn coupon(counter: Counter, calendar: &Calendar, from: Day, to: Day) -> Coupon
+/// The coupon of a period.
+pub(crate) fn coupon(counter: Counter, calendar: &Calendar, from: Day, to: Day) -> Coupon
     requires { from ≤ℤ to }
     ensures { result ≡ record { day = to; parts = pos (frac counter (is_business_day calendar.now) from to) } }
 {
@@ -67,16 +60,17 @@ pub(crate) fn swap_coupons(
     helper: &Helper,
     every: Tenor,
 ) -> Result<Vec<Coupon>, HelperFault>
-    requires business { IsBusinessDay (is_business_day calendar.now) reference }
     requires tenor { IsOfMonths helper.now.tenor }
     requires every { IsOfMonths every }
     ensures given { due.GivesHelper (λ cs. cs.items) (due.coupons_by calendar.now reference helper.now (Some every)) result }
     ensures day { IfNone (due.led_by calendar.now reference helper.now (Some every)) (result ≡ Err HelperFault.DateRange) }
     ensures fits { IfOk result (λ cs. AreCoupons reference (due.end_of reference cs.items) cs.items) }
 {
+    let _start = reference.number();
     let Some(end) = swap_end(calendar, reference, helper) else {
         return Err(HelperFault::DateRange);
     };
+    let _end = end.number();
     let plan = Plan {
         start: reference,
         end,

@@ -17,4 +17,4 @@ mod sums;
 pub use building::build;
 pub(crate) use coupons::Coupon;
 pub use faults::BuildFault;
-pub use laws::{excess_rises_law, nodes_are_least_law, trial_law};
+pub use laws::{excess_rises_law, fixed_curves_stay_law, nodes_are_least_law, trial_law};

@@ -62,8 +62,8 @@ fn reached_by(coupons: &[Coupon], day: Day, from: Day) -> usize
         { coupon.day <= day },
     )
 }
-// Whether a day is not after another.
-fn is_not_after(day: Day, other: Day) -> bool
+/// Whether a day is not after another.
+pub(crate) fn is_not_after(day: Day, other: Day) -> bool
     ensures { result ≡ int_le day other }
 {
     day <= other

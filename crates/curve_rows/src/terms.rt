@@ -1,7 +1,7 @@
 // Helpers `kind:tenor:every:convention:eom:counter:rate`, separated by `;`: D a deposit, S a swap, the rate in 10^-9.
 use crate::calendars::calendar_of;
 use crate::rows::Row;
-use curve_terms::{CurveTerms, Helper, HelperList};
+use curve_terms::{CurveStart, CurveTerms, Helper, HelperList};
 use day_number::{Convention, Tenor, read_tenor};
 use desk_names::ObjId;
 use fixed_amount::{Rate, read_decimal};
@@ -27,7 +27,7 @@ impl Asked {
         }
         let terms = CurveTerms {
             cal: calendar_of(alloc, row.calendar)?,
-            settlement: row.settlement.parse().ok()?,
+            start: CurveStart::Moving(row.settlement.parse().ok()?),
             helpers,
         };
         Some(Asked { terms, rates })

@@ -7,6 +7,8 @@ use Rattle.day_number.specs.declared.tenors.Unit.TheVariants.{Days, Weeks, Month
 use Rattle.day_number.specs.declared.tenors.Tenor.{Tenor}
 use Rattle.day_number.specs.Tenor.{IsTenor}
 use Rattle.curve_terms.specs.declared.terms.Helper.{Helper}
+use Rattle.curve_terms.specs.declared.terms.CurveStart.{CurveStart}
+use Rattle.curve_terms.specs.declared.terms.CurveStart.TheVariants.{Moving, Fixed}
 use Rattle.curve_terms.specs.declared.terms.CurveTerms.{CurveTerms}
 
 -- a unit of months
@@ -29,8 +31,13 @@ AreTenors tenor (Some every) = IsOfMonths tenor × IsOfMonths every
 abbrev pub IsHelper : Helper → Type 0
 IsHelper helper = AreTenors helper.tenor helper.every
 
--- at most 30 settlement days, 1 to 64 helpers, and each helper within its limits (this project's limits)
+-- at most 30 settlement days of a start that moves
+abbrev pub IsStart : CurveStart → Type 0
+IsStart (Moving settlement) = settlement ≤ 30
+IsStart (Fixed day) = Unit {0}
+
+-- a start within its limit, 1 to 64 helpers, and each helper within its limits (this project's limits)
 pub record IsInRange (terms : CurveTerms) : Type 0 where
-  pub settlement : terms.settlement ≤ 30
+  pub start : IsStart terms.start
   pub count : IsWithin 1 64 (length terms.helpers)
   pub helpers : All IsHelper terms.helpers

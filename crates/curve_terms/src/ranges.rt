@@ -2,18 +2,28 @@
 ghost use Rattle.std.specs.Prelude.{◌≡◌, ◌↔◌, pos, IsTrue};
 ghost use Rattle.std.specs.List.{All};
 ghost use Rattle.day_number.specs.Tenor.{IsTenor, unit_limit};
-ghost use Rattle.curve_terms.specs.Terms.{CountsMonths, IsOfMonths, IsHelper, IsInRange};
+ghost use Rattle.curve_terms.specs.Terms.{CountsMonths, IsOfMonths, IsHelper, IsStart, IsInRange};
 
-use crate::{CurveTerms, Helper};
+use crate::{CurveStart, CurveTerms, Helper};
 use day_number::{Tenor, Unit};
 
-/// Whether terms are in range: at most 30 settlement days, 1 to 64 helpers, and each helper's tenors within the limits of
+/// Whether terms are in range: at most 30 settlement days of a moving start, 1 to 64 helpers, and each helper's tenors within the limits of
 /// their units, those of a swap in months or years.
 pub fn is_in_range(terms: &CurveTerms) -> bool
     ensures { IsTrue result ↔ IsInRange terms.now }
 {
     let count = terms.helpers.len();
-    terms.settlement <= 30 && count >= 1 && count <= 64 && are_helpers(terms.helpers.items())
+    is_start(terms.start) && count >= 1 && count <= 64 && are_helpers(terms.helpers.items())
+}
+
+// Whether a start has at most 30 settlement days; a day of its own is always in range.
+fn is_start(start: CurveStart) -> bool
+    ensures { IsTrue result ↔ IsStart start }
+{
+    match start {
+        CurveStart::Moving(settlement) => settlement <= 30,
+        CurveStart::Fixed(_) => true,
+    }
 }
 
 // Whether each helper's tenors are within their limits.

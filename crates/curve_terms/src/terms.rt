@@ -1,5 +1,5 @@
 // What a curve is built from, its rates apart.
-use day_number::{Convention, Tenor};
+use day_number::{Convention, Day, Tenor};
 use desk_names::ObjId;
 use holiday_calendars::Calendar;
 use item_lists::Items;
@@ -25,13 +25,22 @@ pub struct Helper {
 /// Helpers in the order of their ends.
 pub type HelperList = Items<Helper>;
 
+/// On which day a curve starts.
+#[derive(Clone, Copy, Debug, PartialEq, Eq)]
+pub enum CurveStart {
+    /// So many business days after the evaluation date, with which it moves (QuantLib's `settlementDays`).
+    Moving(u8),
+    /// On this day as it is, whatever the evaluation date; it may be a holiday (QuantLib's `referenceDate`).
+    Fixed(Day),
+}
+
 /// What a curve is built from, the quotes' rates and the evaluation date apart (QuantLib's `PiecewiseYieldCurve`).
 #[derive(Debug, Drop)]
 pub struct CurveTerms {
-    /// The calendar of the reference day and of all helpers.
+    /// The calendar of a moving start and of all helpers.
     pub cal: Calendar,
-    /// How many business days lie from the evaluation date to the reference day.
-    pub settlement: u8,
+    /// The reference day.
+    pub start: CurveStart,
     /// The helpers, in the order of their ends.
     pub helpers: HelperList,
 }

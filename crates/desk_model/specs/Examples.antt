@@ -5,6 +5,7 @@ use Rattle.desk_terms.specs.declared.terms.Terms.{Terms}
 use Rattle.desk_terms.specs.declared.terms.Terms.TheVariants.{Quote, Derived, Handle, Curve, Implied, Index, Engine, Stock, Composite, Flows}
 use Rattle.desk_terms.specs.declared.terms.Part.{Part}
 use Rattle.desk_terms.specs.declared.terms.HandleKind as handle
+use Rattle.curve_terms.specs.declared.terms.CurveStart.TheVariants.{Moving}
 use Rattle.curve_terms.specs.declared.terms.Helper.{Helper}
 use Rattle.curve_terms.specs.declared.terms.CurveTerms.{CurveTerms}
 use Rattle.holiday_calendars.specs.declared.bases.Base.TheVariants.{Null}
@@ -155,7 +156,7 @@ abbrev pub deposit : Helper
 deposit = record { quote = 1; tenor = record { count = pos 30; unit = Days }; every = None; conv = Following; eom = false; counter = Act360 }
 
 abbrev pub curve_of : List Helper → CurveTerms
-curve_of helpers = record { cal = One Null; settlement = 0; helpers = helpers }
+curve_of helpers = record { cal = One Null; start = Moving 0; helpers = helpers }
 
 -- A quote, 1, a curve with two helpers on it, 2, an engine on the curve, 3, and a bond that is paid on day 100, 4.
 abbrev pub bond : State

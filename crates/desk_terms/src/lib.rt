@@ -19,7 +19,7 @@ mod value;
 pub use asked::{Asked, Mark};
 pub use bench::{Bench, BenchFault};
 pub use cause::Cause;
-pub use curve_terms::{CurveTerms, Helper, HelperList};
+pub use curve_terms::{CurveStart, CurveTerms, Helper, HelperList};
 pub use flow_terms::{
     FixFault, Fixings, FlowTerm, FlowTermList, FlowTerms, IndexTerms, IndexUse, expired,
     needs_forecast,

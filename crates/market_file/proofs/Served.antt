@@ -409,7 +409,7 @@ module _ (e : Earlier) (fs : List (Option Field)) where
       bound (λ n. n ≤ 30) (MayBeMade e) (must (count_in (field_in fs 2))) _ (must_so (λ n. n ≤ 30) (count_in (field_in fs 2)) (count_so (Fits e) place.Count (field_in fs 2) hc))
       (λ settlement few. past (MayBeMade e) (must (calendar_in (field_in fs 1))) _
       (λ cal. bound (AreFewServed e) (MayBeMade e) (must (helpers_in (field_in fs 3))) _ (must_so (AreFewServed e) (helpers_in (field_in fs 3)) (helpers_so (Fits e) place.Helpers (field_in fs 3) hh))
-      (λ helpers h. ((λ _. record { settlement = few; count = h.0; helpers = h.1.1 }), h.1.0))))
+      (λ helpers h. ((λ _. record { start = few; count = h.0; helpers = h.1.1 }), h.1.0))))
 
   implied_fits : IsOf (Fits e) (place.Object CurveInput) (field_in fs 1) → Given (MayBeMade e) (implied_of fs)
   implied_fits h =

@@ -1,6 +1,7 @@
 -- Each field of an object is that of its key: rows, where a table says at each word what it says.
 use Rattle.std.proofs.Common.{◌≡◌, refl, map, ℕ, List, [], Option, Result, Ok, true, false}
 use Rattle.std.specs.Prelude.{codes, unwrap_or}
+use Rattle.curve_terms.specs.declared.terms.CurveStart.TheVariants.{Moving}
 use Rattle.desk_terms.specs.declared.terms.Terms.{Terms}
 use Rattle.desk_terms.specs.declared.terms.Terms.TheVariants as terms
 use Rattle.market_tables.specs.declared.fault.MarketKind.{MarketKind}
@@ -47,7 +48,7 @@ module _ (said : List ℕ → Option Field) (e : Earlier) where
   pub curve_by_keys : made kind.Curve
       ≡ named (must (count_in (said (codes "settlement"))) >>= (λ settlement. must (calendar_in (said (codes "calendar"))) >>= (λ cal.
       must (helpers_in (said (codes "helpers"))) >>= (λ helpers.
-      Ok (terms.Curve (record { cal = cal; settlement = settlement; helpers = helpers }))))))
+      Ok (terms.Curve (record { cal = cal; start = Moving settlement; helpers = helpers }))))))
   curve_by_keys = refl
 
   pub implied_by_keys : made kind.Implied

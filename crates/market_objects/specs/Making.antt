@@ -1,5 +1,6 @@
 -- What the fields of an object's table make.
 use Rattle.std.specs.Prelude.{ℕ, Bool, true, false, nat_lt, length, unwrap_or, if◌then◌else◌, List, [], Option, Some, None, Result, Ok, Err}
+use Rattle.curve_terms.specs.declared.terms.CurveStart.TheVariants.{Moving}
 use Rattle.desk_terms.specs.declared.kind.Wanted as wanted
 use Rattle.desk_terms.specs.declared.terms.HandleKind as handle
 use Rattle.desk_terms.specs.declared.terms.Part.{Part}
@@ -46,7 +47,7 @@ abbrev pub curve_of : List (Option Field) → Result Terms MarketKind
 curve_of fs =
     must (count_in (field_in fs 2)) >>= (λ settlement. must (calendar_in (field_in fs 1)) >>= (λ cal.
     must (helpers_in (field_in fs 3)) >>= (λ helpers.
-    Ok (terms.Curve (record { cal = cal; settlement = settlement; helpers = helpers })))))
+    Ok (terms.Curve (record { cal = cal; start = Moving settlement; helpers = helpers })))))
 
 -- a curve seen from a later day (QuantLib's ImpliedTermStructure)
 abbrev pub implied_of : List (Option Field) → Result Terms MarketKind

@@ -5,7 +5,9 @@ ghost use Rattle.market_fields.specs.Earlier.{seen};
 ghost use Rattle.market_objects.specs.Board.{HasFlowsInRange};
 ghost use Rattle.market_objects.specs.Making.{derived_of, target_wanted, linked, handle_of, curve_of, implied_of, index_of, engine_of, stock_of, composite_of, parts_of, terms_of, entry_made};
 
-use desk_terms::{CurveTerms, Fixings, HandleKind, IndexTerms, PartList, Terms, Wanted};
+use desk_terms::{
+    CurveStart, CurveTerms, Fixings, HandleKind, IndexTerms, PartList, Terms, Wanted,
+};
 use instrument_terms::{composite, stock};
 use market_fields::{
     Earlier, Field, Named, ObjectKind, calendar_in, convention_at, count_at, counter_at, day_at,
@@ -81,7 +83,7 @@ fn curve_of(fields: &mut Vec<Option<Field>>) -> Result<Terms, TableFault>
     let helpers = must(helpers_in(take_field(fields, 3))?)?;
     Ok(Terms::Curve(CurveTerms {
         cal,
-        settlement,
+        start: CurveStart::Moving(settlement),
         helpers,
     }))
 }

@@ -2,7 +2,7 @@
 use crate::described::push_number;
 use day_number::{Convention, Day, Tenor, Unit, add_days, print_day};
 use desk_names::ObjId;
-use desk_terms::{CurveTerms, Fixings, FlowTerm, FlowTerms, Helper, IndexTerms};
+use desk_terms::{CurveStart, CurveTerms, Fixings, FlowTerm, FlowTerms, Helper, IndexTerms};
 use fixed_amount::{Amount, Rate, print_decimal};
 use holiday_calendars::Calendar;
 use std::alloc::{AllocError, Global};
@@ -17,14 +17,21 @@ pub(crate) fn push_curve(
     terms: &CurveTerms,
     out: &mut Vec<u8>,
 ) -> Result<(), AllocError> {
-    let settlement = terms.settlement;
     out.extend_from_slice(b" curve ")?;
     push_calendar(&terms.cal, out)?;
-    out.extend_from_slice(format!(in alloc; " {settlement}")?.as_bytes())?;
+    push_start(alloc, terms.start, out)?;
     for helper in terms.helpers.items() {
         push_helper(alloc, helper, out)?;
     }
     Ok(())
+}
+
+// Appends the settlement days of a moving start, or the day of a fixed one.
+fn push_start(alloc: Global, start: CurveStart, out: &mut Vec<u8>) -> Result<(), AllocError> {
+    match start {
+        CurveStart::Moving(settlement) => push_number(alloc, u32::from(settlement), out),
+        CurveStart::Fixed(day) => push_day(alloc, day, out),
+    }
 }
 
 fn push_helper(alloc: Global, helper: &Helper, out: &mut Vec<u8>) -> Result<(), AllocError> {

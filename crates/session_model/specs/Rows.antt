@@ -5,6 +5,7 @@ use Rattle.desk_terms.specs.declared.terms.Terms.{Terms}
 use Rattle.desk_terms.specs.declared.terms.Terms.TheVariants as terms
 use Rattle.desk_terms.specs.declared.terms.HandleKind as handle
 use Rattle.desk_terms.specs.declared.terms.Part.{Part}
+use Rattle.curve_terms.specs.declared.terms.CurveStart.TheVariants.{Moving}
 use Rattle.curve_terms.specs.declared.terms.Helper.{Helper}
 use Rattle.holiday_calendars.specs.declared.bases.Base.TheVariants.{Null}
 use Rattle.holiday_calendars.specs.declared.calendars.Calendar.TheVariants.{One}
@@ -262,7 +263,7 @@ abbrev pub some_market : Standing
 some_market = start_with (pos 0)
     (codes "today" ∷ codes "q" ∷ codes "c" ∷ codes "x" ∷ codes "e" ∷ codes "b" ∷ codes "h" ∷ codes "i" ∷ [])
     ((1, terms.Quote (Some (pos 36_000_000)))
-    ∷ (2, terms.Curve (record { cal = One Null; settlement = 0; helpers = deposit ∷ [] }))
+    ∷ (2, terms.Curve (record { cal = One Null; start = Moving 0; helpers = deposit ∷ [] }))
     ∷ (
       3,
       terms.Index (record {

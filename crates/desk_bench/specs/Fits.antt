@@ -16,36 +16,36 @@ use Rattle.curve_bootstrap.specs.Built.{reference_day, built_curve}
 use Rattle.curve_bootstrap.specs.Built as due
 use Rattle.curve_bootstrap.specs.declared.faults.BuildFault.{BuildFault}
 use Rattle.curve_bootstrap.specs.declared.faults.BuildFault.TheVariants as build
-use Rattle.desk_bench.specs.Pricing.{rates_of, built, seen, curve_price, implied_price, desk_calc}
+use Rattle.desk_bench.specs.Pricing.{rates_of, own_day, built, seen, curve_price, implied_price, desk_calc}
 use Rattle.discount_engines.specs.Fits.{price_fits}
 
 abbrev reading_of : ℕ → Terms → Option ℤ → Option IndexReading → List input.Input → Reading
 reading_of o terms today index inputs = record { object = o; terms = terms; inputs = inputs; today = today; index = index }
 
 -- what is built is a curve of o, and a cause names o
+from_fits : (o : ℕ) (terms : CurveTerms) (today : Option ℤ) (index : Option IndexReading) (inputs : List input.Input) (rates : List ℤ) (reference : Option ℤ)
+    → Fits (reading_of o (Curve terms) today index inputs) (built o (due.curve_from o terms rates reference))
+from_fits o terms today index inputs rates None = inl refl
+from_fits o terms today index inputs rates (Some reference) = by_nodes (due.nodes_of (due.coupons_of terms.cal reference) (origin reference) 1 [] terms.helpers rates)
+  where
+    by_nodes : (r : Result (List CurveNode) BuildFault)
+        → Fits (reading_of o (Curve terms) today index inputs) (built o (due.curve_of o reference r))
+    by_nodes (Ok nodes) = refl
+    by_nodes (Err (build.Pillar k)) = inl refl
+    by_nodes (Err (build.Discount k)) = inl refl
+    by_nodes (Err (build.Negative k)) = inl refl
+    by_nodes (Err build.RateRange) = inl refl
+    by_nodes (Err build.DateRange) = inl refl
+    by_nodes (Err build.NoMemory) = inl refl
+
 built_fits : (o : ℕ) (terms : CurveTerms) (today : Option ℤ) (index : Option IndexReading) (inputs : List input.Input) (day : ℤ) (rates : List ℤ)
     → Fits (reading_of o (Curve terms) today index inputs) (built o (built_curve o terms day rates))
 unfolding built_curve
-built_fits o terms today index inputs day rates = by_day (reference_day terms day)
-  where
-    by_nodes : (reference : ℤ) (r : Result (List CurveNode) BuildFault)
-        → Fits (reading_of o (Curve terms) today index inputs) (built o (due.curve_of o reference r))
-    by_nodes reference (Ok nodes) = refl
-    by_nodes reference (Err (build.Pillar k)) = inl refl
-    by_nodes reference (Err (build.Discount k)) = inl refl
-    by_nodes reference (Err (build.Negative k)) = inl refl
-    by_nodes reference (Err build.RateRange) = inl refl
-    by_nodes reference (Err build.DateRange) = inl refl
-    by_nodes reference (Err build.NoMemory) = inl refl
-
-    by_day : (reference : Option ℤ)
-        → Fits (reading_of o (Curve terms) today index inputs) (built o (due.curve_from o terms rates reference))
-    by_day None = inl refl
-    by_day (Some reference) = by_nodes reference (due.nodes_of (due.coupons_of terms.cal reference) (origin reference) 1 [] terms.helpers rates)
+built_fits o terms today index inputs day rates = from_fits o terms today index inputs rates (reference_day terms day)
 
 curve_fits : (o : ℕ) (terms : CurveTerms) (today : Option ℤ) (index : Option IndexReading) (inputs : List input.Input)
     → Fits (reading_of o (Curve terms) today index inputs) (curve_price o terms today inputs)
-curve_fits o terms None index inputs = inl refl
+curve_fits o terms None index inputs = from_fits o terms None index inputs (rates_of inputs) (own_day terms.start)
 curve_fits o terms (Some day) index inputs = built_fits o terms (Some day) index inputs day (rates_of inputs)
 
 -- what is seen is a curve of o, and a cause names o or the owner of the base curve

@@ -7,12 +7,14 @@ use Rattle.desk_terms.specs.declared.bench.BenchFault.TheVariants.{Refused, NoMe
 use Rattle.desk_terms.specs.declared.value.Value.{Value}
 use Rattle.desk_terms.specs.declared.value.Value.TheVariants.{Curve as CurveValue}
 use Rattle.desk_terms.specs.declared.value.Input as input
+use Rattle.curve_terms.specs.declared.terms.CurveStart.{CurveStart}
+use Rattle.curve_terms.specs.declared.terms.CurveStart.TheVariants.{Moving, Fixed}
 use Rattle.curve_terms.specs.declared.terms.CurveTerms.{CurveTerms}
 use Rattle.curve_points.specs.Curve.{Curve as CurveView}
 use Rattle.curve_points.specs.Implied.{implied_curve}
 use Rattle.curve_points.specs.declared.seen.ImpliedFault.{ImpliedFault}
 use Rattle.curve_points.specs.declared.seen.ImpliedFault.TheVariants as implied
-use Rattle.curve_bootstrap.specs.Built.{built_curve}
+use Rattle.curve_bootstrap.specs.Built.{curve_from, built_curve}
 use Rattle.curve_bootstrap.specs.declared.faults.BuildFault.{BuildFault}
 use Rattle.curve_bootstrap.specs.declared.faults.BuildFault.TheVariants as build
 use Rattle.desk_terms.specs.declared.cause.Cause.{Cause}
@@ -75,9 +77,14 @@ abbrev pub seen : ℕ → ℕ → ℤ → Result CurveView ImpliedFault → Outc
 seen o base day (Ok curve) = Ok (CurveValue curve)
 seen o base day (Err fault) = refused o (implied_cause o base day fault)
 
+-- the reference day that needs no evaluation date
+abbrev pub own_day : CurveStart → Option ℤ
+own_day (Moving settlement) = None
+own_day (Fixed day) = Some day
+
 -- a curve of the rates of its helpers (QuantLib's `PiecewiseYieldCurve`)
 abbrev pub curve_price : ℕ → CurveTerms → Option ℤ → List input.Input → Outcome
-curve_price o terms None inputs = Err (TooLarge o)
+curve_price o terms None inputs = built o (curve_from o terms (rates_of inputs) (own_day terms.start))
 curve_price o terms (Some today) inputs = built o (built_curve o terms today (rates_of inputs))
 
 -- a curve seen from its own reference day (QuantLib's `ImpliedTermStructure`)

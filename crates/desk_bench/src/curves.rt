@@ -1,8 +1,9 @@
 // The prices of curves.
-ghost use Rattle.std.specs.Prelude.{◌≡◌, Some, IfOk, IsOk};
+ghost use Rattle.std.specs.Prelude.{◌≡◌, IfOk, IsOk};
 ghost use Rattle.curve_terms.specs.Terms.{IsInRange};
 ghost use Rattle.desk_terms.specs.Bench.{Answers};
-ghost use Rattle.desk_terms.specs.Reading.{AreRates};
+ghost use Rattle.desk_terms.specs.Reading.{AreRates, day_read};
+ghost use Rattle.desk_terms.specs.declared.terms.Terms.TheVariants.{Curve};
 ghost use Rattle.desk_bench.specs.Pricing.{rates_of, build_cause, implied_cause, fault_of, built_answer, seen_answer, seen, curve_price, implied_price, MayWantSeen, WantsOnly};
 ghost use Rattle.curve_points.specs.Implied.{implied_curve};
 
@@ -16,7 +17,6 @@ use fixed_amount::Rate;
 use std::alloc::{AllocError, Global};
 
 /// The curve of an object, by the rates of its helpers in their order.
-#[tactic(auto, using(crate::proofs::Answered::gives_built))]
 pub fn curve_price(
     alloc: Global,
     object: ObjId,
@@ -26,7 +26,7 @@ pub fn curve_price(
 ) -> Result<Value, BenchFault>
     requires range { IsInRange terms.now }
     requires rates { AreRates terms.now.helpers inputs.now }
-    ensures { Answers (curve_price object terms.now (Some today) inputs.now) result }
+    ensures { Answers (curve_price object terms.now (day_read (Curve terms.now) today) inputs.now) result }
 {
     let rates = rates_of(alloc, inputs)?;
     let curve = build(alloc, object, terms, today, rates.as_slice());

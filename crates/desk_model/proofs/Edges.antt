@@ -1,11 +1,10 @@
--- The edges of an object are its inputs, and `today` for the kinds that observe it.
+-- The edges of an object are its inputs, and `today` for the terms that observe it.
 use Rattle.std.proofs.Common.{◌≡◌, ◌≢◌, ◌⊎◌, inl, inr, ℕ, Bool, true, false, List, [], ◌∷◌, Some, refl, sym, ◌∙◌}
 use Rattle.std.specs.Prelude.{◌==◌, if◌then◌else◌}
 use Rattle.std.proofs.lemmas.Bool.{cases_eq, eqb-true, eqb-false}
 use Rattle.walks.specs.Walk.{Among}
 use Rattle.desk_terms.specs.declared.terms.Terms.{Terms}
-use Rattle.desk_terms.specs.Kind.{observes_today}
-use Rattle.desk_terms.specs.Terms.{kind_of, inputs_of}
+use Rattle.desk_terms.specs.Terms.{inputs_of, observes_today}
 use Rattle.desk_model.specs.Market.{without, each_once, named, edges_of}
 
 -- a list without a number has the others
@@ -46,15 +45,15 @@ among_once x (y ∷ xs) (inr among) = inr (among_once x xs (without_fewer x y (e
 
 -- an input is an edge
 pub input_edge : (terms : Terms) (x : ℕ) → Among x (named (inputs_of terms)) → Among x (edges_of (Some terms))
-input_edge terms x among = by_day (observes_today (kind_of terms))
+input_edge terms x among = by_day (observes_today terms)
   where
     by_day : (b : Bool) → Among x (each_once (if b then 0 ∷ named (inputs_of terms) else named (inputs_of terms)))
     by_day true = once_among x (0 ∷ named (inputs_of terms)) (inr among)
     by_day false = once_among x (named (inputs_of terms)) among
 
--- `today` is an edge of the kinds that observe it
-pub today_edge : (terms : Terms) → observes_today (kind_of terms) ≡ true → Among 0 (edges_of (Some terms))
-today_edge terms is = by_day (observes_today (kind_of terms)) is
+-- `today` is an edge of the terms that observe it
+pub today_edge : (terms : Terms) → observes_today terms ≡ true → Among 0 (edges_of (Some terms))
+today_edge terms is = by_day (observes_today terms) is
   where
     by_day : (b : Bool) → b ≡ true
         → Among 0 (each_once (if b then 0 ∷ named (inputs_of terms) else named (inputs_of terms)))
@@ -63,7 +62,7 @@ today_edge terms is = by_day (observes_today (kind_of terms)) is
 
 -- an edge is `today` or an input
 pub edge_input : (terms : Terms) (x : ℕ) → Among x (edges_of (Some terms)) → (x ≡ 0) ⊎ Among x (named (inputs_of terms))
-edge_input terms x among = by_day (observes_today (kind_of terms)) among
+edge_input terms x among = by_day (observes_today terms) among
   where
     by_day : (b : Bool) → Among x (each_once (if b then 0 ∷ named (inputs_of terms) else named (inputs_of terms)))
         → (x ≡ 0) ⊎ Among x (named (inputs_of terms))

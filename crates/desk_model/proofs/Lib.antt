@@ -29,3 +29,4 @@ pub mod Valued
 pub mod Visits
 pub mod Wants
 pub mod Watchers
+pub mod FixedCurves

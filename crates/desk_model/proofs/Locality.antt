@@ -14,7 +14,7 @@ use Rattle.flow_terms.specs.declared.flows.FlowTerms.{FlowTerms}
 use Rattle.desk_terms.specs.declared.value.Input as input
 use Rattle.desk_terms.specs.declared.cause.Cause.{Cause}
 use Rattle.desk_terms.specs.declared.cause.Cause.TheVariants.{TooLarge}
-use Rattle.desk_terms.specs.Terms.{inputs_of, helper_references, part_references}
+use Rattle.desk_terms.specs.Terms.{inputs_of, helper_references, part_references, moves}
 use Rattle.flow_terms.specs.Flows.{is_expired, needs_forecast}
 use Rattle.desk_terms.specs.Reading.{Reading, IndexReading}
 use Rattle.desk_model.specs.declared.entry.Entry.{Entry}
@@ -140,7 +140,11 @@ reading_of_same m n o (Handle handle.TheVariants.Quote target) inputs same = ref
 reading_of_same m n o (Handle handle.TheVariants.Curve target) inputs same = refl
 reading_of_same m n o (Index terms fixings) inputs same = refl
 reading_of_same m n o (Engine curve) inputs same = refl
-reading_of_same m n o (Curve terms) inputs same = ap (λ (d : ℤ). record (reading_at n o (Curve terms) inputs) { today = Some d }) ((same 0 (today_edge (Curve terms) refl)).day refl)
+reading_of_same m n o (Curve terms) inputs same = ap (λ (d : Option ℤ). record (reading_at n o (Curve terms) inputs) { today = d }) (day_of_start (moves terms.start) refl)
+  where
+    day_of_start : (b : Bool) → moves terms.start ≡ b → (if b then Some n.today else None) ≡ (if b then Some m.today else None)
+    day_of_start true is = ap (λ (d : ℤ). Some d) ((same 0 (today_edge (Curve terms) is)).day refl)
+    day_of_start false is = refl
 reading_of_same m n o (Implied curve reference) inputs same = refl
 reading_of_same m n o (Stock quote) inputs same = refl
 reading_of_same m n o (Composite parts) inputs same = refl

@@ -15,7 +15,7 @@ use Rattle.desk_terms.specs.declared.kind.Kind as kind
 use Rattle.desk_terms.specs.declared.kind.Wanted as wanted
 use Rattle.desk_terms.specs.declared.cause.Cause.{Cause}
 use Rattle.desk_terms.specs.declared.cause.Cause.TheVariants.{TooLarge}
-use Rattle.desk_terms.specs.Terms.{kind_of, reference_to, optional_reference, helper_references, part_references}
+use Rattle.desk_terms.specs.Terms.{kind_of, moves, reference_to, optional_reference, helper_references, part_references}
 use Rattle.flow_terms.specs.Flows.{is_expired, needs_forecast}
 use Rattle.desk_terms.specs.Reading.{Outcome, IndexReading, AreMoney, AreRates, IsRate, IsCurve, AreAllCurves, curve_count, IsIndexOf, IsDayRead, AreInRange, IsWellFormed}
 use Rattle.desk_model.specs.declared.entry.Entry.{Entry}
@@ -579,7 +579,7 @@ well_formed m kinds f values o (Index terms fixings) inputs range kind lazy e = 
 well_formed m kinds f values o (Engine curve) inputs range kind lazy e = not_lazy lazy
 well_formed m kinds f values o (Curve terms) inputs range kind lazy e = record {
   inputs = rate_inputs f (input_at m) terms.helpers inputs (λ x among. input_rate m kinds (suc (length m.objects)) x (helpers_serve m terms.helpers kind x among)) e;
-  today = tt;
+  today = day_is (moves terms.start) m.today;
   index = tt;
   range = range;
 }

@@ -5,7 +5,7 @@ use Rattle.desk_terms.specs.declared.terms.Terms.{Terms}
 use Rattle.desk_terms.specs.declared.terms.Terms.TheVariants.{Quote, Derived, Handle, Curve, Implied, Index, Engine, Stock, Composite, Flows}
 use Rattle.desk_terms.specs.declared.terms.Part.{Part}
 use Rattle.desk_terms.specs.declared.terms.HandleKind as handle
-use Rattle.curve_terms.specs.declared.terms.CurveStart.TheVariants.{Moving}
+use Rattle.curve_terms.specs.declared.terms.CurveStart.TheVariants.{Moving, Fixed}
 use Rattle.curve_terms.specs.declared.terms.Helper.{Helper}
 use Rattle.curve_terms.specs.declared.terms.CurveTerms.{CurveTerms}
 use Rattle.holiday_calendars.specs.declared.bases.Base.TheVariants.{Null}
@@ -164,6 +164,15 @@ bond =
     made (Flows (record { flows = Known (pos 100) (pos 7) None ∷ []; index = None }) (Some 3))
     (made (Engine 2) (made (Curve (curve_of (deposit ∷ deposit ∷ []))) (quote (pos 9) day_0)))
 
+-- The same over a curve that starts on day 5 whatever the evaluation date, which then moves.
+abbrev pub fixed_bond : State
+fixed_bond =
+    made (Flows (record { flows = Known (pos 100) (pos 7) None ∷ []; index = None }) (Some 3))
+    (made (Engine 2) (made (Curve (record (curve_of (deposit ∷ deposit ∷ [])) { start = Fixed (pos 5) })) (quote (pos 9) day_0)))
+
+abbrev pub day_moved : State → State
+day_moved state = today_set (pos 50) (ask 4 state)
+
 abbrev pub without_engine : State
 without_engine = engine_set 4 None (ask 4 bond)
 
@@ -180,6 +189,12 @@ pub record AreFlows : Type 0 where
   pub each_edge_once : edges bond.market 2 ≡ 0 ∷ 1 ∷ []
   pub edges_of_flows : edges bond.market 4 ≡ 0 ∷ 3 ∷ []
   pub value : line plain 4 bond ≡ shown (pos 9) Fresh 2
+  pub moves_with_the_day : line plain 2 (day_moved bond) ≡ shown (pos 9) Fresh 1
+  pub bond_above_a_moved_curve : line plain 4 (day_moved bond) ≡ shown (pos 9) Fresh 2
+  pub no_edge_to_the_day : edges fixed_bond.market 2 ≡ 1 ∷ []
+  pub fixed_value : line plain 4 fixed_bond ≡ shown (pos 9) Fresh 2
+  pub stays_current : line plain 2 (day_moved fixed_bond) ≡ shown (pos 9) Fresh 0
+  pub bond_above_a_fixed_curve : line plain 4 (day_moved fixed_bond) ≡ shown (pos 9) Fresh 1
   pub no_engine : line plain 4 without_engine ≡ record { answer = Err (NoEngine 4); mark = Fresh; number = 0 }
   pub nothing_due : line plain 4 expired ≡ shown (pos 0) Fresh 1
   pub current_above : line plain 4 moved_beneath ≡ shown (pos 0) Fresh 0

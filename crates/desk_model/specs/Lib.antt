@@ -1,5 +1,6 @@
 pub mod Effect
 pub mod Examples
+pub mod FixedCurves
 pub mod Fresh
 pub mod Held
 pub mod HeldExamples

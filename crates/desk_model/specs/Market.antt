@@ -4,9 +4,9 @@ use Rattle.std.specs.List.{list_any}
 use Rattle.desk_terms.specs.declared.terms.Terms.{Terms}
 use Rattle.desk_terms.specs.declared.kind.Kind as kind
 use Rattle.desk_terms.specs.declared.reference.Reference.{Reference}
-use Rattle.desk_terms.specs.Kind.{Role, role, observes_today}
+use Rattle.desk_terms.specs.Kind.{Role, role}
 use Rattle.desk_terms.specs.Kind.Role.{Source, Forwarder, Lazy, Watching}
-use Rattle.desk_terms.specs.Terms.{kind_of, inputs_of}
+use Rattle.desk_terms.specs.Terms.{kind_of, inputs_of, observes_today}
 use Rattle.desk_model.specs.declared.slot.Slot.{Slot}
 use Rattle.desk_model.specs.declared.slot.Slot.TheVariants.{Free, Today, Watcher, Live}
 
@@ -108,7 +108,7 @@ named (reference ∷ references) = reference.object ∷ named references
 abbrev pub edges_of : Option Terms → List ℕ
 edges_of None = []
 edges_of (Some terms) =
-    each_once (if observes_today (kind_of terms) then 0 ∷ named (inputs_of terms) else named (inputs_of terms))
+    each_once (if observes_today terms then 0 ∷ named (inputs_of terms) else named (inputs_of terms))
 
 abbrev pub edges : Market → ℕ → List ℕ
 edges market o = edges_of (terms_at market o)

@@ -24,6 +24,7 @@ ghost use Rattle.desk_model.specs.Laws.{
   UsesAreLocal,
   WalksAreLeast,
 };
+ghost use Rattle.desk_model.specs.FixedCurves.{FixedCurvesStay, FlowsAreTold};
 ghost use Rattle.desk_model.specs.Registrations.{RegistrationsAreASet};
 ghost use Rattle.desk_model.specs.Unheld.{MarksAreExact, OthersHoldNothing, UnheldIsFresh};
 
@@ -114,4 +115,11 @@ pub fn marks_say_what_is_held_back()
 pub fn what_is_not_held_is_fresh()
     ensures fresh { UnheldIsFresh }
     ensures others { OthersHoldNothing }
+{}
+
+/// A move of the evaluation date leaves all that is kept of a curve with a reference day of its own as it is, and tells
+/// each bond, swap and forward rate agreement, whatever its curve.
+pub fn fixed_curves_take_no_notice_of_the_day()
+    ensures curves { FixedCurvesStay }
+    ensures flows { FlowsAreTold }
 {}

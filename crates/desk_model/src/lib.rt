@@ -19,8 +19,8 @@ pub use kept::Kept;
 pub use laws::{
     a_clear_object_shows_its_price_afresh, a_current_object_shows_its_last_value,
     a_late_object_has_a_least_source, benches_leave_a_state_sound, changes_keep_what_is_current,
-    marks_say_what_is_held_back, no_bound_matters, readings_are_well_formed,
-    the_price_afresh_is_priced, uses_are_local, walks_find_paths, what_is_kept_is_sound,
-    what_is_not_held_is_fresh,
+    fixed_curves_take_no_notice_of_the_day, marks_say_what_is_held_back, no_bound_matters,
+    readings_are_well_formed, the_price_afresh_is_priced, uses_are_local, walks_find_paths,
+    what_is_kept_is_sound, what_is_not_held_is_fresh,
 };
 pub use slot::Slot;

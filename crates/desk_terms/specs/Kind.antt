@@ -1,5 +1,5 @@
 -- What the kinds of objects are good for (this project's profile, after QuantLib's class hierarchy).
-use Rattle.std.specs.Prelude.{ℕ, Bool, true, false, ◌==◌, List, [], ◌∷◌}
+use Rattle.std.specs.Prelude.{ℕ, Bool, ◌==◌, List, [], ◌∷◌}
 use Rattle.std.specs.List.{list_any}
 use Rattle.desk_terms.specs.declared.kind.Kind.{Kind}
 use Rattle.desk_terms.specs.declared.kind.Kind.TheVariants.{Today, Quote, Derived, QuoteHandle, CurveHandle, Index, Engine, Curve, Implied, Stock, Composite, Flows, Watcher}
@@ -59,35 +59,3 @@ role Stock = Lazy
 role Composite = Lazy
 role Flows = Lazy
 role Watcher = Watching
-
--- whether an object of this kind observes the evaluation date
-abbrev pub observes_today : Kind → Bool
-observes_today Today = false
-observes_today Quote = false
-observes_today Derived = false
-observes_today QuoteHandle = false
-observes_today CurveHandle = false
-observes_today Index = true
-observes_today Engine = false
-observes_today Curve = true
-observes_today Implied = false
-observes_today Stock = false
-observes_today Composite = false
-observes_today Flows = true
-observes_today Watcher = false
-
--- whether the price of an object of this kind reads the evaluation date
-abbrev pub prices_today : Kind → Bool
-prices_today Today = false
-prices_today Quote = false
-prices_today Derived = false
-prices_today QuoteHandle = false
-prices_today CurveHandle = false
-prices_today Index = false
-prices_today Engine = false
-prices_today Curve = true
-prices_today Implied = false
-prices_today Stock = false
-prices_today Composite = false
-prices_today Flows = true
-prices_today Watcher = false

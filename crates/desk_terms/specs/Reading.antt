@@ -19,9 +19,8 @@ use Rattle.desk_terms.specs.declared.cause.Cause.{Cause}
 use Rattle.desk_terms.specs.Cause.{object_of}
 use Rattle.desk_terms.specs.declared.job.Job.{Job}
 use Rattle.desk_terms.specs.declared.kind.Kind as kind
-use Rattle.desk_terms.specs.Kind.{prices_today}
 use Rattle.desk_terms.specs.Parts.{ArePartsInRange}
-use Rattle.desk_terms.specs.Terms.{kind_of}
+use Rattle.desk_terms.specs.Terms.{kind_of, prices_today}
 
 -- a price, or why there is none
 abbrev pub Outcome : Type 0
@@ -39,7 +38,7 @@ pub record IndexReading : Type 0 where
   pub fixings : Stored
 
 -- All that the price of an object depends on: the object, its terms, its inputs in the order in which the terms name
--- them, the evaluation date for the kinds that read it, and the index of flows that name one (what an instrument and
+-- them, the evaluation date for the terms that read it, and the index of flows that name one (what an instrument and
 -- its engine see at one moment).
 pub record Reading : Type 0 where
   pub object : ℕ
@@ -54,7 +53,7 @@ Calc = Reading → Outcome
 
 -- the evaluation date, where the price of such terms reads it
 abbrev pub day_read : Terms → ℤ → Option ℤ
-day_read terms today = if prices_today (kind_of terms) then Some today else None
+day_read terms today = if prices_today terms then Some today else None
 
 abbrev pub index_reading : Option IndexUse → Option IndexReading
 index_reading None = None
@@ -157,7 +156,7 @@ AreInputsOf (Stock quote) today index inputs = IsRate inputs
 AreInputsOf (Composite parts) today index inputs = AreMoney parts inputs
 AreInputsOf (Flows flows engine) today index inputs = AreCurves flows today index inputs
 
--- the evaluation date is there exactly for the kinds that read it
+-- the evaluation date is there exactly for the terms that read it
 abbrev pub IsDayRead : Bool → Option ℤ → Type 0
 IsDayRead true None = ⊥
 IsDayRead true (Some today) = Unit {0}
@@ -180,7 +179,7 @@ AreInRange (Flows flows engine) = AreFlowsInRange flows
 -- a reading that a bench may be asked for
 pub record IsWellFormed (reading : Reading) : Type 0 where
   pub inputs : AreInputsOf reading.terms reading.today reading.index reading.inputs
-  pub today : IsDayRead (prices_today (kind_of reading.terms)) reading.today
+  pub today : IsDayRead (prices_today reading.terms) reading.today
   pub index : IsIndexOf (named_index reading.terms) reading.index
   pub range : AreInRange reading.terms
 

@@ -1,9 +1,11 @@
 -- What terms name.
-use Rattle.std.specs.Prelude.{ℕ, List, [], ◌∷◌, ◌++◌, Option, Some, None}
+use Rattle.std.specs.Prelude.{ℕ, Bool, true, false, List, [], ◌∷◌, ◌++◌, Option, Some, None}
 use Rattle.desk_terms.specs.declared.terms.Terms.{Terms}
 use Rattle.desk_terms.specs.declared.terms.Terms.TheVariants.{Quote, Derived, Handle, Curve, Implied, Index, Engine, Stock, Composite, Flows}
 use Rattle.desk_terms.specs.declared.terms.HandleKind as handle
 use Rattle.desk_terms.specs.declared.terms.Part.{Part}
+use Rattle.curve_terms.specs.declared.terms.CurveStart.{CurveStart}
+use Rattle.curve_terms.specs.declared.terms.CurveStart.TheVariants.{Moving, Fixed}
 use Rattle.curve_terms.specs.declared.terms.Helper.{Helper}
 use Rattle.desk_terms.specs.declared.kind.Kind as kind
 use Rattle.desk_terms.specs.declared.kind.Wanted as wanted
@@ -55,3 +57,34 @@ inputs_of (Stock quote) = reference_to wanted.TheVariants.QuoteInput quote ∷ [
 inputs_of (Composite parts) = part_references parts
 inputs_of (Flows flows engine) =
     optional_reference wanted.TheVariants.Engine engine ++ optional_reference wanted.TheVariants.Index flows.index
+
+-- whether the start of a curve moves with the evaluation date
+abbrev pub moves : CurveStart → Bool
+moves (Moving settlement) = true
+moves (Fixed day) = false
+
+-- whether an object with these terms observes the evaluation date: a curve with a reference day of its own does not
+abbrev pub observes_today : Terms → Bool
+observes_today (Quote value) = false
+observes_today (Derived minus first second) = false
+observes_today (Handle kind target) = false
+observes_today (Curve terms) = moves terms.start
+observes_today (Implied curve reference) = false
+observes_today (Index terms fixings) = true
+observes_today (Engine curve) = false
+observes_today (Stock quote) = false
+observes_today (Composite parts) = false
+observes_today (Flows flows engine) = true
+
+-- whether the price of an object with these terms reads the evaluation date
+abbrev pub prices_today : Terms → Bool
+prices_today (Quote value) = false
+prices_today (Derived minus first second) = false
+prices_today (Handle kind target) = false
+prices_today (Curve terms) = moves terms.start
+prices_today (Implied curve reference) = false
+prices_today (Index terms fixings) = false
+prices_today (Engine curve) = false
+prices_today (Stock quote) = false
+prices_today (Composite parts) = false
+prices_today (Flows flows engine) = true

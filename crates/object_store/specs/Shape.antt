@@ -6,8 +6,9 @@ use Rattle.desk_terms.specs.declared.terms.Terms.{Terms}
 use Rattle.desk_terms.specs.declared.terms.Terms.TheVariants as terms
 use Rattle.desk_terms.specs.declared.value.Value.{Value}
 use Rattle.desk_terms.specs.Kind as kind
-use Rattle.desk_terms.specs.Kind.{observes_today}
-use Rattle.desk_terms.specs.Terms.{kind_of, inputs_of}
+use Rattle.curve_terms.specs.declared.terms.CurveStart.{CurveStart}
+use Rattle.curve_terms.specs.declared.terms.CurveStart.TheVariants.{Moving, Fixed}
+use Rattle.desk_terms.specs.Terms.{inputs_of, observes_today}
 use Rattle.desk_model.specs.declared.kept.Kept.{Kept}
 use Rattle.desk_model.specs.declared.slot.Slot.{Slot}
 use Rattle.desk_model.specs.declared.slot.Slot.TheVariants as slot
@@ -60,7 +61,12 @@ slot_role (slot.Live terms) = Some (node_role (role_of (Some terms)))
 
 -- the objects that an object with these terms observes, in order; one may be named twice
 abbrev pub watched : Terms → List ℕ
-watched terms = if observes_today (kind_of terms) then 0 ∷ named (inputs_of terms) else named (inputs_of terms)
+watched terms = if observes_today terms then 0 ∷ named (inputs_of terms) else named (inputs_of terms)
+
+-- the evaluation date, where a curve's start moves with it
+abbrev pub moved_by : CurveStart → List ℕ
+moved_by (Moving settlement) = 0 ∷ []
+moved_by (Fixed day) = []
 
 -- the target of a handle, if it has one
 abbrev pub linked : Option ℕ → List ℕ

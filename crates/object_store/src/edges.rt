@@ -1,12 +1,12 @@
 // Whom an object observes, and how it takes a notice.
-ghost use Rattle.std.specs.Prelude.{◌≡◌, ◌∷◌, ◌++◌, Some, IfOk};
-ghost use Rattle.desk_terms.specs.Terms.{helper_references, part_references, optional_reference};
+ghost use Rattle.std.specs.Prelude.{◌≡◌, ◌∷◌, ◌++◌, if◌then◌else◌, Some, IfOk};
+ghost use Rattle.desk_terms.specs.Terms.{moves, helper_references, part_references, optional_reference};
 ghost use Rattle.desk_terms.specs.declared.kind.Wanted.TheVariants.{Engine, Index};
 ghost use Rattle.desk_model.specs.Market.{named, role_of};
-ghost use Rattle.object_store.specs.Shape.{node_role, watched, linked};
+ghost use Rattle.object_store.specs.Shape.{node_role, watched, linked, moved_by};
 
 use desk_names::ObjId;
-use desk_terms::{Helper, Part, Terms};
+use desk_terms::{CurveStart, Helper, Part, Terms};
 use observer_graph::Role;
 use std::alloc::{AllocError, Global};
 
@@ -41,7 +41,7 @@ pub fn watched(alloc: Global, terms: &Terms) -> Result<Vec<ObjId>, AllocError>
         Terms::Handle { target, .. } => linked(alloc, *target),
         Terms::Index(index, _) => Ok(vec![in alloc; TODAY, index.curve]?),
         Terms::Engine { curve } => Ok(vec![in alloc; *curve]?),
-        Terms::Curve(curve) => quotes(alloc, curve.helpers.items()),
+        Terms::Curve(curve) => quotes(alloc, curve.start, curve.helpers.items()),
         Terms::Implied { curve, .. } => Ok(vec![in alloc; *curve]?),
         Terms::Stock { quote } => Ok(vec![in alloc; *quote]?),
         Terms::Composite(parts) => members(alloc, parts.items()),
@@ -59,11 +59,22 @@ fn linked(alloc: Global, target: Option<ObjId>) -> Result<Vec<ObjId>, AllocError
     }
 }
 
-// The evaluation date and the quotes of these helpers.
-fn quotes(alloc: Global, helpers: &[Helper]) -> Result<Vec<ObjId>, AllocError>
-    ensures { IfOk result (λ quotes. quotes.items ≡ 0 ∷ named (helper_references helpers.now)) }
+// The evaluation date, where a curve's start moves with it.
+fn moved_by(alloc: Global, start: CurveStart) -> Result<Vec<ObjId>, AllocError>
+    ensures { IfOk result (λ objects. objects.items ≡ moved_by start) }
 {
-    let mut quotes: Vec<ObjId> = vec![in alloc; TODAY]?;
+    match start {
+        CurveStart::Moving(_) => Ok(vec![in alloc; TODAY]?),
+        CurveStart::Fixed(_) => Ok(Vec::new(alloc)),
+    }
+}
+
+// The evaluation date, where a curve's start moves with it, and the quotes of its helpers.
+fn quotes(alloc: Global, start: CurveStart, helpers: &[Helper]) -> Result<Vec<ObjId>, AllocError>
+    ensures { let quotes = named (helper_references helpers.now) in
+        IfOk result (λ objects. objects.items ≡ if moves start then 0 ∷ quotes else quotes) }
+{
+    let mut quotes = moved_by(alloc, start)?;
     for helper in helpers {
         quotes.push(helper.quote)?;
     }

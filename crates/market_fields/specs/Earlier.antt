@@ -14,19 +14,21 @@ use Rattle.market_tables.specs.Given.{◌>>=◌}
 use Rattle.market_tables.specs.Values.{name_of}
 use Rattle.market_calendars.specs.Calendars.{Calendars}
 use Rattle.market_calendars.specs.Building.{calendar_named}
+use Rattle.market_fields.specs.declared.version.Version.{Version}
 use Rattle.market_fields.specs.declared.earlier.Named.{Named}
 use Rattle.market_fields.specs.declared.earlier.Earlier as code
 
 -- the names so far, the kind of each object so far, `today` first, the name and the terms of each object but `today`,
--- and the calendars; an object has the number of its name
+-- the calendars, and the version of the market's format; an object has the number of its name
 pub record Earlier : Type 0 where
   pub names : List (List ℕ)
   pub kinds : List Kind
   pub made : List (ℕ × Terms)
   pub calendars : Calendars
+  pub version : Version
 
 abbrev pub seen : code.Earlier → Earlier
-seen e = record { names = e.names.now; kinds = e.kinds.now; made = e.made.now; calendars = e.calendars.now }
+seen e = record { names = e.names.now; kinds = e.kinds.now; made = e.made.now; calendars = e.calendars.now; version = e.version }
 
 abbrev pub object_at : ℕ → Option Kind → Result Named MarketKind
 object_at object None = Err fault.Unknown

@@ -7,7 +7,7 @@ use Rattle.market_tables.specs.Table.{Key}
 use Rattle.market_tables.specs.declared.presence.Presence.{Presence}
 use Rattle.market_tables.specs.declared.presence.Presence.TheVariants as plain
 use Rattle.market_fields.specs.declared.presence.KeyPresence.{KeyPresence}
-use Rattle.market_fields.specs.declared.presence.KeyPresence.TheVariants.{Always, Optional, Structure, WithCoupons}
+use Rattle.market_fields.specs.declared.presence.KeyPresence.TheVariants.{Always, Optional, Start, Structure, WithCoupons}
 use Rattle.market_fields.specs.declared.keys.ObjectKind.{ObjectKind}
 use Rattle.market_fields.specs.declared.keys.ObjectKind.TheVariants.{Sum, Difference, Handle, Curve, Implied, Index, Engine, Stock, Composite, Bond, Swap, Fra}
 use Rattle.market_fields.specs.declared.keys.HelperKind.{HelperKind}
@@ -15,13 +15,16 @@ use Rattle.market_fields.specs.declared.keys.HelperKind.TheVariants as helper
 use Rattle.market_fields.specs.declared.keys.ObjectPlace.{ObjectPlace}
 use Rattle.market_fields.specs.declared.keys.ObjectPlace.TheVariants as place
 
--- a key that must stand in the table, one that may, the one of a bond at which its structure is tested, and one that
--- must stand where a bond has coupons
+-- a key that must stand in the table, one that may, the one of a curve at which its start is tested, the one of a bond
+-- at which its structure is tested, and one that must stand where a bond has coupons
 abbrev pub key : List ℕ → ObjectPlace → Key KeyPresence ObjectPlace
 key word place = record { word = word; presence = Always; place = place }
 
 abbrev pub key? : List ℕ → ObjectPlace → Key KeyPresence ObjectPlace
 key? word place = record { word = word; presence = Optional; place = place }
+
+abbrev pub key_of_start : List ℕ → ObjectPlace → Key KeyPresence ObjectPlace
+key_of_start word place = record { word = word; presence = Start; place = place }
 
 abbrev pub key_of_structure : List ℕ → ObjectPlace → Key KeyPresence ObjectPlace
 key_of_structure word place = record { word = word; presence = Structure; place = place }
@@ -58,7 +61,7 @@ kinds = Sum ∷ Difference ∷ Handle ∷ Curve ∷ Implied ∷ Index ∷ Engine
 abbrev pub kind_of : List ℕ → Option ObjectKind
 kind_of word = find (λ k. bytes_eq (kind_word k) word) kinds
 
--- THE TABLE OF KEYS: those of each kind, in listed order
+-- THE TABLE OF KEYS: those of each kind in version 2, in listed order
 abbrev pub keys_of : ObjectKind → List (Key KeyPresence ObjectPlace)
 keys_of Sum =
     key (codes "name") place.NewName
@@ -78,7 +81,8 @@ keys_of Handle =
 keys_of Curve =
     key (codes "name") place.NewName
     ∷ key (codes "calendar") place.Calendar
-    ∷ key (codes "settlement") place.Count
+    ∷ key_of_start (codes "settlement") place.Count
+    ∷ key? (codes "reference") place.Day
     ∷ key (codes "helpers") place.Helpers
     ∷ []
 keys_of Implied =
@@ -115,6 +119,7 @@ keys_of Bond =
     ∷ key (codes "end") place.Day
     ∷ key (codes "calendar") place.Calendar
     ∷ key? (codes "engine") (place.Object wanted.Engine)
+    ∷ key? (codes "payment_lag") place.Count
     ∷ key_of_structure (codes "coupon") place.Rate
     ∷ key? (codes "index") (place.Object wanted.Index)
     ∷ key? (codes "spread") place.Rate
@@ -135,6 +140,7 @@ keys_of Swap =
     ∷ key (codes "end") place.Day
     ∷ key (codes "calendar") place.Calendar
     ∷ key? (codes "engine") (place.Object wanted.Engine)
+    ∷ key? (codes "payment_lag") place.Count
     ∷ key? (codes "rule") place.Rule
     ∷ key? (codes "convention") place.Convention
     ∷ key? (codes "end_convention") place.Convention

@@ -1,6 +1,7 @@
 pub mod Earlier
 pub mod Presence
 pub mod Keys
+pub mod Version
 pub mod Limited
 pub mod Field
 pub mod Words

@@ -4,7 +4,7 @@ use Rattle.toml.specs.Data.{Members, get_member}
 use Rattle.market_tables.specs.declared.fault.MarketKind.{MarketKind}
 use Rattle.market_tables.specs.declared.fault.MarketKind.TheVariants as fault
 use Rattle.market_fields.specs.declared.presence.KeyPresence.{KeyPresence}
-use Rattle.market_fields.specs.declared.presence.KeyPresence.TheVariants.{Always, Optional, Structure, WithCoupons}
+use Rattle.market_fields.specs.declared.presence.KeyPresence.TheVariants.{Always, Optional, Start, Structure, WithCoupons}
 
 abbrev pub has : List ℕ → Members → Bool
 has word table = is_some (get_member word table)
@@ -15,6 +15,13 @@ has_coupon_key table =
     has (codes "spread") table || has (codes "every") table || has (codes "rule") table
     || has (codes "convention") table || has (codes "end_convention") table || has (codes "month_end") table
     || has (codes "counter") table || has (codes "first") table || has (codes "last") table
+
+-- a curve has settlement days or a reference day of its own, and not both
+abbrev pub start : Members → Result Bool MarketKind
+start table =
+    if (has (codes "settlement") table && has (codes "reference") table)
+    || (not (has (codes "settlement") table) && not (has (codes "reference") table))
+    then Err fault.Key else Ok false
 
 -- a bond has a fixed coupon or an index, and no spread with a fixed coupon; without these two it has no key of coupons
 abbrev pub structure : Members → Result Bool MarketKind
@@ -28,5 +35,6 @@ structure table =
 abbrev pub required : KeyPresence → Members → Result Bool MarketKind
 required Always table = Ok true
 required Optional table = Ok false
+required Start table = start table
 required Structure table = structure table
 required WithCoupons table = Ok (has (codes "coupon") table || has (codes "index") table)

@@ -5,6 +5,7 @@ ghost use Rattle.market_tables.specs.Given.{Gives, Says};
 ghost use Rattle.market_tables.specs.Refusals.{Refuses};
 ghost use Rattle.market_fields.specs.Earlier.{seen, named_object, new_name, served, calendar_of, index_in, index_terms};
 
+use crate::Version;
 use desk_names::{NameId, Names, ObjId, is_name};
 use desk_terms::{IndexTerms, Kind, Terms, Wanted};
 use holiday_calendars::Calendar;
@@ -19,14 +20,15 @@ pub struct Named {
     pub kind: Kind,
 }
 
-/// The names so far, the kind of each object so far, `today` first, the terms of each object but `today`, and the
-/// calendars.
+/// The names so far, the kind of each object so far, `today` first, the terms of each object but `today`, the
+/// calendars, and the version of the market's format.
 #[derive(Clone, Copy)]
 pub struct Earlier<'a> {
     pub names: &'a Names,
     pub kinds: &'a [Kind],
     pub made: &'a [(NameId, Terms)],
     pub calendars: &'a Calendars,
+    pub version: Version,
 }
 
 impl<'a> Earlier<'a> {

@@ -1,4 +1,4 @@
-// The kinds of objects and their keys.
+// The kinds of objects and their keys, those of version 2 among them.
 ghost use Rattle.std.specs.Prelude.{◌≡◌, map};
 ghost use Rattle.market_tables.specs.Table.{listed};
 ghost use Rattle.market_fields.specs.Keys as keys;
@@ -98,7 +98,8 @@ fn curve_keys() -> &'static [Key<KeyPresence, ObjectPlace>]
     &[
         ("name", KeyPresence::Always, ObjectPlace::NewName),
         ("calendar", KeyPresence::Always, ObjectPlace::Calendar),
-        ("settlement", KeyPresence::Always, ObjectPlace::Count),
+        ("settlement", KeyPresence::Start, ObjectPlace::Count),
+        ("reference", KeyPresence::Optional, ObjectPlace::Day),
         ("helpers", KeyPresence::Always, ObjectPlace::Helpers),
     ]
 }
@@ -138,6 +139,7 @@ fn bond_keys() -> &'static [Key<KeyPresence, ObjectPlace>]
             KeyPresence::Optional,
             ObjectPlace::Object(Wanted::Engine),
         ),
+        ("payment_lag", KeyPresence::Optional, ObjectPlace::Count),
         ("coupon", KeyPresence::Structure, ObjectPlace::Rate),
         (
             "index",
@@ -176,6 +178,7 @@ fn swap_keys() -> &'static [Key<KeyPresence, ObjectPlace>]
             KeyPresence::Optional,
             ObjectPlace::Object(Wanted::Engine),
         ),
+        ("payment_lag", KeyPresence::Optional, ObjectPlace::Count),
         ("rule", KeyPresence::Optional, ObjectPlace::Rule),
         ("convention", KeyPresence::Optional, ObjectPlace::Convention),
         (

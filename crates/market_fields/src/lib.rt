@@ -1,6 +1,6 @@
 //! The keys of every kind of object in a market file, and what their values say over what stands earlier in the market.
 //!
-//! `ObjectKind`, `ObjectPlace`, `KeyPresence`; `Earlier`, `Named`, `served`; `place_field`, `Field`, `Notional`,
+//! `Version`, `ObjectKind`, `ObjectPlace`, `KeyPresence`; `Earlier`, `Named`, `served`; `place_field`, `Field`, `Notional`,
 //! `TermRate`, `Sign`; `must`, and a reader by position for the fields of each sort.
 #![tactic(auto)]
 
@@ -13,6 +13,7 @@ mod parts;
 mod places;
 mod presence;
 mod taken;
+mod version;
 mod words;
 
 pub use earlier::{Earlier, Named, served};
@@ -25,3 +26,4 @@ pub use keys::{HelperKind, ObjectKind, ObjectPlace};
 pub use limited::{Notional, Sign, TermRate};
 pub use presence::KeyPresence;
 pub use taken::{calendar_in, helpers_in, name_in, parts_in};
+pub use version::Version;

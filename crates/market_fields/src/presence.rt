@@ -2,7 +2,7 @@
 ghost use Rattle.std.specs.Prelude.{◌≡◌};
 ghost use Rattle.toml.specs.View.{table_view};
 ghost use Rattle.market_tables.specs.Given.{Says};
-ghost use Rattle.market_fields.specs.Presence.{has, has_coupon_key, structure, required};
+ghost use Rattle.market_fields.specs.Presence.{has, has_coupon_key, start, structure, required};
 
 use market_tables::{MarketKind, TableFault, value_at};
 use toml::Table;
@@ -12,14 +12,16 @@ use toml::Table;
 pub enum KeyPresence {
     Always,
     Optional,
+    /// Where a curve has no `reference`. A curve with both or neither is refused at its place.
+    Start,
     /// May be missing. The keys of a bond are tested against each other at its place.
     Structure,
     /// Where a bond has coupons.
     WithCoupons,
 }
 
-// Whether a table has a key.
-fn has(table: &Table, word: &str) -> bool
+/// Whether a table has a key.
+pub(crate) fn has(table: &Table, word: &str) -> bool
     ensures { result ≡ has word.now (table_view table.now) }
 {
     value_at(table, word).is_some()
@@ -38,6 +40,18 @@ fn has_coupon_key(table: &Table) -> bool
         || has(table, "counter")
         || has(table, "first")
         || has(table, "last")
+}
+
+// Refuses a curve with both `settlement` and `reference`, or with neither.
+fn start(table: &Table) -> Result<bool, TableFault>
+    ensures { Says (λ must. must) result (start (table_view table.now)) }
+{
+    let moving = has(table, "settlement");
+    let fixed = has(table, "reference");
+    if (moving && fixed) || (!moving && !fixed) {
+        return Err(TableFault::Kind(MarketKind::Key));
+    }
+    Ok(false)
 }
 
 // Refuses a bond with `coupon` and `index`, with keys of coupons and neither, or with `coupon` and `spread`.
@@ -63,6 +77,7 @@ impl KeyPresence {
         match self {
             KeyPresence::Always => Ok(true),
             KeyPresence::Optional => Ok(false),
+            KeyPresence::Start => start(table),
             KeyPresence::Structure => structure(table),
             KeyPresence::WithCoupons => Ok(has(table, "coupon") || has(table, "index")),
         }

@@ -29,6 +29,7 @@ use Rattle.market_calendars.specs.Reader.{calendars_in}
 use Rattle.market_calendars.specs.Calendars.{Calendars}
 use Rattle.market_fields.specs.Earlier.{Earlier, named_object, served, new_name}
 use Rattle.market_fields.specs.Limited.{rate_of}
+use Rattle.market_fields.specs.declared.version.Version.{Version}
 use Rattle.market_objects.specs.Board.{started, added, HasFlowsInRange, HaveFlowsInRange}
 use Rattle.market_objects.specs.Reader as object
 use Rattle.market_objects.specs.Quotes as quote
@@ -120,7 +121,7 @@ added_built b name t built entry = by_test (nat_le 4096 (length b.kinds)) refl
       inputs = subst (λ (ks : List Kind). AreServed ks (inputs_of t)) built.kinds entry.1.1;
     }
 
-    by_test : (is_full : Bool) → nat_le 4096 (length b.kinds) ≡ is_full → Given IsBuilt (if is_full then Err fault.Limit else Ok (record { names = with_text b.names name; kinds = b.kinds ++ kind_of t ∷ []; made = b.made ++ (place_of b.names name, t) ∷ []; calendars = b.calendars }))
+    by_test : (is_full : Bool) → nat_le 4096 (length b.kinds) ≡ is_full → Given IsBuilt (if is_full then Err fault.Limit else Ok (record { names = with_text b.names name; kinds = b.kinds ++ kind_of t ∷ []; made = b.made ++ (place_of b.names name, t) ∷ []; calendars = b.calendars; version = b.version }))
     by_test true is = tt
     by_test false is = record {
       kinds = ap (λ (ks : List Kind). ks ++ kind_of t ∷ []) built.kinds ∙ ap (λ (ks : List Kind). Today ∷ ks) (sym (kinds_more b.made (place_of b.names name, t)));
@@ -282,15 +283,15 @@ objects_built : (document : Members) (b : Earlier) → IsBuilt b → Given IsBui
 objects_built document b built =
     in_given IsBuilt section.Objects (entries_from object.behind b 1 (tables_at (codes "object") document)) (entries_built 1 (tables_at (codes "object") document) b built)
 
-started_built : (calendars : Calendars) → IsBuilt (started calendars)
-started_built calendars = record { kinds = refl; names = refl; first = refl; room = omega arith; order = λ _. tt }
+started_built : (version : Version) (calendars : Calendars) → IsBuilt (started version calendars)
+started_built version calendars = record { kinds = refl; names = refl; first = refl; room = omega arith; order = λ _. tt }
 
 all_built : (document : Members) (top : TopTable) (quotes fixings : List ℕ) → Given IsBuilt (objects_of document top quotes fixings)
 all_built document top quotes fixings =
     past IsBuilt (table_sized section.Quotes (is_some top.quotes) quotes) _
     (λ _. past IsBuilt (table_sized section.Fixings (is_some top.fixings) fixings) _
     (λ _. past IsBuilt (in_section section.Calendars (calendars_in (tables_at (codes "calendar") document))) _
-    (λ calendars. bound IsBuilt IsBuilt (quotes_onto (is_some top.quotes) quotes (started calendars)) _ (quotes_built (is_some top.quotes) quotes (started calendars) (started_built calendars))
+    (λ calendars. bound IsBuilt IsBuilt (quotes_onto (is_some top.quotes) quotes (started top.version calendars)) _ (quotes_built (is_some top.quotes) quotes (started top.version calendars) (started_built top.version calendars))
     (λ b built. bound IsBuilt IsBuilt (objects_onto document b) _ (objects_built document b built)
     (λ c more. fixings_built (is_some top.fixings) fixings c more)))))
 

@@ -139,7 +139,7 @@ module _ (text quotes fixings : List ℕ) (s : Section) (n : ℕ) (k : MarketKin
   ]
 
   quotes_stage : (document : Members) (top : TopTable) (calendars : Calendars) → AreCalendarsTaken text quotes fixings document top calendars
-      → (quotes_onto (is_some top.quotes) quotes (started calendars) >>= (λ board. objects_onto document board >>= (λ more. fixings_onto (is_some top.fixings) fixings more))) ≡ Err (s, n, k)
+      → (quotes_onto (is_some top.quotes) quotes (started top.version calendars) >>= (λ board. objects_onto document board >>= (λ more. fixings_onto (is_some top.fixings) fixings more))) ≡ Err (s, n, k)
       → Due
   quotes_stage document top calendars before h = elim (by_step _ _ _ h) [
     | inl e ↦ by (is_some top.quotes) refl e
@@ -147,19 +147,19 @@ module _ (text quotes fixings : List ℕ) (s : Section) (n : ℕ) (k : MarketKin
         objects_stage document top board (record {
           calendars = calendars;
           before = before;
-          taken = quotes_ok (is_some top.quotes) quotes (started calendars) board ok;
+          taken = quotes_ok (is_some top.quotes) quotes (started top.version calendars) board ok;
         }) e
   ]
     where
-      by : (b : Bool) → is_some top.quotes ≡ b → quotes_onto b quotes (started calendars) ≡ Err (s, n, k) → Due
+      by : (b : Bool) → is_some top.quotes ≡ b → quotes_onto b quotes (started top.version calendars) ≡ Err (s, n, k) → Due
       by false is h = cc h
       by true is h =
           let e = section_err section.Quotes s n k _ h in
-          in_quotes document top calendars before is (records_faulty quote.is_header quote.behind (started calendars) (rows_of quotes) n k e.1) e.0
+          in_quotes document top calendars before is (records_faulty quote.is_header quote.behind (started top.version calendars) (rows_of quotes) n k e.1) e.0
 
   calendars_stage : (document : Members) (top : TopTable) → AreShort text quotes fixings document top
       → (in_section section.Calendars (calendar.calendars_in (tables_at (codes "calendar") document)) >>= (λ calendars.
-      quotes_onto (is_some top.quotes) quotes (started calendars) >>= (λ board. objects_onto document board >>= (λ more.
+      quotes_onto (is_some top.quotes) quotes (started top.version calendars) >>= (λ board. objects_onto document board >>= (λ more.
       fixings_onto (is_some top.fixings) fixings more)))) ≡ Err (s, n, k) → Due
   calendars_stage document top before h = elim (by_step _ _ _ h) [
     | inl e ↦
@@ -184,7 +184,7 @@ module _ (text quotes fixings : List ℕ) (s : Section) (n : ℕ) (k : MarketKin
           → (table_sized section.Fixings (is_some top.fixings) fixings ≡ Err (s, n, k))
           ⊎ ((x : List ℕ) × (table_sized section.Fixings (is_some top.fixings) fixings ≡ Ok x)
           × ((in_section section.Calendars (calendar.calendars_in (tables_at (codes "calendar") document)) >>= (λ calendars.
-          quotes_onto (is_some top.quotes) quotes (started calendars) >>= (λ board. objects_onto document board >>= (λ more.
+          quotes_onto (is_some top.quotes) quotes (started top.version calendars) >>= (λ board. objects_onto document board >>= (λ more.
           fixings_onto (is_some top.fixings) fixings more)))) ≡ Err (s, n, k))) → Due
       fixings_size short (inl e) =
           let f = long_err section.Fixings s (is_some top.fixings) fixings n k e in
@@ -234,7 +234,7 @@ module _ (text quotes fixings : List ℕ) (s : Section) (n : ℕ) (k : MarketKin
 
   of_calendars : (document : Members) (top : TopTable) → AreShort text quotes fixings document top
       → (in_section section.Calendars (calendar.calendars_in (tables_at (codes "calendar") document)) >>= (λ calendars.
-      quotes_onto (is_some top.quotes) quotes (started calendars) >>= (λ board. objects_onto document board >>= (λ more.
+      quotes_onto (is_some top.quotes) quotes (started top.version calendars) >>= (λ board. objects_onto document board >>= (λ more.
       fixings_onto (is_some top.fixings) fixings more)))) ≡ Err (s, n, k)
       → read_market text quotes fixings ≡ Err (s, n, k)
   of_calendars document top t h =
@@ -242,7 +242,7 @@ module _ (text quotes fixings : List ℕ) (s : Section) (n : ℕ) (k : MarketKin
       (past _ _ fixings _ (ok_short section.Fixings (is_some top.fixings) fixings t.short_fixings) h))
 
   of_quotes : (document : Members) (top : TopTable) (calendars : Calendars) → AreCalendarsTaken text quotes fixings document top calendars
-      → (quotes_onto (is_some top.quotes) quotes (started calendars) >>= (λ board. objects_onto document board >>= (λ more. fixings_onto (is_some top.fixings) fixings more))) ≡ Err (s, n, k)
+      → (quotes_onto (is_some top.quotes) quotes (started top.version calendars) >>= (λ board. objects_onto document board >>= (λ more. fixings_onto (is_some top.fixings) fixings more))) ≡ Err (s, n, k)
       → read_market text quotes fixings ≡ Err (s, n, k)
   of_quotes document top calendars t h =
       of_calendars document top t.before
@@ -253,7 +253,7 @@ module _ (text quotes fixings : List ℕ) (s : Section) (n : ℕ) (k : MarketKin
       → read_market text quotes fixings ≡ Err (s, n, k)
   of_board document top board t h =
       of_quotes document top t.calendars t.before
-      (past _ _ board _ (ok_quotes (is_some top.quotes) quotes (started t.calendars) board t.taken) h)
+      (past _ _ board _ (ok_quotes (is_some top.quotes) quotes (started top.version t.calendars) board t.taken) h)
 
   pub of_first_fault : Due → read_market text quotes fixings ≡ Err (s, n, k)
   of_first_fault (long_text is stage number kind) = rw (is, stage, number, kind) refl
@@ -268,7 +268,7 @@ module _ (text quotes fixings : List ℕ) (s : Section) (n : ℕ) (k : MarketKin
       of_calendars document top t
       (stopped _ _ _ (ap (in_section section.Calendars) (faulty_tables calendar.behind [] (tables_at (codes "calendar") document) n k first) ∙ rw stage refl))
   of_first_fault (in_quotes document top calendars t named first stage) =
-      of_quotes document top calendars t (stopped (quotes_onto (is_some top.quotes) quotes (started calendars)) _ (s, n, k) (rw (named, faulty_records quote.is_header quote.behind (started calendars) (rows_of quotes) n k first, stage) refl))
+      of_quotes document top calendars t (stopped (quotes_onto (is_some top.quotes) quotes (started top.version calendars)) _ (s, n, k) (rw (named, faulty_records quote.is_header quote.behind (started top.version calendars) (rows_of quotes) n k first, stage) refl))
   of_first_fault (in_objects document top board t first stage) =
       of_board document top board t
       (stopped _ _ _ (ap (in_section section.Objects) (faulty_tables object.behind board (tables_at (codes "object") document) n k first) ∙ rw stage refl))

@@ -13,7 +13,7 @@ use Rattle.day_number.specs.declared.tenors.Unit.{Unit as TimeUnit}
 use Rattle.day_number.specs.declared.tenors.Unit.TheVariants.{Days, Weeks, Months, Years}
 use Rattle.day_number.proofs.TenorLemmas.{reads_tenors}
 use Rattle.curve_terms.specs.declared.terms.Helper.{Helper}
-use Rattle.curve_terms.specs.Terms.{IsOfMonths, AreTenors, IsHelper}
+use Rattle.curve_terms.specs.Terms.{IsOfMonths, AreTenors, IsHelper, IsStart}
 use Rattle.desk_names.specs.Names.{has_text, place_of}
 use Rattle.desk_terms.specs.declared.kind.Kind.{Kind}
 use Rattle.desk_terms.specs.declared.kind.Wanted.{Wanted}
@@ -51,6 +51,7 @@ use Rattle.market_fields.specs.declared.keys.ObjectPlace.{ObjectPlace}
 use Rattle.market_fields.specs.declared.keys.ObjectPlace.TheVariants as place
 use Rattle.market_fields.specs.Earlier.{Earlier, object_at, known_object, named_object, untaken, new_name, served}
 use Rattle.market_fields.specs.Presence.{required}
+use Rattle.market_fields.specs.Version.{in_version}
 use Rattle.market_fields.specs.Keys.{kind_of, keys_of, part_keys, helper_kind_of, helper_keys_of}
 use Rattle.market_fields.specs.Field.{must, name_in, object_in, named_in, target_in, day_in, count_in, tenor_in, weight_in, parts_in, helpers_in, convention_in, flag_in, counter_in, calendar_in, notional_in}
 use Rattle.market_fields.specs.Places.{name_field, named_at, object_field, any_object_field, count_of, count_field, tenor_in as tenor_of, months_of, tenor_field, months_field, plain_field}
@@ -58,12 +59,12 @@ use Rattle.market_fields.specs.Parts.{part_made, part_in, parts_field}
 use Rattle.market_fields.specs.Helpers.{helper_of, helper_made, helper_in, counted, helpers_field, place_field}
 use Rattle.market_instruments.specs.Limits.{limited, instrument_of}
 use Rattle.market_instruments.specs.Schedules.{span_of, rules_of, dates_of}
-use Rattle.market_instruments.specs.Appended.{redeemed}
+use Rattle.market_instruments.specs.Appended.{lag_in, redeemed}
 use Rattle.market_instruments.specs.Bonds.{coupons_of, bond_of}
 use Rattle.market_instruments.specs.Swaps.{fixed_side, float_side, swap_of}
 use Rattle.market_instruments.specs.Forwards.{settlement_of, forward_of}
 use Rattle.market_objects.specs.Board.{HasFlowsInRange}
-use Rattle.market_objects.specs.Making.{derived_of, target_wanted, linked, handle_of, curve_of, implied_of, index_of, engine_of, stock_of, composite_of, or_no_parts, parts_of, terms_of, entry_made}
+use Rattle.market_objects.specs.Making.{derived_of, target_wanted, linked, handle_of, start_of, curve_of, implied_of, index_of, engine_of, stock_of, composite_of, or_no_parts, parts_of, terms_of, entry_made}
 use Rattle.market_objects.specs.Reader.{entry_in}
 use Rattle.market_file.specs.Standing.{is_served, AreServed, AreLimited}
 use Rattle.market_file.proofs.Composed.{are_within}
@@ -404,12 +405,20 @@ module _ (e : Earlier) (fs : List (Option Field)) where
       past (MayBeMade e) (must (target_in (field_in fs 1))) _
       (λ k. bound (IfThere (IsKnown e)) (MayBeMade e) (named_in (field_in fs 2)) (linked k) (named_so (Fits e) place.AnyObject (field_in fs 2) h) (linked_fits k))
 
-  curve_fits : IsOf (Fits e) place.Count (field_in fs 2) → IsOf (Fits e) place.Helpers (field_in fs 3) → Given (MayBeMade e) (curve_of fs)
+  start_fits : (settlement : Option ℕ) (reference : Option ℤ) → IfThere (λ n. n ≤ 30) settlement → Given IsStart (start_of settlement reference)
+  start_fits (Some settlement) None few = few
+  start_fits None (Some reference) few = tt
+  start_fits (Some settlement) (Some reference) few = tt
+  start_fits None None few = tt
+
+  curve_fits : IsOf (Fits e) place.Count (field_in fs 2) → IsOf (Fits e) place.Helpers (field_in fs 4) → Given (MayBeMade e) (curve_of fs)
   curve_fits hc hh =
-      bound (λ n. n ≤ 30) (MayBeMade e) (must (count_in (field_in fs 2))) _ (must_so (λ n. n ≤ 30) (count_in (field_in fs 2)) (count_so (Fits e) place.Count (field_in fs 2) hc))
-      (λ settlement few. past (MayBeMade e) (must (calendar_in (field_in fs 1))) _
-      (λ cal. bound (AreFewServed e) (MayBeMade e) (must (helpers_in (field_in fs 3))) _ (must_so (AreFewServed e) (helpers_in (field_in fs 3)) (helpers_so (Fits e) place.Helpers (field_in fs 3) hh))
-      (λ helpers h. ((λ _. record { start = few; count = h.0; helpers = h.1.1 }), h.1.0))))
+      bound (IfThere (λ n. n ≤ 30)) (MayBeMade e) (count_in (field_in fs 2)) _ (count_so (Fits e) place.Count (field_in fs 2) hc)
+      (λ settlement few. past (MayBeMade e) (day_in (field_in fs 3)) _
+      (λ reference. bound IsStart (MayBeMade e) (start_of settlement reference) _ (start_fits settlement reference few)
+      (λ start begins. past (MayBeMade e) (must (calendar_in (field_in fs 1))) _
+      (λ cal. bound (AreFewServed e) (MayBeMade e) (must (helpers_in (field_in fs 4))) _ (must_so (AreFewServed e) (helpers_in (field_in fs 4)) (helpers_so (Fits e) place.Helpers (field_in fs 4) hh))
+      (λ helpers h. ((λ _. record { start = begins; count = h.0; helpers = h.1.1 }), h.1.0))))))
 
   implied_fits : IsOf (Fits e) (place.Object CurveInput) (field_in fs 1) → Given (MayBeMade e) (implied_of fs)
   implied_fits h =
@@ -470,22 +479,23 @@ instrument_fits e flows index engine hi he = by_none (length flows == 0)
     by_none false = by_many (nat_lt MOST_FLOWS (length flows))
 
 module _ (e : Earlier) (fs : List (Option Field)) where
-  bond_fits : IsOf (Fits e) (place.Object Engine) (field_in fs 5) → IsOf (Fits e) (place.Object Index) (field_in fs 7) → Given (MayBeMade e) (bond_of e fs)
+  bond_fits : IsOf (Fits e) (place.Object Engine) (field_in fs 5) → IsOf (Fits e) (place.Object Index) (field_in fs 8) → Given (MayBeMade e) (bond_of e fs)
   bond_fits he hi =
       past (MayBeMade e) (must (notional_in (field_in fs 1))) _ (λ n. past (MayBeMade e) (span_of fs 2) _
       (λ span. bound (IfThere (IsServed e Engine)) (MayBeMade e) (object_in (field_in fs 5)) _ (found e Engine (field_in fs 5) he)
-      (λ engine engine_is. bound (IfThere (IsServed e Index)) (MayBeMade e) (object_in (field_in fs 7)) _ (found e Index (field_in fs 7) hi)
-      (λ index index_is. past (MayBeMade e) (coupons_of e fs span n index []) _ (λ coupons. past (MayBeMade e) (redeemed coupons span.cal span.end n) _ (λ flows. instrument_fits e flows index engine index_is engine_is))))))
+      (λ engine engine_is. past (MayBeMade e) (lag_in (field_in fs 6)) _
+      (λ lag. bound (IfThere (IsServed e Index)) (MayBeMade e) (object_in (field_in fs 8)) _ (found e Index (field_in fs 8) hi)
+      (λ index index_is. past (MayBeMade e) (coupons_of e fs span lag n index []) _ (λ coupons. past (MayBeMade e) (redeemed coupons span.cal lag span.end n) _ (λ flows. instrument_fits e flows index engine index_is engine_is)))))))
 
-  swap_fits : IsOf (Fits e) (place.Object Engine) (field_in fs 6) → IsOf (Fits e) (place.Object Index) (field_in fs 14) → Given (MayBeMade e) (swap_of e fs)
+  swap_fits : IsOf (Fits e) (place.Object Engine) (field_in fs 6) → IsOf (Fits e) (place.Object Index) (field_in fs 15) → Given (MayBeMade e) (swap_of e fs)
   swap_fits he hi =
       past (MayBeMade e) (span_of fs 3) _
       (λ span. bound (IfThere (IsServed e Engine)) (MayBeMade e) (object_in (field_in fs 6)) _ (found e Engine (field_in fs 6) he)
-      (λ engine engine_is. past (MayBeMade e) (rules_of fs 7) _ (λ rules. past (MayBeMade e) (must (tenor_in (field_in fs 12))) _
-      (λ fixed_every. bound (IfThere (IsServed e Index)) (MayBeMade e) (object_in (field_in fs 14)) _ (found e Index (field_in fs 14) hi)
-      (λ index index_is. past (MayBeMade e) (must (tenor_in (field_in fs 16))) _ (λ float_every. past (MayBeMade e) (dates_of span rules fixed_every None None) _
-      (λ fixed_days. past (MayBeMade e) (dates_of span rules float_every None None) _ (λ float_days. past (MayBeMade e) (fixed_side fs span.cal fixed_days []) _
-      (λ fixed. past (MayBeMade e) (float_side e fs span.cal float_days index fixed) _ (λ flows. instrument_fits e flows index engine index_is engine_is))))))))))
+      (λ engine engine_is. past (MayBeMade e) (lag_in (field_in fs 7)) _ (λ lag. past (MayBeMade e) (rules_of fs 8) _ (λ rules. past (MayBeMade e) (must (tenor_in (field_in fs 13))) _
+      (λ fixed_every. bound (IfThere (IsServed e Index)) (MayBeMade e) (object_in (field_in fs 15)) _ (found e Index (field_in fs 15) hi)
+      (λ index index_is. past (MayBeMade e) (must (tenor_in (field_in fs 17))) _ (λ float_every. past (MayBeMade e) (dates_of span rules fixed_every None None) _
+      (λ fixed_days. past (MayBeMade e) (dates_of span rules float_every None None) _ (λ float_days. past (MayBeMade e) (fixed_side fs span.cal lag fixed_days []) _
+      (λ fixed. past (MayBeMade e) (float_side e fs span.cal lag float_days index fixed) _ (λ flows. instrument_fits e flows index engine index_is engine_is)))))))))))
 
   forward_fits : IsOf (Fits e) (place.Object Index) (field_in fs 3) → IsOf (Fits e) (place.Object Engine) (field_in fs 6) → Given (MayBeMade e) (forward_of e fs)
   forward_fits hi he =
@@ -499,14 +509,14 @@ terms_fit : (e : Earlier) (k : ObjectKind) (fs : List (Option Field)) → AreOf 
 terms_fit e kind.Sum fs h = derived_fits e fs false (at (Fits e) (keys_of kind.Sum) fs h 1) (at (Fits e) (keys_of kind.Sum) fs h 2)
 terms_fit e kind.Difference fs h = derived_fits e fs true (at (Fits e) (keys_of kind.Difference) fs h 1) (at (Fits e) (keys_of kind.Difference) fs h 2)
 terms_fit e kind.Handle fs h = handle_fits e fs (at (Fits e) (keys_of kind.Handle) fs h 2)
-terms_fit e kind.Curve fs h = curve_fits e fs (at (Fits e) (keys_of kind.Curve) fs h 2) (at (Fits e) (keys_of kind.Curve) fs h 3)
+terms_fit e kind.Curve fs h = curve_fits e fs (at (Fits e) (keys_of kind.Curve) fs h 2) (at (Fits e) (keys_of kind.Curve) fs h 4)
 terms_fit e kind.Implied fs h = implied_fits e fs (at (Fits e) (keys_of kind.Implied) fs h 1)
 terms_fit e kind.Index fs h = index_fits e fs (at (Fits e) (keys_of kind.Index) fs h 2) (at (Fits e) (keys_of kind.Index) fs h 3) (at (Fits e) (keys_of kind.Index) fs h 7)
 terms_fit e kind.Engine fs h = engine_fits e fs (at (Fits e) (keys_of kind.Engine) fs h 1)
 terms_fit e kind.Stock fs h = stock_fits e fs (at (Fits e) (keys_of kind.Stock) fs h 1)
 terms_fit e kind.Composite fs h = parts_of_fits e fs (field_in fs 1) (at (Fits e) (keys_of kind.Composite) fs h 1)
-terms_fit e kind.Bond fs h = bond_fits e fs (at (Fits e) (keys_of kind.Bond) fs h 5) (at (Fits e) (keys_of kind.Bond) fs h 7)
-terms_fit e kind.Swap fs h = swap_fits e fs (at (Fits e) (keys_of kind.Swap) fs h 6) (at (Fits e) (keys_of kind.Swap) fs h 14)
+terms_fit e kind.Bond fs h = bond_fits e fs (at (Fits e) (keys_of kind.Bond) fs h 5) (at (Fits e) (keys_of kind.Bond) fs h 8)
+terms_fit e kind.Swap fs h = swap_fits e fs (at (Fits e) (keys_of kind.Swap) fs h 6) (at (Fits e) (keys_of kind.Swap) fs h 15)
 terms_fit e kind.Fra fs h = forward_fits e fs (at (Fits e) (keys_of kind.Fra) fs h 3) (at (Fits e) (keys_of kind.Fra) fs h 6)
 
 made_fits : (e : Earlier) (fs : List (Option Field)) (r : Result Terms MarketKind) → IsOf (Fits e) place.NewName (field_in fs 0) → Given (MayBeMade e) r
@@ -549,7 +559,7 @@ fields_fit_in e table k = by_test (are_listed true (keys_of k) table)
 -- what a table makes has a name that is free, keeps its limits, and rests on what stands before
 pub entry_in_fits : (e : Earlier) (d : Data) → Given (IsEntry e) (entry_in e d)
 entry_in_fits e d =
-    past (IsEntry e) (table_in d) _
+    past (IsEntry e) (table_in d) _ (λ table. past (IsEntry e) (in_version e.version table) _
     (λ table. bound (AreFields e) (IsEntry e) (entry_of kind_of keys_of required (place_field e) table) (λ entry. entry_made e entry.0 entry.1)
     (past (AreFields e) (kind_in kind_of table) _ (fields_fit_in e table))
-    (λ entry h. entry_fits e entry.0 entry.1 h))
+    (λ entry h. entry_fits e entry.0 entry.1 h)))

@@ -55,7 +55,7 @@ pub record AreCalendarsTaken (text quotes fixings : List ℕ) (document : Member
 pub record AreQuotesTaken (text quotes fixings : List ℕ) (document : Members) (top : TopTable) (board : Earlier) : Type 0 where
   pub calendars : Calendars
   pub before : AreCalendarsTaken text quotes fixings document top calendars
-  pub taken : IsTableTaken (is_some top.quotes) quote.is_header quote.behind quotes (started calendars) board
+  pub taken : IsTableTaken (is_some top.quotes) quote.is_header quote.behind quotes (started top.version calendars) board
 
 -- then its objects, and then the fixings of the file that it names.
 pub record AreObjectsTaken (text quotes fixings : List ℕ) (document : Members) (top : TopTable) (board : Earlier) : Type 0 where
@@ -76,7 +76,7 @@ pub data IsFirstFault (text quotes fixings : List ℕ) (s : Section) (n : ℕ) (
   in_calendars : (document : Members) (top : TopTable) → AreShort text quotes fixings document top
       → IsFirstFaulty calendar.behind [] (listed (tables_at (codes "calendar") document)) n k → s ≡ section.Calendars → IsFirstFault text quotes fixings s n k
   in_quotes : (document : Members) (top : TopTable) (calendars : Calendars) → AreCalendarsTaken text quotes fixings document top calendars
-      → is_some top.quotes ≡ true → IsFirstFaultyRecord quote.is_header quote.behind (started calendars) (rows_of quotes) n k
+      → is_some top.quotes ≡ true → IsFirstFaultyRecord quote.is_header quote.behind (started top.version calendars) (rows_of quotes) n k
       → s ≡ section.Quotes → IsFirstFault text quotes fixings s n k
   in_objects : (document : Members) (top : TopTable) (board : Earlier) → AreQuotesTaken text quotes fixings document top board
       → IsFirstFaulty object.behind board (listed (tables_at (codes "object") document)) n k → s ≡ section.Objects → IsFirstFault text quotes fixings s n k

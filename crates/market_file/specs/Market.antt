@@ -64,7 +64,7 @@ objects_of document top quotes fixings =
     table_sized section.Quotes (is_some top.quotes) quotes >>= (λ _.
     table_sized section.Fixings (is_some top.fixings) fixings >>= (λ _.
     in_section section.Calendars (calendars_in (tables_at (codes "calendar") document)) >>= (λ calendars.
-    quotes_onto (is_some top.quotes) quotes (started calendars) >>= (λ with_quotes.
+    quotes_onto (is_some top.quotes) quotes (started top.version calendars) >>= (λ with_quotes.
     objects_onto document with_quotes >>= (λ with_objects.
     fixings_onto (is_some top.fixings) fixings with_objects)))))
 

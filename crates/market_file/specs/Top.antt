@@ -1,5 +1,6 @@
 -- The top table of a market (this project's profile).
-use Rattle.std.specs.Prelude.{ℕ, ℤ, pos, List, [], ◌∷◌, codes, Option, Some, None, Result, Ok, Err}
+use Rattle.std.specs.Prelude.{ℕ, ℤ, pos, if◌then◌else◌, List, [], ◌∷◌, codes, Option, Some, None, Result, Ok, Err}
+use Rattle.std.specs.Ordering.{int_eq}
 use Rattle.toml.specs.Data.{Data, Members}
 use Rattle.market_tables.specs.declared.fault.MarketKind.{MarketKind}
 use Rattle.market_tables.specs.declared.fault.MarketKind.TheVariants as fault
@@ -10,6 +11,8 @@ use Rattle.market_tables.specs.Presence.{must_stand}
 use Rattle.market_tables.specs.Values.{text_in, day_in, integer_in, tables_in}
 use Rattle.market_tables.specs.Table.{Key, row_of}
 use Rattle.market_tables.specs.Fields.{field_in}
+use Rattle.market_fields.specs.declared.version.Version.{Version}
+use Rattle.market_fields.specs.declared.version.Version.TheVariants.{One, Two}
 use Rattle.market_file.specs.declared.top.TopPlace.{TopPlace}
 use Rattle.market_file.specs.declared.top.TopPlace.TheVariants as place
 use Rattle.market_file.specs.declared.top.TopField.{TopField}
@@ -34,9 +37,12 @@ top_keys =
     ∷ key? (codes "object") place.Tables
     ∷ []
 
--- the version of the format is 1
+-- the version of the format is 1 or 2
+abbrev pub version_of : ℤ → Version
+version_of n = if int_eq n (pos 1) then One else Two
+
 abbrev pub version_field : Data → Result TopField MarketKind
-version_field d = integer_in (pos 1) (pos 1) d >>= (λ n. Ok field.Version)
+version_field d = integer_in (pos 1) (pos 2) d >>= (λ n. Ok (field.Version (version_of n)))
 
 abbrev pub day_field : Data → Result TopField MarketKind
 day_field d = day_in d >>= (λ day. Ok (field.Day day))
@@ -55,6 +61,10 @@ top_field place.Path d = path_field d
 top_field place.Tables d = tables_field d
 
 -- what a field of one sort says; one that another place gave, or that is not there and must be, is the fault Key
+abbrev pub version_in : Option TopField → Result Version MarketKind
+version_in (Some (field.Version version)) = Ok version
+version_in _ = Err fault.Key
+
 abbrev pub today_in : Option TopField → Result ℤ MarketKind
 today_in (Some (field.Day day)) = Ok day
 today_in _ = Err fault.Key
@@ -66,8 +76,9 @@ path_in _ = Err fault.Key
 
 abbrev pub top_made : List (Option TopField) → Result TopTable MarketKind
 top_made fs =
-    today_in (field_in fs 1) >>= (λ today. path_in (field_in fs 2) >>= (λ quotes. path_in (field_in fs 3) >>= (λ fixings.
-    Ok (record { today = today; quotes = quotes; fixings = fixings }))))
+    version_in (field_in fs 0) >>= (λ version. today_in (field_in fs 1) >>= (λ today.
+    path_in (field_in fs 2) >>= (λ quotes. path_in (field_in fs 3) >>= (λ fixings.
+    Ok (record { version = version; today = today; quotes = quotes; fixings = fixings })))))
 
 -- what a top table says, or its first fault
 abbrev pub top_of : Members → Result TopTable MarketKind

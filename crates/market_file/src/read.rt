@@ -20,6 +20,7 @@ use crate::top::{TopTable, read_top};
 use day_number::Day;
 use desk_names::Names;
 use market_calendars::{Calendars, read_calendars};
+use market_fields::Version;
 use market_objects::{Board, MadeList, read_fixings, read_objects, read_quotes};
 use market_tables::{MarketKind, value_at};
 use std::alloc::Global;
@@ -97,10 +98,10 @@ fn calendars_of(alloc: Global, table: &Table) -> Result<Calendars, MarketFault>
     }
 }
 
-fn start(alloc: Global, calendars: Calendars) -> Result<Board, MarketFault>
-    ensures { Answers (λ board. board) result (Ok (started calendars)) }
+fn start(alloc: Global, version: Version, calendars: Calendars) -> Result<Board, MarketFault>
+    ensures { Answers (λ board. board) result (Ok (started version calendars)) }
 {
-    match Board::start(alloc, calendars) {
+    match Board::start(alloc, version, calendars) {
         Ok(board) => Ok(board),
         Err(fault) => Err(fault_at(Section::Top, 0, fault)),
     }
@@ -174,7 +175,7 @@ fn objects_of(
     table_sized(Section::Quotes, has_quotes, quotes)?;
     table_sized(Section::Fixings, has_fixings, fixings)?;
     let calendars = calendars_of(alloc, table)?;
-    let board = start(alloc, calendars)?;
+    let board = start(alloc, top.version, calendars)?;
     let with_quotes = quotes_onto(alloc, has_quotes, quotes, board)?;
     let with_objects = objects_onto(table, with_quotes)?;
     fixings_onto(alloc, has_fixings, fixings, with_objects)

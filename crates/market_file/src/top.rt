@@ -3,10 +3,11 @@ ghost use Rattle.std.specs.Prelude.{◌≡◌, Option, map};
 ghost use Rattle.toml.specs.View.{view, table_view};
 ghost use Rattle.market_tables.specs.Given.{Gives, Says};
 ghost use Rattle.market_tables.specs.Table.{listed};
-ghost use Rattle.market_file.specs.Top.{top_keys, version_field, day_field, path_field, tables_field, today_in, path_in, top_made, top_of};
+ghost use Rattle.market_file.specs.Top.{top_keys, version_of, version_field, day_field, path_field, tables_field, version_in, today_in, path_in, top_made, top_of};
 
 use day_number::Day;
 use desk_names::PathText;
+use market_fields::Version;
 use market_tables::{
     Key, MarketKind, Places, Presence, TableFault, day_in, integer_in, row_of, tables_in,
     take_field, text_in,
@@ -17,7 +18,7 @@ use toml::{Table, Value};
 /// What a key of the top table takes.
 #[derive(Clone, Copy, Debug, PartialEq, Eq)]
 pub enum TopPlace {
-    /// The version of the format, which is 1.
+    /// The version of the format, which is 1 or 2.
     Version,
     /// A day.
     Day,
@@ -30,7 +31,7 @@ pub enum TopPlace {
 /// What a key of the top table gives.
 #[derive(Drop)]
 pub enum TopField {
-    Version,
+    Version(Version),
     Day(Day),
     Path(PathText),
     Tables,
@@ -39,6 +40,7 @@ pub enum TopField {
 /// What a top table says besides its arrays of tables.
 #[derive(Drop)]
 pub struct TopTable {
+    pub version: Version,
     pub today: Day,
     pub quotes: Option<PathText>,
     pub fixings: Option<PathText>,
@@ -58,11 +60,22 @@ fn top_keys() -> &'static [Key<Presence, TopPlace>]
     ]
 }
 
+// The version of a number, which is 1 or 2.
+fn version_of(number: i64) -> Version
+    ensures { result ≡ version_of number }
+{
+    if number == 1 {
+        Version::One
+    } else {
+        Version::Two
+    }
+}
+
 fn version_field(value: &Value) -> Result<TopField, TableFault>
     ensures { Says (λ f. f) result (version_field (view value.now)) }
 {
-    integer_in(value, 1, 1)?;
-    Ok(TopField::Version)
+    let number = integer_in(value, 1, 2)?;
+    Ok(TopField::Version(version_of(number)))
 }
 
 fn day_field(value: &Value) -> Result<TopField, TableFault>
@@ -123,6 +136,15 @@ impl Places for TopReader {
 // The fault of a field that is not there, or that another place gave.
 const NO_FIELD: TableFault = TableFault::Kind(MarketKind::Key);
 
+fn version_in(field: Option<TopField>) -> Result<Version, TableFault>
+    ensures { Says (λ version. version) result (version_in field) }
+{
+    match &field {
+        Some(TopField::Version(version)) => Ok(*version),
+        Some(_) | None => Err(NO_FIELD),
+    }
+}
+
 fn today_in(field: Option<TopField>) -> Result<Day, TableFault>
     ensures { Says (λ day. day) result (today_in field) }
 {
@@ -148,10 +170,12 @@ fn top_made(fields: Vec<Option<TopField>>) -> Result<TopTable, TableFault>
     ensures { Says (λ top. top) result (top_made fields.items) }
 {
     let mut fields = fields;
+    let version = version_in(take_field(&mut fields, 0))?;
     let today = today_in(take_field(&mut fields, 1))?;
     let quotes = path_in(take_field(&mut fields, 2))?;
     let fixings = path_in(take_field(&mut fields, 3))?;
     Ok(TopTable {
+        version,
         today,
         quotes,
         fixings,

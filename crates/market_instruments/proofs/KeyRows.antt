@@ -18,7 +18,7 @@ use Rattle.market_fields.specs.Earlier.{Earlier, index_terms}
 use Rattle.market_fields.specs.Field.{must, object_in, day_in, tenor_in, rule_in, convention_in, flag_in, counter_in, notional_in, rate_in, sign_in, calendar_in}
 use Rattle.market_instruments.specs.declared.schedules.Rules.{Rules}
 use Rattle.market_instruments.specs.Schedules.{Span, span_of, rules_of, dates_of}
-use Rattle.market_instruments.specs.Appended.{fixed_behind, float_behind, redeemed, settled}
+use Rattle.market_instruments.specs.Appended.{lag_in, fixed_behind, float_behind, redeemed, settled}
 use Rattle.market_instruments.specs.Limits.{instrument_of}
 use Rattle.market_instruments.specs.Bonds.{bond_dates, fixed_coupons, float_coupons, coupons_by, coupons_of, bond_of}
 use Rattle.market_instruments.specs.Swaps.{fixed_side, float_side, swap_of}
@@ -61,44 +61,44 @@ module _ (said : List ℕ → Option Field) where
       day_in (said (codes "first")) >>= (λ first. day_in (said (codes "last")) >>= (λ last. dates_of span rules every first last))))
   bond_dates_by_keys span = refl
 
-  pub fixed_coupons_by_keys : (span : Span) (n rate : ℤ) (flows : List FlowTerm) → fixed_coupons bond span n rate flows
+  pub fixed_coupons_by_keys : (span : Span) (lag : ℕ) (n rate : ℤ) (flows : List FlowTerm) → fixed_coupons bond span lag n rate flows
       ≡ bond_dates bond span >>= (λ days. must (counter_in (said (codes "counter"))) >>= (λ counter.
-      fixed_behind flows span.cal n rate counter days))
-  fixed_coupons_by_keys span n rate flows = refl
+      fixed_behind flows span.cal lag n rate counter days))
+  fixed_coupons_by_keys span lag n rate flows = refl
 
-  pub float_coupons_by_keys : (e : Earlier) (span : Span) (n : ℤ) (index : ℕ) (flows : List FlowTerm) → float_coupons e bond span n index flows
+  pub float_coupons_by_keys : (e : Earlier) (span : Span) (lag : ℕ) (n : ℤ) (index : ℕ) (flows : List FlowTerm) → float_coupons e bond span lag n index flows
       ≡ bond_dates bond span >>= (λ days. must (counter_in (said (codes "counter"))) >>= (λ counter.
       rate_in (said (codes "spread")) >>= (λ spread. index_terms e index >>= (λ terms.
-      float_behind flows span.cal n (unwrap_or spread (pos 0)) counter terms days))))
-  float_coupons_by_keys e span n index flows = refl
+      float_behind flows span.cal lag n (unwrap_or spread (pos 0)) counter terms days))))
+  float_coupons_by_keys e span lag n index flows = refl
 
   pub bond_by_keys : (e : Earlier) → bond_of e bond
       ≡ must (notional_in (said (codes "notional"))) >>= (λ n. span_said >>= (λ span.
-      object_in (said (codes "engine")) >>= (λ engine. object_in (said (codes "index")) >>= (λ index.
-      (rate_in (said (codes "coupon")) >>= (λ coupon. coupons_by e bond span n [] coupon index)) >>= (λ coupons.
-      redeemed coupons span.cal span.end n >>= (λ flows. instrument_of flows index engine))))))
+      object_in (said (codes "engine")) >>= (λ engine. lag_in (said (codes "payment_lag")) >>= (λ lag. object_in (said (codes "index")) >>= (λ index.
+      (rate_in (said (codes "coupon")) >>= (λ coupon. coupons_by e bond span lag n [] coupon index)) >>= (λ coupons.
+      redeemed coupons span.cal lag span.end n >>= (λ flows. instrument_of flows index engine)))))))
   bond_by_keys e = refl
 
-  pub fixed_side_by_keys : (cal : Calendar) (days : List ℤ) (flows : List FlowTerm) → fixed_side swap cal days flows
+  pub fixed_side_by_keys : (cal : Calendar) (lag : ℕ) (days : List ℤ) (flows : List FlowTerm) → fixed_side swap cal lag days flows
       ≡ must (notional_in (said (codes "notional"))) >>= (λ n. must (sign_in (said (codes "side"))) >>= (λ sign.
       must (rate_in (said (codes "fixed_rate"))) >>= (λ rate. must (counter_in (said (codes "fixed_counter"))) >>= (λ counter.
-      fixed_behind flows cal (signed sign n) rate counter days))))
-  fixed_side_by_keys cal days flows = refl
+      fixed_behind flows cal lag (signed sign n) rate counter days))))
+  fixed_side_by_keys cal lag days flows = refl
 
-  pub float_side_by_keys : (e : Earlier) (cal : Calendar) (days : List ℤ) (index : Option ℕ) (flows : List FlowTerm) → float_side e swap cal days index flows
+  pub float_side_by_keys : (e : Earlier) (cal : Calendar) (lag : ℕ) (days : List ℤ) (index : Option ℕ) (flows : List FlowTerm) → float_side e swap cal lag days index flows
       ≡ must (notional_in (said (codes "notional"))) >>= (λ n. must (sign_in (said (codes "side"))) >>= (λ sign.
       or_fault fault.Key index >>= (λ named. rate_in (said (codes "spread")) >>= (λ spread.
       must (counter_in (said (codes "float_counter"))) >>= (λ counter. index_terms e named >>= (λ terms.
-      float_behind flows cal (signed (opposite sign) n) (unwrap_or spread (pos 0)) counter terms days))))))
-  float_side_by_keys e cal days index flows = refl
+      float_behind flows cal lag (signed (opposite sign) n) (unwrap_or spread (pos 0)) counter terms days))))))
+  float_side_by_keys e cal lag days index flows = refl
 
   pub swap_by_keys : (e : Earlier) → swap_of e swap
-      ≡ span_said >>= (λ span. object_in (said (codes "engine")) >>= (λ engine. rules_said >>= (λ rules.
+      ≡ span_said >>= (λ span. object_in (said (codes "engine")) >>= (λ engine. lag_in (said (codes "payment_lag")) >>= (λ lag. rules_said >>= (λ rules.
       must (tenor_in (said (codes "fixed_every"))) >>= (λ fixed_every. object_in (said (codes "index")) >>= (λ index.
       must (tenor_in (said (codes "float_every"))) >>= (λ float_every.
       dates_of span rules fixed_every None None >>= (λ fixed_dates. dates_of span rules float_every None None >>= (λ float_dates.
-      fixed_side swap span.cal fixed_dates [] >>= (λ fixed. float_side e swap span.cal float_dates index fixed >>= (λ flows.
-      instrument_of flows index engine))))))))))
+      fixed_side swap span.cal lag fixed_dates [] >>= (λ fixed. float_side e swap span.cal lag float_dates index fixed >>= (λ flows.
+      instrument_of flows index engine)))))))))))
   swap_by_keys e = refl
 
   pub settlement_by_keys : (e : Earlier) (index : ℕ) (flows : List FlowTerm) → settlement_of e agreement index flows

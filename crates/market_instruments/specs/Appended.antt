@@ -1,5 +1,5 @@
 -- Flows put behind others.
-use Rattle.std.specs.Prelude.{ℕ, ℤ, List, ◌++◌, Option, Result, Ok, Err}
+use Rattle.std.specs.Prelude.{ℕ, ℤ, unwrap_or, List, ◌++◌, Option, Result, Ok, Err}
 use Rattle.std.specs.List.{All}
 use Rattle.year_parts.specs.declared.counters.Counter.{Counter}
 use Rattle.holiday_calendars.specs.declared.calendars.Calendar.{Calendar}
@@ -18,6 +18,8 @@ use Rattle.market_tables.specs.declared.fault.TableFault.{TableFault}
 use Rattle.market_tables.specs.declared.fault.TableFault.TheVariants as table
 use Rattle.market_tables.specs.Given.{◌>>=◌}
 use Rattle.market_tables.specs.Values.{or_fault}
+use Rattle.market_fields.specs.declared.field.Field.{Field}
+use Rattle.market_fields.specs.Field.{count_in}
 
 -- the answer of a leg as that of a market
 abbrev pub ranged : Result (Unit {0}) LegFault → Result (Unit {0}) TableFault
@@ -25,23 +27,27 @@ ranged (Ok done) = Ok done
 ranged (Err leg.DateRange) = Err (table.Kind fault.Range)
 ranged (Err leg.NoMemory) = Err table.NoMemory
 
+-- the payment lag of a key that may be missing: 0 where it is
+abbrev pub lag_in : Option Field → Result ℕ MarketKind
+lag_in field = count_in field >>= (λ lag. Ok (unwrap_or lag 0))
+
 -- flows with more behind them, where there are days for these
 abbrev pub behind : List FlowTerm → Option (List FlowTerm) → Result (List FlowTerm) MarketKind
 behind flows due = or_fault fault.Range due >>= (λ more. Ok (flows ++ more))
 
 -- fixed interest for each period of some days
-abbrev pub fixed_behind : List FlowTerm → Calendar → ℤ → ℤ → Counter → List ℤ → Result (List FlowTerm) MarketKind
-fixed_behind flows cal notional rate counter days =
-    behind flows (each_period (fixed_flow (is_business_day cal) 0 notional rate counter) days)
+abbrev pub fixed_behind : List FlowTerm → Calendar → ℕ → ℤ → ℤ → Counter → List ℤ → Result (List FlowTerm) MarketKind
+fixed_behind flows cal lag notional rate counter days =
+    behind flows (each_period (fixed_flow (is_business_day cal) lag notional rate counter) days)
 
 -- interest at an index's rate and a spread for each period of some days
-abbrev pub float_behind : List FlowTerm → Calendar → ℤ → ℤ → Counter → IndexTerms → List ℤ → Result (List FlowTerm) MarketKind
-float_behind flows cal notional spread counter index days =
-    behind flows (each_period (float_flow (is_business_day cal) 0 notional spread counter index) days)
+abbrev pub float_behind : List FlowTerm → Calendar → ℕ → ℤ → ℤ → Counter → IndexTerms → List ℤ → Result (List FlowTerm) MarketKind
+float_behind flows cal lag notional spread counter index days =
+    behind flows (each_period (float_flow (is_business_day cal) lag notional spread counter index) days)
 
--- the notional, paid on the end adjusted
-abbrev pub redeemed : List FlowTerm → Calendar → ℤ → ℤ → Result (List FlowTerm) MarketKind
-redeemed flows cal end notional = behind flows (one_flow (redemption_flow (is_business_day cal) 0 end notional))
+-- the notional, paid a lag after the end
+abbrev pub redeemed : List FlowTerm → Calendar → ℕ → ℤ → ℤ → Result (List FlowTerm) MarketKind
+redeemed flows cal lag end notional = behind flows (one_flow (redemption_flow (is_business_day cal) lag end notional))
 
 -- the settlement of a forward rate agreement
 abbrev pub settled : List FlowTerm → IndexTerms → ℤ → ℤ → ℤ → Result (List FlowTerm) MarketKind

@@ -13,30 +13,30 @@ use Rattle.market_fields.specs.Field.{must, object_in, tenor_in, counter_in, not
 use Rattle.market_fields.specs.Limited.{signed, opposite}
 use Rattle.market_fields.specs.Earlier.{Earlier, index_terms}
 use Rattle.market_instruments.specs.Schedules.{span_of, rules_of, dates_of}
-use Rattle.market_instruments.specs.Appended.{fixed_behind, float_behind}
+use Rattle.market_instruments.specs.Appended.{lag_in, fixed_behind, float_behind}
 use Rattle.market_instruments.specs.Limits.{instrument_of}
 
 -- the fixed leg behind other flows, negative where it is paid
-abbrev pub fixed_side : List (Option Field) → Calendar → List ℤ → List FlowTerm → Result (List FlowTerm) MarketKind
-fixed_side fs cal days flows =
+abbrev pub fixed_side : List (Option Field) → Calendar → ℕ → List ℤ → List FlowTerm → Result (List FlowTerm) MarketKind
+fixed_side fs cal lag days flows =
     must (notional_in (field_in fs 1)) >>= (λ n. must (sign_in (field_in fs 2)) >>= (λ sign.
-    must (rate_in (field_in fs 11)) >>= (λ rate. must (counter_in (field_in fs 13)) >>= (λ counter.
-    fixed_behind flows cal (signed sign n) rate counter days))))
+    must (rate_in (field_in fs 12)) >>= (λ rate. must (counter_in (field_in fs 14)) >>= (λ counter.
+    fixed_behind flows cal lag (signed sign n) rate counter days))))
 
 -- the floating leg behind other flows, negative where the fixed one is received
-abbrev pub float_side : Earlier → List (Option Field) → Calendar → List ℤ → Option ℕ → List FlowTerm → Result (List FlowTerm) MarketKind
-float_side e fs cal days index flows =
+abbrev pub float_side : Earlier → List (Option Field) → Calendar → ℕ → List ℤ → Option ℕ → List FlowTerm → Result (List FlowTerm) MarketKind
+float_side e fs cal lag days index flows =
     must (notional_in (field_in fs 1)) >>= (λ n. must (sign_in (field_in fs 2)) >>= (λ sign.
-    or_fault fault.Key index >>= (λ index. rate_in (field_in fs 15) >>= (λ spread.
-    must (counter_in (field_in fs 17)) >>= (λ counter. index_terms e index >>= (λ terms.
-    float_behind flows cal (signed (opposite sign) n) (unwrap_or spread (pos 0)) counter terms days))))))
+    or_fault fault.Key index >>= (λ index. rate_in (field_in fs 16) >>= (λ spread.
+    must (counter_in (field_in fs 18)) >>= (λ counter. index_terms e index >>= (λ terms.
+    float_behind flows cal lag (signed (opposite sign) n) (unwrap_or spread (pos 0)) counter terms days))))))
 
 -- a swap of its fields: both schedules, the fixed leg, and then the floating leg
 abbrev pub swap_of : Earlier → List (Option Field) → Result Terms MarketKind
 swap_of e fs =
-    span_of fs 3 >>= (λ span. object_in (field_in fs 6) >>= (λ engine. rules_of fs 7 >>= (λ rules.
-    must (tenor_in (field_in fs 12)) >>= (λ fixed_every. object_in (field_in fs 14) >>= (λ index.
-    must (tenor_in (field_in fs 16)) >>= (λ float_every.
+    span_of fs 3 >>= (λ span. object_in (field_in fs 6) >>= (λ engine. lag_in (field_in fs 7) >>= (λ lag. rules_of fs 8 >>= (λ rules.
+    must (tenor_in (field_in fs 13)) >>= (λ fixed_every. object_in (field_in fs 15) >>= (λ index.
+    must (tenor_in (field_in fs 17)) >>= (λ float_every.
     dates_of span rules fixed_every None None >>= (λ fixed_days. dates_of span rules float_every None None >>= (λ float_days.
-    fixed_side fs span.cal fixed_days [] >>= (λ fixed. float_side e fs span.cal float_days index fixed >>= (λ flows.
-    instrument_of flows index engine))))))))))
+    fixed_side fs span.cal lag fixed_days [] >>= (λ fixed. float_side e fs span.cal lag float_days index fixed >>= (λ flows.
+    instrument_of flows index engine)))))))))))

@@ -9,7 +9,7 @@ ghost use Rattle.market_instruments.specs.Schedules.{span_seen};
 ghost use Rattle.market_instruments.specs.Appended.{StayWithin};
 ghost use Rattle.market_instruments.specs.Bonds.{bond_dates, fixed_coupons, float_coupons, no_coupons, coupons_by, coupons_of, bond_of};
 
-use crate::appended::{push_fixed, push_float, push_redemption};
+use crate::appended::{lag_at, push_fixed, push_float, push_redemption};
 use crate::limits::instrument_of;
 use crate::schedules::{Span, dates_of, rules_of, span_of};
 use desk_names::ObjId;
@@ -30,10 +30,10 @@ fn bond_dates(
 ) -> Result<Schedule, TableFault>
     ensures { Gives (λ days. days) result (bond_dates fields.now (span_seen span.now)) }
 {
-    let every = must(tenor_at(fields, 9)?)?;
-    let rules = rules_of(fields, 10)?;
-    let first = day_at(fields, 15)?;
-    let last = day_at(fields, 16)?;
+    let every = must(tenor_at(fields, 10)?)?;
+    let rules = rules_of(fields, 11)?;
+    let first = day_at(fields, 16)?;
+    let last = day_at(fields, 17)?;
     dates_of(alloc, span, rules, every, first, last)
 }
 
@@ -42,18 +42,20 @@ fn fixed_coupons(
     alloc: Global,
     fields: &[Option<Field>],
     span: &Span<'_>,
+    lag: u8,
     notional: Notional,
     rate: TermRate,
     out: &mut FlowTermList,
 ) -> Result<(), TableFault>
-    ensures flows { Gives (λ _. out.new) result (fixed_coupons fields.now (span_seen span.now) notional rate out.old) }
+    ensures flows { Gives (λ _. out.new) result (fixed_coupons fields.now (span_seen span.now) lag notional rate out.old) }
     ensures range { (index : Option ℕ) → StayWithin index out.old out.new }
 {
     let schedule = bond_dates(alloc, fields, span)?;
-    let counter = must(counter_at(fields, 14)?)?;
+    let counter = must(counter_at(fields, 15)?)?;
     push_fixed(
         &schedule,
         span.cal,
+        lag,
         notional.signed(Sign::Plus),
         rate.rate(),
         counter,
@@ -67,20 +69,22 @@ fn float_coupons(
     earlier: Earlier<'_>,
     fields: &[Option<Field>],
     span: &Span<'_>,
+    lag: u8,
     notional: Notional,
     index: ObjId,
     out: &mut FlowTermList,
 ) -> Result<(), TableFault>
-    ensures flows { Gives (λ _. out.new) result (float_coupons (seen earlier.entry) fields.now (span_seen span.now) notional index out.old) }
+    ensures flows { Gives (λ _. out.new) result (float_coupons (seen earlier.entry) fields.now (span_seen span.now) lag notional index out.old) }
     ensures range { StayWithin (Some index) out.old out.new }
 {
     let schedule = bond_dates(alloc, fields, span)?;
-    let counter = must(counter_at(fields, 14)?)?;
-    let spread = rate_at(fields, 8)?.unwrap_or(TermRate::zero());
+    let counter = must(counter_at(fields, 15)?)?;
+    let spread = rate_at(fields, 9)?.unwrap_or(TermRate::zero());
     let terms = earlier.index_terms(index)?;
     push_float(
         &schedule,
         span.cal,
+        lag,
         notional.signed(Sign::Plus),
         spread.rate(),
         counter,
@@ -105,22 +109,26 @@ fn push_coupons(
     earlier: Earlier<'_>,
     fields: &[Option<Field>],
     span: &Span<'_>,
+    lag: u8,
     notional: Notional,
     index: Option<ObjId>,
     out: &mut FlowTermList,
 ) -> Result<(), TableFault>
-    ensures flows { Gives (λ _. out.new) result (coupons_of (seen earlier.entry) fields.now (span_seen span.now) notional index out.old) }
+    ensures flows { Gives (λ _. out.new) result (coupons_of (seen earlier.entry) fields.now (span_seen span.now) lag notional index out.old) }
     ensures range { StayWithin index out.old out.new }
 {
-    let coupon = rate_at(fields, 6)?;
+    let coupon = rate_at(fields, 7)?;
     match (coupon, index) {
-        (Some(rate), _) => fixed_coupons(alloc, fields, span, notional, rate, out),
-        (None, Some(index)) => float_coupons(alloc, earlier, fields, span, notional, index, out),
+        (Some(rate), _) => fixed_coupons(alloc, fields, span, lag, notional, rate, out),
+        (None, Some(index)) => float_coupons(
+            alloc, earlier, fields, span, lag, notional, index, out,
+        ),
         (None, None) => no_coupons(span, out),
     }
 }
 
-/// A bond (QuantLib's `FixedRateBond`, `FloatingRateBond` and `ZeroCouponBond`): its coupons, and then its redemption.
+/// A bond (QuantLib's `FixedRateBond`, `FloatingRateBond` and `ZeroCouponBond`): its coupons, and then its redemption,
+/// each paid its payment lag after it is due.
 /// `Plan` where its schedule is refused or, without coupons, its start is not before its end; then `Range` where a day
 /// of its flows leaves the range; then `Flows`.
 pub fn bond(
@@ -137,9 +145,18 @@ pub fn bond(
         Err(fault) => return Err(fault),
     };
     let engine = object_at(fields, 5)?;
-    let index = object_at(fields, 7)?;
+    let lag = lag_at(fields, 6)?;
+    let index = object_at(fields, 8)?;
     let mut flows = FlowTermList::new(alloc);
-    push_coupons(alloc, earlier, fields, &span, notional, index, &mut flows)?;
-    push_redemption(span.cal, span.end, notional.signed(Sign::Plus), &mut flows)?;
+    push_coupons(
+        alloc, earlier, fields, &span, lag, notional, index, &mut flows,
+    )?;
+    push_redemption(
+        span.cal,
+        span.end,
+        lag,
+        notional.signed(Sign::Plus),
+        &mut flows,
+    )?;
     instrument_of(flows, index, engine)
 }

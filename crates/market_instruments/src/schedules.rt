@@ -40,7 +40,7 @@ pub(crate) fn span_of(fields: &[Option<Field>], at: usize) -> Result<Span<'_>, T
 
 // The rules at a position and behind it, each with its default.
 pub(crate) fn rules_of(fields: &[Option<Field>], at: usize) -> Result<Rules, TableFault>
-    requires { at ≤ 10 }
+    requires { at ≤ 11 }
     ensures { Says (λ rules. rules) result (rules_of fields.now at) }
 {
     let rule = rule_at(fields, at)?.unwrap_or(Rule::Backward);

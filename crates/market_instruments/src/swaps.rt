@@ -7,7 +7,7 @@ ghost use Rattle.market_fields.specs.Earlier.{seen};
 ghost use Rattle.market_instruments.specs.Appended.{StayWithin};
 ghost use Rattle.market_instruments.specs.Swaps.{fixed_side, float_side, swap_of};
 
-use crate::appended::{push_fixed, push_float};
+use crate::appended::{lag_at, push_fixed, push_float};
 use crate::limits::instrument_of;
 use crate::schedules::{dates_of, rules_of, span_of};
 use desk_names::ObjId;
@@ -24,19 +24,20 @@ use std::alloc::Global;
 fn push_fixed_side(
     fields: &[Option<Field>],
     cal: &Calendar,
+    lag: u8,
     schedule: &Schedule,
     out: &mut FlowTermList,
 ) -> Result<(), TableFault>
-    ensures flows { Gives (λ _. out.new) result (fixed_side fields.now cal.now schedule.now out.old) }
-    ensures told { Refuses result (fixed_side fields.now cal.now schedule.now out.old) }
+    ensures flows { Gives (λ _. out.new) result (fixed_side fields.now cal.now lag schedule.now out.old) }
+    ensures told { Refuses result (fixed_side fields.now cal.now lag schedule.now out.old) }
     ensures range { (index : Option ℕ) → StayWithin index out.old out.new }
 {
     let notional = must(notional_at(fields, 1)?)?;
     let sign = must(sign_at(fields, 2)?)?;
-    let rate = must(rate_at(fields, 11)?)?;
-    let counter = must(counter_at(fields, 13)?)?;
+    let rate = must(rate_at(fields, 12)?)?;
+    let counter = must(counter_at(fields, 14)?)?;
     let notional = notional.signed(sign);
-    push_fixed(schedule, cal, notional, rate.rate(), counter, out)
+    push_fixed(schedule, cal, lag, notional, rate.rate(), counter, out)
 }
 
 // Appends the floating leg of a swap, negative where the fixed one is received; refused whatever the memory.
@@ -44,25 +45,36 @@ fn push_float_side(
     earlier: Earlier<'_>,
     fields: &[Option<Field>],
     cal: &Calendar,
+    lag: u8,
     schedule: &Schedule,
     index: Option<ObjId>,
     out: &mut FlowTermList,
 ) -> Result<(), TableFault>
-    ensures flows { Gives (λ _. out.new) result (float_side (seen earlier.entry) fields.now cal.now schedule.now index out.old) }
-    ensures told { Refuses result (float_side (seen earlier.entry) fields.now cal.now schedule.now index out.old) }
+    ensures flows { Gives (λ _. out.new) result (float_side (seen earlier.entry) fields.now cal.now lag schedule.now index out.old) }
+    ensures told { Refuses result (float_side (seen earlier.entry) fields.now cal.now lag schedule.now index out.old) }
     ensures range { StayWithin index out.old out.new }
 {
     let notional = must(notional_at(fields, 1)?)?;
     let sign = must(sign_at(fields, 2)?)?;
     let index = must(index)?;
-    let spread = rate_at(fields, 15)?.unwrap_or(TermRate::zero());
-    let counter = must(counter_at(fields, 17)?)?;
+    let spread = rate_at(fields, 16)?.unwrap_or(TermRate::zero());
+    let counter = must(counter_at(fields, 18)?)?;
     let terms = earlier.index_terms(index)?;
     let notional = notional.signed(sign.opposite());
-    push_float(schedule, cal, notional, spread.rate(), counter, terms, out)
+    push_float(
+        schedule,
+        cal,
+        lag,
+        notional,
+        spread.rate(),
+        counter,
+        terms,
+        out,
+    )
 }
 
-/// A swap (QuantLib's `VanillaSwap`): its fixed leg, and then its floating leg. `Plan` where one of its schedules is
+/// A swap (QuantLib's `VanillaSwap`): its fixed leg, and then its floating leg, paid the payment lag after
+/// their periods. `Plan` where one of its schedules is
 /// refused; then `Range` where a day of its flows leaves the range; then `Flows`.
 pub fn swap(
     alloc: Global,
@@ -77,14 +89,23 @@ pub fn swap(
         Err(fault) => return Err(fault),
     };
     let engine = object_at(fields, 6)?;
-    let rules = rules_of(fields, 7)?;
-    let fixed_every = must(tenor_at(fields, 12)?)?;
-    let index = object_at(fields, 14)?;
-    let float_every = must(tenor_at(fields, 16)?)?;
+    let lag = lag_at(fields, 7)?;
+    let rules = rules_of(fields, 8)?;
+    let fixed_every = must(tenor_at(fields, 13)?)?;
+    let index = object_at(fields, 15)?;
+    let float_every = must(tenor_at(fields, 17)?)?;
     let fixed_dates = dates_of(alloc, &span, rules, fixed_every, None, None)?;
     let float_dates = dates_of(alloc, &span, rules, float_every, None, None)?;
     let mut flows = FlowTermList::new(alloc);
-    push_fixed_side(fields, span.cal, &fixed_dates, &mut flows)?;
-    push_float_side(earlier, fields, span.cal, &float_dates, index, &mut flows)?;
+    push_fixed_side(fields, span.cal, lag, &fixed_dates, &mut flows)?;
+    push_float_side(
+        earlier,
+        fields,
+        span.cal,
+        lag,
+        &float_dates,
+        index,
+        &mut flows,
+    )?;
     instrument_of(flows, index, engine)
 }

@@ -1,7 +1,6 @@
 -- Each field of an object is that of its key: rows, where a table says at each word what it says.
 use Rattle.std.proofs.Common.{◌≡◌, refl, map, ℕ, List, [], Option, Result, Ok, true, false}
 use Rattle.std.specs.Prelude.{codes, unwrap_or}
-use Rattle.curve_terms.specs.declared.terms.CurveStart.TheVariants.{Moving}
 use Rattle.desk_terms.specs.declared.terms.Terms.{Terms}
 use Rattle.desk_terms.specs.declared.terms.Terms.TheVariants as terms
 use Rattle.market_tables.specs.declared.fault.MarketKind.{MarketKind}
@@ -16,7 +15,7 @@ use Rattle.market_fields.specs.Field.{must, name_in, object_in, named_in, target
 use Rattle.market_instruments.specs.Bonds.{bond_of}
 use Rattle.market_instruments.specs.Swaps.{swap_of}
 use Rattle.market_instruments.specs.Forwards.{forward_of}
-use Rattle.market_objects.specs.Making.{linked, or_no_parts, entry_made}
+use Rattle.market_objects.specs.Making.{linked, start_of, or_no_parts, entry_made}
 
 -- the fields of a table by what is said at the words of its keys
 abbrev saying : {W P F : Type 0} → List (Key W P) → (List ℕ → Option F) → List (Option F)
@@ -46,9 +45,10 @@ module _ (said : List ℕ → Option Field) (e : Earlier) where
   handle_by_keys = refl
 
   pub curve_by_keys : made kind.Curve
-      ≡ named (must (count_in (said (codes "settlement"))) >>= (λ settlement. must (calendar_in (said (codes "calendar"))) >>= (λ cal.
+      ≡ named (count_in (said (codes "settlement")) >>= (λ settlement. day_in (said (codes "reference")) >>= (λ reference.
+      start_of settlement reference >>= (λ start. must (calendar_in (said (codes "calendar"))) >>= (λ cal.
       must (helpers_in (said (codes "helpers"))) >>= (λ helpers.
-      Ok (terms.Curve (record { cal = cal; start = Moving settlement; helpers = helpers }))))))
+      Ok (terms.Curve (record { cal = cal; start = start; helpers = helpers }))))))))
   curve_by_keys = refl
 
   pub implied_by_keys : made kind.Implied

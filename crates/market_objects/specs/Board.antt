@@ -10,6 +10,7 @@ use Rattle.flow_terms.specs.Ranges.{AreFlowsInRange}
 use Rattle.market_tables.specs.declared.fault.MarketKind.{MarketKind}
 use Rattle.market_tables.specs.declared.fault.MarketKind.TheVariants as fault
 use Rattle.market_calendars.specs.Calendars.{Calendars}
+use Rattle.market_fields.specs.declared.version.Version.{Version}
 use Rattle.market_fields.specs.Earlier.{Earlier}
 
 -- the flows of terms that have some are within their limits
@@ -29,9 +30,10 @@ HasFlowsInRange (Flows flows engine) = AreFlowsInRange flows
 abbrev pub HaveFlowsInRange : List (ℕ × Terms) → Type 0
 HaveFlowsInRange made = All (λ entry. HasFlowsInRange entry.1) made
 
--- `today` alone, over some calendars
-abbrev pub started : Calendars → Earlier
-started calendars = record { names = codes "today" ∷ []; kinds = Today ∷ []; made = []; calendars = calendars }
+-- `today` alone, in a version and over some calendars
+abbrev pub started : Version → Calendars → Earlier
+started version calendars =
+    record { names = codes "today" ∷ []; kinds = Today ∷ []; made = []; calendars = calendars; version = version }
 
 -- the objects with one more, up to 4,096 with `today` (this project's profile)
 abbrev pub added : Earlier → List ℕ → Terms → Result Earlier MarketKind
@@ -42,4 +44,5 @@ added e name t =
       kinds = e.kinds ++ kind_of t ∷ [];
       made = e.made ++ (place_of e.names name, t) ∷ [];
       calendars = e.calendars;
+      version = e.version;
     })

@@ -1,6 +1,7 @@
 -- What the fields of an object's table make.
 use Rattle.std.specs.Prelude.{ℕ, Bool, true, false, nat_lt, length, unwrap_or, if◌then◌else◌, List, [], Option, Some, None, Result, Ok, Err}
-use Rattle.curve_terms.specs.declared.terms.CurveStart.TheVariants.{Moving}
+use Rattle.curve_terms.specs.declared.terms.CurveStart.{CurveStart}
+use Rattle.curve_terms.specs.declared.terms.CurveStart.TheVariants.{Moving, Fixed}
 use Rattle.desk_terms.specs.declared.kind.Wanted as wanted
 use Rattle.desk_terms.specs.declared.terms.HandleKind as handle
 use Rattle.desk_terms.specs.declared.terms.Part.{Part}
@@ -42,12 +43,20 @@ linked target_kind (Some named) =
 abbrev pub handle_of : List (Option Field) → Result Terms MarketKind
 handle_of fs = must (target_in (field_in fs 1)) >>= (λ target_kind. named_in (field_in fs 2) >>= linked target_kind)
 
+-- the start of a curve: its settlement days or its reference day, and not both
+abbrev pub start_of : Option ℕ → Option ℤ → Result CurveStart MarketKind
+start_of (Some settlement) None = Ok (Moving settlement)
+start_of None (Some reference) = Ok (Fixed reference)
+start_of (Some settlement) (Some reference) = Err fault.Key
+start_of None None = Err fault.Key
+
 -- a curve that is built from its helpers (QuantLib's PiecewiseYieldCurve)
 abbrev pub curve_of : List (Option Field) → Result Terms MarketKind
 curve_of fs =
-    must (count_in (field_in fs 2)) >>= (λ settlement. must (calendar_in (field_in fs 1)) >>= (λ cal.
-    must (helpers_in (field_in fs 3)) >>= (λ helpers.
-    Ok (terms.Curve (record { cal = cal; start = Moving settlement; helpers = helpers })))))
+    count_in (field_in fs 2) >>= (λ settlement. day_in (field_in fs 3) >>= (λ reference.
+    start_of settlement reference >>= (λ start. must (calendar_in (field_in fs 1)) >>= (λ cal.
+    must (helpers_in (field_in fs 4)) >>= (λ helpers.
+    Ok (terms.Curve (record { cal = cal; start = start; helpers = helpers })))))))
 
 -- a curve seen from a later day (QuantLib's ImpliedTermStructure)
 abbrev pub implied_of : List (Option Field) → Result Terms MarketKind

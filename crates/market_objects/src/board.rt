@@ -11,7 +11,7 @@ use desk_names::{NameFault, NameId, Names, ObjId};
 use desk_terms::{Kind, Terms};
 use fixed_amount::Rate;
 use market_calendars::Calendars;
-use market_fields::Earlier;
+use market_fields::{Earlier, Version};
 use market_tables::{MarketKind, TableFault};
 use std::alloc::Global;
 use std::marker::Model;
@@ -22,13 +22,14 @@ const MOST_OBJECTS: usize = 4096;
 /// The objects of a market but `today`, in order of creation, each with its name and its terms.
 pub type MadeList = Vec<(NameId, Terms)>;
 
-/// The names, the kinds and the terms of the objects so far, and the calendars.
+/// The names, the kinds and the terms of the objects so far, the calendars, and the version of the format.
 #[derive(Drop)]
 pub struct Board {
     names: Names,
     kinds: Vec<Kind>,
     made: MadeList,
     calendars: Calendars,
+    version: Version,
     alloc: Global,
 }
 
@@ -39,7 +40,7 @@ impl Model for Board {
 
     ghost Value = { Earlier };
 
-    ghost view = { λ b. record { names = b.names; kinds = b.kinds.items; made = b.made.items; calendars = b.calendars } };
+    ghost view = { λ b. record { names = b.names; kinds = b.kinds.items; made = b.made.items; calendars = b.calendars; version = b.version } };
 
     ghost invariant = { λ b. (length b.names ≤ length b.kinds.items) × (length b.kinds.items ≤ 4096) × HaveFlowsInRange b.made.items };
 }
@@ -72,9 +73,9 @@ impl Board {
     ghost use Rattle.market_objects.specs.Board.{started, added, HasFlowsInRange, HaveFlowsInRange};
     ghost use Rattle.market_objects.specs.Fixings.{with_fixing_of};
 
-    /// `today` alone, over some calendars.
-    pub fn start(alloc: Global, calendars: Calendars) -> Result<Board, TableFault>
-        ensures { Gives (λ board. board) result (Ok (started calendars)) }
+    /// `today` alone, in a version of the format and over some calendars.
+    pub fn start(alloc: Global, version: Version, calendars: Calendars) -> Result<Board, TableFault>
+        ensures { Gives (λ board. board) result (Ok (started version calendars)) }
     {
         let mut names = Names::new(alloc);
         number_of(&mut names, b"today")?;
@@ -86,6 +87,7 @@ impl Board {
             kinds,
             made,
             calendars,
+            version,
             alloc,
         })
     }
@@ -104,6 +106,7 @@ impl Board {
             kinds: self.kinds.as_slice(),
             made: self.made.as_slice(),
             calendars: &self.calendars,
+            version: self.version,
         }
     }
 

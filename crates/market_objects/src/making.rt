@@ -3,8 +3,9 @@ ghost use Rattle.std.specs.Prelude.{◌≡◌, Option, IfOk};
 ghost use Rattle.market_tables.specs.Given.{Gives, Says};
 ghost use Rattle.market_fields.specs.Earlier.{seen};
 ghost use Rattle.market_objects.specs.Board.{HasFlowsInRange};
-ghost use Rattle.market_objects.specs.Making.{derived_of, target_wanted, linked, handle_of, curve_of, implied_of, index_of, engine_of, stock_of, composite_of, parts_of, terms_of, entry_made};
+ghost use Rattle.market_objects.specs.Making.{derived_of, target_wanted, linked, handle_of, start_of, curve_of, implied_of, index_of, engine_of, stock_of, composite_of, parts_of, terms_of, entry_made};
 
+use day_number::Day;
 use desk_terms::{
     CurveStart, CurveTerms, Fixings, HandleKind, IndexTerms, PartList, Terms, Wanted,
 };
@@ -72,18 +73,31 @@ fn handle_of(fields: &[Option<Field>]) -> Result<Terms, TableFault>
     linked(target_kind, named_at(fields, 2)?)
 }
 
+// The start of a curve: its settlement days or its reference day, and `Key` where it has both or neither.
+fn start_of(settlement: Option<u8>, reference: Option<Day>) -> Result<CurveStart, TableFault>
+    ensures { Says (λ start. start) result (start_of settlement reference) }
+{
+    match (settlement, reference) {
+        (Some(settlement), None) => Ok(CurveStart::Moving(settlement)),
+        (None, Some(reference)) => Ok(CurveStart::Fixed(reference)),
+        (Some(_), Some(_)) | (None, None) => Err(TableFault::Kind(MarketKind::Key)),
+    }
+}
+
 // A curve; it takes its calendar and its helpers out of the fields.
 #[tactic(auto, using(market_tables::proofs::FieldPlaces::other))]
 fn curve_of(fields: &mut Vec<Option<Field>>) -> Result<Terms, TableFault>
     ensures terms { Says (λ terms. terms) result (curve_of fields.old.items) }
     ensures range { IfOk result HasFlowsInRange }
 {
-    let settlement = must(count_at(fields, 2)?)?;
+    let settlement = count_at(fields, 2)?;
+    let reference = day_at(fields, 3)?;
+    let start = start_of(settlement, reference)?;
     let cal = must(calendar_in(take_field(fields, 1))?)?;
-    let helpers = must(helpers_in(take_field(fields, 3))?)?;
+    let helpers = must(helpers_in(take_field(fields, 4))?)?;
     Ok(Terms::Curve(CurveTerms {
         cal,
-        start: CurveStart::Moving(settlement),
+        start,
         helpers,
     }))
 }

@@ -83,7 +83,9 @@ fn entry_in(
     ensures range { IfOk result (λ entry. HasFlowsInRange entry.1) }
 {
     let reader = ObjectReader { alloc, earlier };
-    let (kind, fields) = entry_of(alloc, &reader, table_in(value)?)?;
+    let table = table_in(value)?;
+    earlier.version.test(table)?;
+    let (kind, fields) = entry_of(alloc, &reader, table)?;
     entry_made(alloc, earlier, kind, fields)
 }
 

@@ -13,6 +13,6 @@ returns-clause-told c = rw c.ranged.ensures.fault (refused_leg _ _ _ c.fixed_leg
 pub returns-clause-range : goal.returns-clause-range
 returns-clause-range c =
     let business = is_business_day c.args.cal.now in
-    let flow = fixed_flow business 0 c.args.notional c.args.rate c.args.counter in
-    let known = fixed_known business 0 c.args.notional c.args.rate c.args.counter in
+    let flow = fixed_flow business c.args.lag c.args.notional c.args.rate c.args.counter in
+    let known = fixed_known business c.args.lag c.args.notional c.args.rate c.args.counter in
     stay_known _ _ _ _ (each_known flow known c.args.schedule.now) c.fixed_leg.ensures.flows c.fixed_leg.ensures.range

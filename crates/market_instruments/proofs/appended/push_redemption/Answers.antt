@@ -11,5 +11,5 @@ returns-clause-told c = rw c.ranged.ensures.fault (refused _ _ _ c.redemption.en
 
 pub returns-clause-range : goal.returns-clause-range
 returns-clause-range c =
-    let known = redemption_known (is_business_day c.args.cal.now) 0 c.args.end c.args.notional in
+    let known = redemption_known (is_business_day c.args.cal.now) c.args.lag c.args.end c.args.notional in
     stay_known _ _ _ _ known c.redemption.ensures.flows c.redemption.ensures.range

@@ -13,43 +13,53 @@ use market_file::{market_paths, read_market};
 use std::alloc::{AllocError, Global};
 use std::{fs, io};
 
-// A file of cases for each section of a market, and one of files that are too long.
+// A file of cases for each section of a market, one of files that are too long, and one of the versions. Markets that
+// have no key of version 2 are read in both versions.
 fn main(rt: HostRuntime) -> io::Result<()> {
-    compare(&rt, "top")?;
-    compare(&rt, "lengths")?;
-    compare(&rt, "calendars")?;
-    compare(&rt, "quotes")?;
-    compare(&rt, "objects")?;
-    compare(&rt, "curves")?;
-    compare(&rt, "instruments")?;
-    compare(&rt, "fixings")?;
+    compare(&rt, "top", false)?;
+    compare(&rt, "lengths", false)?;
+    compare_both(&rt, "calendars")?;
+    compare_both(&rt, "quotes")?;
+    compare_both(&rt, "objects")?;
+    compare_both(&rt, "curves")?;
+    compare_both(&rt, "instruments")?;
+    compare_both(&rt, "fixings")?;
+    compare(&rt, "versions", false)?;
     compare_cuts(&rt)
 }
 
-// Compares the cases of a file and prints how many agree. A line `==` stands between two cases. A case has a line that
-// says what it shows, and then, each behind a line `--`, the quotes, the fixings and what is answered.
-fn compare(rt: &HostRuntime, file: &str) -> io::Result<()> {
+// Compares the cases of a file as they are and in version 2.
+fn compare_both(rt: &HostRuntime, file: &str) -> io::Result<()> {
+    compare(rt, file, false)?;
+    compare(rt, file, true)
+}
+
+// Compares the cases of a file, in version 2 if that is asked for, and prints how many agree. A line `==` stands between two
+// cases. A case has a line that says what it shows, and then, each behind a line `--`, the quotes, the fixings and what is
+// answered.
+fn compare(rt: &HostRuntime, file: &str, later: bool) -> io::Result<()> {
     let text = fs::read_to_string(rt, file)?;
     let mut agree = 0u32;
     let mut differ = 0u32;
     for case in text.split("==\n") {
-        if agrees(rt, case)? {
+        if agrees(rt, case, later)? {
             agree = agree.saturating_add(1);
         } else {
             differ = differ.saturating_add(1);
         }
     }
-    println!(rt; "{file}: {agree} agree, {differ} differ")
+    let version = if later { " in version 2" } else { "" };
+    println!(rt; "{file}{version}: {agree} agree, {differ} differ")
 }
 
 // Whether the case's market is answered as the case says; prints what it shows and what was answered where it is not.
-fn agrees(rt: &HostRuntime, case: &str) -> io::Result<bool> {
+fn agrees(rt: &HostRuntime, case: &str, later: bool) -> io::Result<bool> {
     let (title, case) = parted(case, "\n");
     let (market, case) = parted(case, "--\n");
     let (quotes, case) = parted(case, "--\n");
     let (fixings, answer) = parted(case, "--\n");
     let alloc = rt.alloc();
-    let market = decoded(alloc, market)?;
+    let market = decoded(alloc, &in_version(alloc, market, later)?)?;
     let quotes = decoded(alloc, quotes)?;
     let fixings = decoded(alloc, fixings)?;
     let said = answered(alloc, &market, &quotes, &fixings)?;
@@ -59,6 +69,15 @@ fn agrees(rt: &HostRuntime, case: &str) -> io::Result<bool> {
     let said = std::str::from_utf8(&said).unwrap_or("no text");
     println!(rt; "{title}: this differs: {said}")?;
     Ok(false)
+}
+
+// A market of version 1 as it is, or as one of version 2.
+fn in_version(alloc: Global, market: &str, later: bool) -> Result<String, AllocError> {
+    let (before, behind) = parted(market, "version = 1\n");
+    if later {
+        return format!(in alloc; "{before}version = 2\n{behind}");
+    }
+    String::from_str(alloc, market)
 }
 
 // The text before a mark and the text behind it, which is empty where the mark is not there.

@@ -28,6 +28,8 @@ const ROOM: usize = 250_000;
 // and words. `freezing` has scripts with freezing, recalculation and notices that are held back, `deferral` those that
 // relink and drop under deferral, and `frozen_markets` the same over markets. `month_ends` has markets whose curves
 // start at a month's end, with spreads, ends on holidays and end conventions, that ask for every object on two days.
+// `version_two` has markets of version 2, with payment lags and curves that start on days of their own, many of which are
+// holidays, and scripts that move the evaluation date over them.
 // `words` has lists of words, `loads` loads and words that are none, `rounds` rows of rounds, some of which write a line
 // in each run, `watchers` a thousand scripts with watchers and `watched_markets` the same over markets, each of these in
 // five orders, `hostile` sessions that work against themselves, `hostile_files` tables that are taken apart, and `large`
@@ -48,6 +50,7 @@ fn main(rt: HostRuntime) -> io::Result<()> {
     compare(&rt, "deferral")?;
     compare(&rt, "frozen_markets")?;
     compare(&rt, "month_ends")?;
+    compare(&rt, "version_two")?;
     compare(&rt, "words")?;
     compare(&rt, "loads")?;
     compare(&rt, "rounds")?;

@@ -1,5 +1,5 @@
 -- What the fields of an object's table make.
-use Rattle.std.specs.Prelude.{ℕ, Bool, true, false, nat_lt, length, unwrap_or, if◌then◌else◌, List, [], Option, Some, None, Result, Ok, Err}
+use Rattle.std.specs.Prelude.{ℕ, ℤ, Bool, true, false, nat_lt, length, unwrap_or, if◌then◌else◌, List, [], Option, Some, None, Result, Ok, Err}
 use Rattle.curve_terms.specs.declared.terms.CurveStart.{CurveStart}
 use Rattle.curve_terms.specs.declared.terms.CurveStart.TheVariants.{Moving, Fixed}
 use Rattle.desk_terms.specs.declared.kind.Wanted as wanted

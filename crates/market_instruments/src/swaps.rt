@@ -73,9 +73,9 @@ fn push_float_side(
     )
 }
 
-/// A swap (QuantLib's `VanillaSwap`): its fixed leg, and then its floating leg, paid the payment lag after
-/// their periods. `Plan` where one of its schedules is
-/// refused; then `Range` where a day of its flows leaves the range; then `Flows`.
+/// A swap (QuantLib's `VanillaSwap`): its fixed leg, and then its floating leg, each flow paid its payment lag after its
+/// period. `Plan` where one of its schedules is refused; then `Range` where a day of its flows leaves the range; then
+/// `Flows`.
 pub fn swap(
     alloc: Global,
     earlier: Earlier<'_>,

@@ -1,5 +1,6 @@
 use Rattle.std.proofs.Common.{◌≡◌, Result, sym, ◌∙◌, ap, subst}
 use Rattle.std.specs.Prelude.{IfOk}
+use Rattle.desk_model.specs.Sound.{IsSound}
 use Rattle.session_commands.specs.declared.refusal.Refusal.{Refusal}
 use Rattle.session_model.specs.declared.act.Act.{Act}
 use Rattle.session_model.specs.Standing.{Standing}
@@ -31,3 +32,7 @@ pub returns-in-Err-clause-turns : goal.returns-in-Err-clause-turns
 returns-in-Err-clause-turns c = λ calc.
     c.resolve.ensures.same
     ∙ refusal_turns calc c.args.self.now c.args.command.now c.in-Err.refusal (sym c.resolve.ensures.act ∙ c.in-Err.is)
+
+pub returns-in-Ok-clause-sound : goal.returns-in-Ok-clause-sound
+returns-in-Ok-clause-sound c = λ calc sound.
+    c.carry_change.ensures.sound calc (subst (λ (p : Standing). IsSound calc p.state) (sym c.resolve.ensures.same) sound)

@@ -5,7 +5,7 @@ ghost use Rattle.desk_terms.specs.Reading.{Calc, AreInRange, IsFitting};
 ghost use Rattle.desk_model.specs.Market.{kind_at, terms_at, slot_at, is_given, is_watcher, is_observable, least_user};
 ghost use Rattle.desk_model.specs.Told.{is_registered, is_watching};
 ghost use Rattle.desk_model.specs.Uses.{index_at, fixings_in};
-ghost use Rattle.desk_model.specs.State.{kept_at, held, is_frozen, is_late, least_source};
+ghost use Rattle.desk_model.specs.State.{kept_at, held, is_frozen, is_late, is_source, least_source};
 ghost use Rattle.desk_model.specs.Sound.{IsSound, KeepsCurrent};
 ghost use Rattle.desk_model.specs.Links.{AreOfKind, AreRanged, IsKinded, IsWhole, Serve, is_lazy_at, reaches, serves_as};
 ghost use Rattle.desk_model.specs.Effect.{start, made, quote_set, relinked, engine_set, member_set, fixing_added, today_set, dropped, watching, registered_with, unregistered, handed_out, frozen_set, thawed, forward_set, deferred, resumed};
@@ -20,6 +20,7 @@ ghost use Rattle.desk_terms.specs.declared.terms.Terms.TheVariants as terms_of;
 ghost use Rattle.desk_terms.specs.declared.terms.Part.{Part};
 ghost use Rattle.desk_model.specs.Laws.{MayLink};
 ghost use Rattle.object_store.specs.Slots.{is_handle};
+ghost use Rattle.object_store.specs.Objects.{bare};
 ghost use Rattle.object_store.specs.Parts.{parts_in};
 ghost use Rattle.desk_model.specs.Held.{weight_of, with_member};
 ghost use Rattle.ask_walk.specs.Asks.{Asks, Stops, AnswersIdly, held_answer};
@@ -508,6 +509,20 @@ impl Desk {
         self.store.is_current(object)
     }
 
+    /// Whether an object is frozen.
+    pub fn is_frozen(&self, object: ObjId) -> bool
+        ensures { result ≡ is_frozen self.now object }
+    {
+        self.store.is_frozen(object)
+    }
+
+    /// Whether an object is a deferred source: it changed while notices are held back, and has told nobody yet.
+    pub fn is_source(&self, object: ObjId) -> bool
+        ensures { result ≡ is_source self.now object }
+    {
+        self.store.is_source(object)
+    }
+
     /// Does nothing: what is known of the shape of every desk: each object names others of the right kinds, and its terms
     /// are in range.
     pub fn shape(&self)
@@ -548,5 +563,13 @@ impl Desk {
         ensures { result ≡ kind_at self.now.market object }
     {
         self.objects.kind(object)
+    }
+
+    /// The terms of an object as they stand, with its links, members and fixings: those of a quote without its value, which
+    /// `quote` tells. None where no live object has the number, and of a watcher.
+    pub fn terms(&self, object: ObjId) -> Option<&Terms>
+        ensures { option_copied result ≡ bare (terms_at self.now.market object) }
+    {
+        self.objects.terms(object)
     }
 }

@@ -35,7 +35,7 @@ module _ (graph : GraphView) (lasts : List (Option Value)) (on : Bool) (fits : F
       by_node None e = refl
       by_node (Some node) e = absurd (false≢true (sym e))
 
-  source_node : (y : ℕ) → (stored_at view y).source ≡ is_source graph y
+  pub source_node : (y : ℕ) → (stored_at view y).source ≡ is_source graph y
   source_node y = ap (λ (k : Kept). k.source) (kept_at_node graph lasts fits y)
 
   held_node : (y : ℕ) → holds_back view y ≡ graphs.is_held_back graph y

@@ -283,6 +283,13 @@ impl Store {
         self.deferral.as_graph().flags(object).frozen
     }
 
+    /// Whether an object holds its notice back.
+    pub fn is_source(&self, object: ObjId) -> bool
+        ensures { result ≡ (slice_index_or self.now.kept object unpriced).source }
+    {
+        self.deferral.as_graph().is_source(object)
+    }
+
     /// Whether an object answers its last value where another needs it.
     pub fn is_at_hand(&self, object: ObjId) -> bool
         ensures { result ≡ is_at_hand self.now.kept object }

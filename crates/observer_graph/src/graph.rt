@@ -2,7 +2,7 @@
 ghost use Rattle.std.specs.Prelude.{◌≡◌, ◌↔◌, ◌<◌, ◌≤◌, ◌+◌, ℕ, [], ◌∷◌, length, max, IsTrue, IfOk, IfSome, IfNone, OnOk, OnErr, is_some, if◌then◌else◌};
 ghost use Rattle.walks.specs.Walk.{Among};
 ghost use Rattle.observer_graph.specs.declared.node.Role.TheVariants.{Lazy};
-ghost use Rattle.observer_graph.specs.GraphView.{IsLive, IsLazy, IsPair, IsWhole, node_at, flags_at};
+ghost use Rattle.observer_graph.specs.GraphView.{IsLive, IsLazy, IsPair, IsWhole, node_at, flags_at, is_source};
 ghost use Rattle.observer_graph.specs.Notice.{IsLeast, IsUser, Reaches, Tells, with_stale};
 ghost use Rattle.observer_graph.specs.Late.{IsClear, IsLateOf};
 ghost use Rattle.observer_graph.specs.Noticed.{IsRising};
@@ -296,6 +296,16 @@ impl Graph {
         ensures { self.new ≡ with_source node self.old }
     {
         self.sources.insert(node);
+    }
+
+    /// Whether the next notice starts from a node; from none that does not live.
+    pub fn is_source(&self, node: ObjId) -> bool
+        ensures { result ≡ is_source self.now node }
+    {
+        if node.place() >= self.nodes.len() {
+            return false;
+        }
+        self.sources.contains(node)
     }
 
     /// The next notice does not start from this node. Takes no memory, and time in proportion to the sources.

@@ -176,6 +176,13 @@ impl Session {
         self.desk.shape();
     }
 
+    /// Its objects, by number.
+    pub fn desk(&self) -> &Desk
+        ensures { result.now ≡ self.now.state }
+    {
+        &self.desk
+    }
+
     /// Its names.
     pub fn names(&self) -> &Names
         ensures { result.now ≡ self.now.names }

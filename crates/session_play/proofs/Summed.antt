@@ -9,10 +9,11 @@ use Rattle.session_model.specs.Course.{Running, Meaning, Course, round_of}
 use Rattle.session_rounds.specs.Goes.{Output, Does, Halts, Stays}
 use Rattle.session_model.specs.Rounds.{rounds, calls_in, calls_of, transcript}
 use Rattle.session_play.specs.Early.{Outside, outside, next_of, IsHalted}
-use Rattle.session_play.specs.Round.{StopsWithin}
+use Rattle.session_play.specs.Round.{IsCounted, StopsWithin}
 use Rattle.load_summary.specs.Summary.{Tally, tally_of, with_bytes}
-use Rattle.session_play.proofs.Played.{begun_with, played, stopped}
+use Rattle.session_play.proofs.Played.{begun_with}
 use Rattle.session_play.proofs.Progress.{Log, Progress, progress_none, progress_more, progress_next, progress_last, progress_bytes, progress_count, progress_log, progress_halted, calls_joined, calls_front, calls_long}
+use Rattle.session_play.proofs.Reported.{all_made}
 use Rattle.load_summary.proofs.Tallies.{tally_more}
 
 -- where a load stands that began at `first`: `rest` is left of its commands
@@ -40,6 +41,35 @@ halted_stops turns count0 log0 bytes new h =
       log = h.log ∙ ap (logged log0) (sym (calls_front turns h.whole h.ended some));
     }
 
+-- one round that was done, or in which memory ran out, and one behind which it did
+module _ {P : Type 0} (t : Course P) (count : ℕ) (log : Log) (out : Output) where
+  pub counted_done : (next : Running P) (kept tally : Tally) → Does P t next (begun_with count log) out
+      → tally ≡ with_bytes kept out.lines
+      → IsCounted t next kept tally (outside None count log) (outside None out.count out.log)
+  counted_done next kept tally does adds = record {
+    next = does.next;
+    lines = adds ∙ ap (λ (o : Output). with_bytes kept o.lines) does.out;
+    count = ap (λ (o : Output). o.count) does.out;
+    log = ap (λ (o : Output). o.log) does.out;
+  }
+
+  pub counted_halts : Halts P t (begun_with count log) out
+      → StopsWithin t.calls (outside None count log) (outside None out.count out.log)
+  counted_halts halts = record {
+    begun = halts.begun;
+    ended = halts.ended;
+    most = halts.most;
+    last = halts.last;
+    bytes = refl;
+    count = ap (λ (o : Output). o.count) halts.out;
+    log = ap (λ (o : Output). o.log) halts.out;
+  }
+
+  pub counted_all : (next : Running P) → Does P t next (begun_with count log) out
+      → StopsWithin t.calls (outside None count log) (outside None out.count out.log)
+  counted_all next does =
+      all_made t.calls count out.count log out.log (ap (λ (o : Output). o.count) does.out) (ap (λ (o : Output). o.log) does.out)
+
 module _ {P : Type 0} (m : Meaning P) (first : Running P) (commands : List Command) (count0 : ℕ) (log0 : Log) where
   pub summed_none : (tally : Tally) → tally ≡ tally_of [] → first.standing.stopped ≡ false → IsSound m.calc first.standing.state
       → Summed P m first commands commands first tally count0 log0 count0 log0
@@ -60,46 +90,41 @@ module _ {P : Type 0} (m : Meaning P) (first : Running P) (commands : List Comma
     progress = progress_next m first commands (outside (Some []) count0 log0) i command state (outside (Some s.text) count log) within is s.progress;
   }
 
-  module _ (command : Command) (rest : List Command) (state : Running P) (tally : Tally) (count : ℕ) (log : Log) (s : Summed P m first commands (command ∷ rest) state tally count0 log0 count log) (out : Output) where
+  module _ (command : Command) (rest : List Command) (state : Running P) (tally : Tally) (count : ℕ) (log : Log) (s : Summed P m first commands (command ∷ rest) state tally count0 log0 count log) (count2 : ℕ) (log2 : Log) where
     -- one round more
-    pub summed_more : (next : Running P) (tally2 : Tally) → Does P (round_of m state command) next (begun_with count log) out
-        → Stays m.calc state.standing next.standing → next.standing.stopped ≡ false → tally2 ≡ with_bytes tally out.lines
-        → Summed P m first commands rest next tally2 count0 log0 out.count out.log
-    summed_more next tally2 does stays running adds = record {
-      text = s.text ++ out.lines;
-      kept = adds ∙ (ap (λ (t : Tally). with_bytes t out.lines) s.kept ∙ tally_more s.text out.lines);
-      progress = progress_more m first commands (outside (Some []) count0 log0) command rest state next (outside (Some s.text) count log)
-          (outside (Some (s.text ++ out.lines)) out.count out.log) s.progress
-          (played (round_of m state command) (Some s.text) (Some (s.text ++ out.lines)) count log out next does refl)
-          does.next stays.names stays.actions running stays.sound;
-    }
+    pub summed_more : (next : Running P) (tally2 : Tally)
+        → IsCounted (round_of m state command) next tally tally2 (outside None count log) (outside None count2 log2)
+        → Stays m.calc state.standing next.standing → next.standing.stopped ≡ false
+        → Summed P m first commands rest next tally2 count0 log0 count2 log2
+    summed_more next tally2 counts stays running =
+        let t : Course P = round_of m state command in
+        record {
+          text = s.text ++ t.lines;
+          kept = counts.lines ∙ (ap (λ (k : Tally). with_bytes k t.lines) s.kept ∙ tally_more s.text t.lines);
+          progress = progress_more m first commands (outside (Some []) count0 log0) command rest state next
+              (outside (Some s.text) count log) (outside (Some (s.text ++ t.lines)) count2 log2) s.progress
+              (record { bytes = refl; count = counts.count; log = counts.log })
+              counts.next stays.names stays.actions running stays.sound;
+        }
 
-    -- memory runs out in it
-    pub summed_halted : Halts P (round_of m state command) (begun_with count log) out
-        → StopsWithin (calls_of m first commands) (outside None count0 log0) (outside None out.count out.log)
-    summed_halted halts =
-        halted_stops (rounds m first commands) count0 log0 (Some []) (outside (Some s.text) out.count out.log)
+    -- memory runs out in it, or behind it
+    pub summed_halted : StopsWithin (round_of m state command).calls (outside None count log) (outside None count2 log2)
+        → StopsWithin (calls_of m first commands) (outside None count0 log0) (outside None count2 log2)
+    summed_halted stops =
+        halted_stops (rounds m first commands) count0 log0 (Some []) (outside (Some s.text) count2 log2)
         (progress_halted m first commands (outside (Some []) count0 log0) command rest state (outside (Some s.text) count log)
-        (outside (Some s.text) out.count out.log) s.progress
-        (stopped (round_of m state command) (Some s.text) (Some s.text) count log out halts (0, omega arith, sym (appended-nil (Some s.text)))))
-
-  -- memory runs out between two rounds
-  pub summed_stops : (rest : List Command) (state : Running P) (tally : Tally) (count : ℕ) (log : Log)
-      → Summed P m first commands rest state tally count0 log0 count log
-      → StopsWithin (calls_of m first commands) (outside None count0 log0) (outside None count log)
-  summed_stops rest state tally count log s =
-      let p = s.progress in
-      let is : calls_of m first commands ≡ calls_in p.done ++ calls_in (rounds m state rest)
-      = ap calls_in p.whole ∙ calls_joined p.done (rounds m state rest) in
-      record {
-        begun = length (calls_in p.done);
-        ended = length (calls_in p.done);
-        most = omega (arith, ap (λ (l : List (ℕ × Bool)). length l) is, length-append (calls_in p.done) (calls_in (rounds m state rest)));
-        last = (omega arith, omega arith);
-        bytes = refl;
-        count = p.count;
-        log = p.log ∙ ap (logged log0) (sym (ap (λ (l : List (ℕ × Bool)). take (length (calls_in p.done)) l) is ∙ take-append_seam (calls_in p.done) (calls_in (rounds m state rest))));
-      }
+        (outside (Some s.text) count2 log2) s.progress
+        (record {
+          part = 0;
+          within = omega arith;
+          begun = stops.begun;
+          ended = stops.ended;
+          most = stops.most;
+          last = stops.last;
+          bytes = sym (appended-nil (Some s.text));
+          count = stops.count;
+          log = stops.log;
+        }))
 
   -- all is done
   pub summed_tally : (i : ℕ) (state : Running P) (tally : Tally) (count : ℕ) (log : Log) → length commands ≤ i

@@ -2,7 +2,8 @@
 use Rattle.std.specs.Prelude.{◌≡◌, ◌+◌, ◌<◌, ◌≤◌, ℕ, Bool, List, length, take, Result, Ok, Err}
 use Rattle.desk_edge.specs.Sink.{appended}
 use Rattle.desk_terms.specs.Bench.{counted, logged}
-use Rattle.session_model.specs.Course.{Course}
+use Rattle.session_model.specs.Course.{Running, Course}
+use Rattle.load_summary.specs.Summary.{Tally, with_bytes}
 use Rattle.desk_plan.specs.declared.status.Status.{Status}
 use Rattle.desk_plan.specs.declared.status.Status.TheVariants.{Done, Usage, Market, Script, ReadFault, WriteFault, NoMemory, Absent}
 use Rattle.session_play.specs.Early.{Outside}
@@ -53,3 +54,10 @@ pub record StopsWithin (calls : List (ℕ × Bool)) (old new : Outside) : Type 0
   pub bytes : new.bytes ≡ old.bytes
   pub count : new.count ≡ counted old.count begun
   pub log : new.log ≡ logged old.log (take ended calls)
+
+-- a round was done and its lines counted: the session and the tally after it, and its computations made
+pub record IsCounted {P : Type 0} (t : Course P) (session : Running P) (kept tally : Tally) (old new : Outside) : Type 0 where
+  pub next : session ≡ t.next
+  pub lines : tally ≡ with_bytes kept t.lines
+  pub count : new.count ≡ counted old.count (length t.calls)
+  pub log : new.log ≡ logged old.log t.calls

@@ -1,14 +1,16 @@
 // A load: its script is run, and what it writes is summed up.
-ghost use Rattle.std.specs.Prelude.{◌≡◌, false, None, length, All, IfOk, IfErr, OnOk, OnErr, IsErrOf};
+ghost use Rattle.std.specs.Prelude.{◌≡◌, ◌+◌, ◌≤◌, ◌^◌, false, None, length, All, IfOk, IfErr, OnOk, OnErr, IsErrOf};
 ghost use Rattle.desk_edge.specs.Count.{Rose};
 ghost use Rattle.desk_terms.specs.Bench.{counted, logged};
 ghost use Rattle.desk_model.specs.Sound.{IsSound};
 ghost use Rattle.session_model.specs.Standing.{IsKnown};
+ghost use Rattle.session_model.specs.Course.{round_of};
 ghost use Rattle.session_model.specs.Rounds.{transcript, calls_of};
+ghost use Rattle.session_rounds.specs.Goes.{Stays};
 ghost use Rattle.session_play.specs.Early.{outside, IsCut, IsHalted};
 ghost use Rattle.desk_plan.specs.Found.{CanRun, run_in};
 ghost use Rattle.desk_plan.specs.Verdict.{Load as LoadWanted};
-ghost use Rattle.session_play.specs.Round.{StopsWithin};
+ghost use Rattle.session_play.specs.Round.{IsCounted, StopsWithin};
 ghost use Rattle.session_play.specs.Written.{IsLate, Writes, ended};
 ghost use Rattle.load_summary.specs.Summary.{tally_of};
 ghost use Rattle.session_play.specs.Output.{output_in, computed_in, rounds_in};
@@ -75,9 +77,34 @@ fn tallied<P: Picker + Drop, B: Bench>(
     let mut tally = Tally::new(alloc);
     let mut lines = Vec::new(alloc);
     for command in commands {
-        lines.clear();
-        session.step(command, bench, &mut lines)?;
-        tally.add(&lines)?;
+        count_round(&mut session, command, &mut lines, &mut tally, bench)?;
     }
     Ok(tally)
+}
+
+// Does one round, and counts its lines. `lines` is room for them.
+fn count_round<P: Picker, B: Bench>(
+    session: &mut WatchedSession<P>,
+    command: &Command,
+    lines: &mut Vec<u8>,
+    tally: &mut Tally,
+    bench: &mut B,
+) -> Result<(), AllocError>
+    requires running { session.old.standing.stopped ≡ false }
+    requires known { IsKnown session.old.standing command.now }
+    requires sound { IsSound (B.calc bench.old) session.old.standing.state }
+    requires room { tally.old.bytes + 2 ^ 64 ≤ 2 ^ 128 }
+    ensures same { B.calc bench.new ≡ B.calc bench.old }
+    ensures done { OnOk result (IsCounted (round_of (record { calc = B.calc bench.old; at = P.at; after = P.after }) session.old command.now)
+        session.new tally.old tally.new (outside None (B.count bench.old) (B.log bench.old)) (outside None (B.count bench.new) (B.log bench.new))) }
+    ensures stays { OnOk result (Stays (B.calc bench.old) session.old.standing session.new.standing) }
+    ensures running { OnOk result (session.new.standing.stopped ≡ false) }
+    ensures stops { OnErr result (StopsWithin (round_of (record { calc = B.calc bench.old; at = P.at; after = P.after }) session.old command.now).calls
+        (outside None (B.count bench.old) (B.log bench.old)) (outside None (B.count bench.new) (B.log bench.new))) }
+    ensures more { OnOk result (tally.new.bytes ≤ tally.old.bytes + 2 ^ 64) }
+{
+    lines.clear();
+    session.step(command, bench, lines)?;
+    tally.add(lines)?;
+    Ok(())
 }

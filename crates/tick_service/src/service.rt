@@ -1,0 +1,85 @@
+// A session whose quiet commands are changes.
+use desk_bench::DeskBench;
+use desk_edge::FileShelf;
+use desk_names::Names;
+use desk_terms::Bench;
+use market_loader::load_market;
+use pricing_session::{ChangeFault, PricingSession};
+use session_commands::Command;
+use std::io::{Error, ErrorKind, Write};
+use std::{fs, io};
+use watch_rounds::Order;
+
+// Opens the session of a market and a script, and carries out the script's commands.
+pub(crate) fn serve(rt: &HostRuntime, market: &str, script: &str) -> io::Result<()> {
+    let alloc = rt.alloc();
+    let mut names = Names::new(alloc);
+    let Ok(market) = load_market(alloc, market, &mut FileShelf::new(rt.clone()?), &mut names) else {
+        return Err(Error::from(ErrorKind::InvalidData));
+    };
+    let text = fs::read(rt, script)?;
+    let bench = DeskBench::new();
+    match PricingSession::open(
+        alloc,
+        names,
+        market.today,
+        market.made,
+        &text,
+        Order::First,
+        bench,
+    ) {
+        Ok((mut session, commands)) => take_all(rt, &mut session, commands.items()),
+        Err(_) => Err(Error::from(ErrorKind::InvalidData)),
+    }
+}
+
+// Takes each command.
+fn take_all<B: Bench + Drop>(
+    rt: &HostRuntime,
+    session: &mut PricingSession<Order, B>,
+    commands: &[Command],
+) -> io::Result<()> {
+    for command in commands {
+        take(rt, session, command)?;
+    }
+    Ok(())
+}
+
+// Makes the change of a quiet command, and leaves each other one to a step.
+fn take<B: Bench + Drop>(
+    rt: &HostRuntime,
+    session: &mut PricingSession<Order, B>,
+    command: &Command,
+) -> io::Result<()> {
+    match session.change(command) {
+        Err(ChangeFault::NotQuiet) => answer(rt, session, command),
+        taken => println!(rt; "change {command:?}: {taken:?}"),
+    }
+}
+
+// Answers an ask from what is held, where that is the answer, and runs the round of all else.
+fn answer<B: Bench + Drop>(
+    rt: &HostRuntime,
+    session: &mut PricingSession<Order, B>,
+    command: &Command,
+) -> io::Result<()> {
+    if let Command::Ask(name) = command {
+        if let Some(asked) = session.ask_held(*name) {
+            let value = session.value(*name);
+            return println!(rt; "held {command:?}: {asked:?}, {value:?}");
+        }
+    }
+    step(rt, session, command)
+}
+
+// Runs the round of a command, and writes its lines.
+fn step<B: Bench + Drop>(
+    rt: &HostRuntime,
+    session: &mut PricingSession<Order, B>,
+    command: &Command,
+) -> io::Result<()> {
+    let mut lines = Vec::new(rt.alloc());
+    let done = session.step(command, &mut lines);
+    println!(rt; "step {command:?}: {done:?}")?;
+    io::writer(rt).write_all(&lines)
+}

@@ -13,10 +13,12 @@ use market_loader::load_market;
 use std::io;
 use std::io::{Error, ErrorKind};
 
-// The value that the first object, a quote, is moved to: 3, in units of 10^-9.
-const MOVED: i64 = 3_000_000_000;
+// The values that the first object, a quote, is moved to: 2 and 3, in units of 10^-9.
+const FIRST_MOVE: i64 = 2_000_000_000;
+const SECOND_MOVE: i64 = 3_000_000_000;
 
-// Makes the desk of a market, asks its last object, and writes what is held of it before and after a move of its first.
+// Makes the desk of a market, asks its last object, moves its first and asks again; then writes what is held of the last
+// before and after another move of the first.
 pub(crate) fn show(rt: &HostRuntime, market: &str) -> io::Result<()> {
     let alloc = rt.alloc();
     let mut names = Names::new(alloc);
@@ -26,14 +28,18 @@ pub(crate) fn show(rt: &HostRuntime, market: &str) -> io::Result<()> {
     let last = ObjId(names.len().saturating_sub(1));
     let mut desk = desk_of(alloc, market.today, market.made)?;
     ask(rt, &mut desk, last)?;
+    move_first(&mut desk, Rate(FIRST_MOVE));
+    ask(rt, &mut desk, last)?;
     show_held(rt, &mut desk, last)?;
-    move_first(&mut desk);
+    move_first(&mut desk, Rate(SECOND_MOVE));
     show_held(rt, &mut desk, last)
 }
 
 // Asks a composite.
+#[tactic(auto, using(crate::proofs::Composite::composite_lazy))]
 fn ask(rt: &HostRuntime, desk: &mut Desk, object: ObjId) -> io::Result<()>
-    requires sound { IsSound desk_calc desk.old }
+    requires { IsSound desk_calc desk.old }
+    ensures { IsSound desk_calc desk.new }
 {
     if let Some(Kind::Composite) = desk.kind(object) {
         let asked = desk.ask(object, &mut DeskBench::new())?;
@@ -50,6 +56,7 @@ fn show_held(rt: &HostRuntime, desk: &mut Desk, object: ObjId) -> io::Result<()>
 }
 
 // What is held of a composite.
+#[tactic(auto, using(crate::proofs::Composite::composite_lazy))]
 fn held_of(desk: &mut Desk, object: ObjId) -> Option<Asked> {
     if let Some(Kind::Composite) = desk.kind(object) {
         return desk.ask_held(object);
@@ -58,9 +65,11 @@ fn held_of(desk: &mut Desk, object: ObjId) -> Option<Asked> {
 }
 
 // Moves the first object, where it is a quote.
-fn move_first(desk: &mut Desk) {
+fn move_first(desk: &mut Desk, value: Rate)
+    ensures { IsSound desk_calc desk.old → IsSound desk_calc desk.new }
+{
     let first = ObjId(1);
     if let Some(Kind::Quote) = desk.kind(first) {
-        desk.set_quote(first, Some(Rate(MOVED)));
+        desk.set_quote(first, Some(value));
     }
 }

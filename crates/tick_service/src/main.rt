@@ -7,6 +7,7 @@
 #![tactic(auto)]
 
 mod desk;
+mod market;
 mod service;
 
 use std::{env, io};

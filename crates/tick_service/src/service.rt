@@ -1,9 +1,8 @@
 // A session whose quiet commands are changes.
+use crate::market::load;
 use desk_bench::DeskBench;
-use desk_edge::FileShelf;
 use desk_names::Names;
 use desk_terms::Bench;
-use market_loader::load_market;
 use pricing_session::{ChangeFault, PricingSession};
 use session_commands::Command;
 use std::io::{Error, ErrorKind, Write};
@@ -11,22 +10,18 @@ use std::{fs, io};
 use watch_rounds::Order;
 
 // Opens the session of a market and a script, and carries out the script's commands.
-pub(crate) fn serve(rt: &HostRuntime, market: &str, script: &str) -> io::Result<()> {
-    let alloc = rt.alloc();
-    let mut names = Names::new(alloc);
-    let Ok(market) = load_market(alloc, market, &mut FileShelf::new(rt.clone()?), &mut names) else {
-        return Err(Error::from(ErrorKind::InvalidData));
-    };
+pub(crate) fn serve(rt: &HostRuntime, path: &str, script: &str) -> io::Result<()> {
+    let mut names = Names::new(rt.alloc());
+    let market = load(rt, path, &mut names)?;
     let text = fs::read(rt, script)?;
-    let bench = DeskBench::new();
     match PricingSession::open(
-        alloc,
+        rt.alloc(),
         names,
         market.today,
         market.made,
         &text,
         Order::First,
-        bench,
+        DeskBench::new(),
     ) {
         Ok((mut session, commands)) => take_all(rt, &mut session, commands.items()),
         Err(_) => Err(Error::from(ErrorKind::InvalidData)),

@@ -1,0 +1,5 @@
+pub mod Appending
+pub mod Asked
+pub mod Calling
+pub mod Served
+pub mod Wording

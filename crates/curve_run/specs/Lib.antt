@@ -1,0 +1,9 @@
+pub mod Found
+pub mod Lines
+pub mod Named
+pub mod Pricing
+pub mod Rows
+pub mod Run
+pub mod Status
+pub mod Verdict
+pub mod Words

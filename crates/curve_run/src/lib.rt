@@ -1,0 +1,18 @@
+//! What the program `desk_curve` does: from words and a market with its tables to the picture of curves, or to the table of
+//! their points, and a status, for every shelf of files, sink of bytes and bench of prices.
+//!
+//! `run_curve`, `CurveStatus`.
+#![tactic(auto)]
+
+mod finding;
+mod lines;
+mod pricing;
+mod rows;
+mod running;
+mod status;
+mod unnamed;
+mod wanted;
+mod words;
+
+pub use running::run_curve;
+pub use status::CurveStatus;

@@ -1,0 +1,95 @@
+// What is written of curves.
+ghost use Rattle.std.specs.Prelude.{◌≡◌, ◌⊎◌, map, IfOk};
+ghost use Rattle.std.specs.String.{string_bytes};
+ghost use Rattle.desk_model.specs.Sound.{IsSound};
+ghost use Rattle.desk_model.specs.Unheld.{HoldsNothing};
+ghost use Rattle.curve_run.specs.Lines.{standing, drawn_text, priced_text, curve_text, curve_calls, AreNamed};
+ghost use Rattle.curve_run.specs.Named.{AreCurves};
+ghost use Rattle.curve_run.specs.Pricing.{curves_asking, Calls};
+
+use crate::finding::curves_named;
+use crate::pricing::price_all;
+use curve_picture::{picture, table};
+use curve_points::CurveValue;
+use day_number::Day;
+use desk_names::ObjId;
+use desk_terms::Bench;
+use lazy_objects::Desk;
+use price_report::Namer;
+use std::alloc::{AllocError, Global};
+
+// What is wanted: a table or a picture, and the day of the market.
+#[derive(Clone, Copy)]
+pub(crate) struct Sheet {
+    pub(crate) as_table: bool,
+    pub(crate) today: Day,
+}
+
+// The picture or the table of the curves that names stand for, or the lines of what stands against it.
+pub(crate) fn curve_lines<B: Bench>(
+    alloc: Global,
+    desk: &mut Desk,
+    sheet: Sheet,
+    texts: &[String],
+    namer: &Namer<'_>,
+    bench: &mut B,
+) -> Result<Vec<u8>, AllocError>
+    requires sound { IsSound (B.calc bench.old) desk.old }
+    requires unheld { HoldsNothing desk.old }
+    ensures same { B.calc bench.new ≡ B.calc bench.old }
+    ensures lines { IfOk result (λ lines. lines.items
+        ≡ curve_text (B.calc bench.old) (standing namer.now.names.now namer.now.of_object.now desk.old) sheet.as_table sheet.today (map string_bytes texts.now)) }
+    ensures calls { Calls (curve_calls (B.calc bench.old) (standing namer.now.names.now namer.now.of_object.now desk.old) (map string_bytes texts.now))
+        result (B.count bench.old) (B.count bench.new) (B.log bench.old) (B.log bench.new) }
+    ensures alone { AreNamed (standing namer.now.names.now namer.now.of_object.now desk.old) (map string_bytes texts.now) ⊎ (bench.new ≡ bench.old) }
+{
+    let named = curves_named(alloc, desk, namer.names, texts)?;
+    match named {
+        Ok(objects) => priced_lines(alloc, desk, sheet, objects.as_slice(), namer, bench),
+        Err(lines) => Ok(lines),
+    }
+}
+
+// The picture or the table of curves, or the lines of those that are refused.
+fn priced_lines<B: Bench>(
+    alloc: Global,
+    desk: &mut Desk,
+    sheet: Sheet,
+    objects: &[ObjId],
+    namer: &Namer<'_>,
+    bench: &mut B,
+) -> Result<Vec<u8>, AllocError>
+    requires curves { AreCurves desk.old.market objects.now }
+    requires sound { IsSound (B.calc bench.old) desk.old }
+    requires unheld { HoldsNothing desk.old }
+    ensures same { B.calc bench.new ≡ B.calc bench.old }
+    ensures lines { IfOk result (λ lines. lines.items
+        ≡ priced_text (B.calc bench.old) (standing namer.now.names.now namer.now.of_object.now desk.old) sheet.as_table sheet.today objects.now) }
+    ensures calls { Calls (curves_asking (B.calc bench.old) objects.now desk.old).calls
+        result (B.count bench.old) (B.count bench.new) (B.log bench.old) (B.log bench.new) }
+{
+    let priced = price_all(alloc, desk, objects, namer, bench)?;
+    if !priced.lines.is_empty() {
+        return Ok(priced.lines);
+    }
+    drawn(alloc, sheet, priced.curves.as_slice(), namer)
+}
+
+// The picture or the table of curves.
+fn drawn(
+    alloc: Global,
+    sheet: Sheet,
+    curves: &[CurveValue],
+    namer: &Namer<'_>,
+) -> Result<Vec<u8>, AllocError>
+    ensures { IfOk result (λ lines. lines.items
+        ≡ drawn_text namer.now.names.now namer.now.of_object.now sheet.as_table sheet.today curves.now) }
+{
+    let mut lines = Vec::new(alloc);
+    if sheet.as_table {
+        table(alloc, curves, namer, &mut lines)?;
+    } else {
+        picture(alloc, sheet.today, curves, namer, &mut lines)?;
+    }
+    Ok(lines)
+}

@@ -1,0 +1,86 @@
+// The words of the command line.
+ghost use Rattle.std.specs.Prelude.{◌≡◌, ◌∷◌, [], map, option_map, codes};
+ghost use Rattle.std.specs.String.{string_bytes};
+ghost use Rattle.std.specs.Str.{bytes_eq};
+ghost use Rattle.std.specs.List.{list_all};
+ghost use Rattle.curve_run.specs.Words.{is_word, is_flag, request_with, request_of};
+ghost use Rattle.curve_run.specs.Found.{request_in};
+
+/// How many curves are drawn at most: as many as there are colours.
+pub(crate) const MOST_CURVES: usize = 8;
+
+// What the words ask for: a table or a picture, the path of a market, and the names of curves.
+#[derive(Clone, Copy)]
+pub(crate) struct Request<'a> {
+    pub(crate) as_table: bool,
+    pub(crate) market: &'a str,
+    pub(crate) curves: &'a [String],
+}
+
+// What the words ask for, if they are some that are taken.
+pub(crate) fn request_of(words: &[String]) -> Option<Request<'_>>
+    ensures { option_map request_in result ≡ request_of (map string_bytes words.now) }
+{
+    match words {
+        [] => None,
+        [first, rest @ ..] => {
+            if is_flag(first) {
+                request_with(true, rest)
+            } else {
+                request_with(false, words)
+            }
+        }
+    }
+}
+
+// The same of the words behind `--csv`, or of all where it is not there.
+fn request_with(as_table: bool, words: &[String]) -> Option<Request<'_>>
+    ensures { option_map request_in result ≡ request_with as_table (map string_bytes words.now) }
+{
+    match words {
+        [] => None,
+        [market, curves @ ..] => {
+            if !is_word(market)
+                || curves.is_empty()
+                || curves.len() > MOST_CURVES
+                || !are_words(curves)
+            {
+                return None;
+            }
+            Some(Request {
+                as_table,
+                market,
+                curves,
+            })
+        }
+    }
+}
+
+// Whether each word is taken.
+fn are_words(words: &[String]) -> bool
+    ensures { result ≡ list_all is_word (map string_bytes words.now) }
+{
+    for word in words {
+        if !is_word(word) {
+            return false;
+        }
+    }
+    true
+}
+
+// Whether a word is taken: it is not empty and does not begin with `-`.
+fn is_word(word: &str) -> bool
+    ensures { result ≡ is_word word.now }
+{
+    match word.as_bytes() {
+        [] => false,
+        [first, ..] => *first != b'-',
+    }
+}
+
+// Whether a word is `--csv`.
+fn is_flag(word: &str) -> bool
+    ensures { result ≡ is_flag word.now }
+{
+    word == "--csv"
+}

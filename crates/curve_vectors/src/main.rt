@@ -13,11 +13,12 @@ use whole_cases::{shelf, words};
 const ROOM: usize = 100_000;
 
 // `by_hand` has words that are none, names that are no curve's, curves of one day and of sixty years, factors near 1, above
-// it and far below; `markets` has markets made at random, some with a quote without a value or without a curve; `faults` has
-// markets that are refused.
+// it and far below; `markets` has markets made at random, some with a quote without a value or without a curve; `version_two`
+// has curves with a reference day of their own; `faults` has markets that are refused.
 fn main(rt: HostRuntime) -> io::Result<()> {
     compare(&rt, "by_hand")?;
     compare(&rt, "markets")?;
+    compare(&rt, "version_two")?;
     compare(&rt, "faults")
 }
 

@@ -1,6 +1,7 @@
 #!/usr/bin/env bash
 # Runs the built program on each market of crates/curve_vectors, puts each picture through an XML parser and each table through a reader of
-# comma-separated values, and compares them with what stands there. Prints how many there were of each.
+# comma-separated values, and compares them with what stands there. Where a table is wanted, the picture of the same curves is drawn and parsed
+# besides: it has the points of the table. Prints how many there were of each.
 #
 #   (cd crates/desk_curve && rt run)     # builds the program
 #   benchmarks/pictures.sh
@@ -51,7 +52,24 @@ def points(picture):
     return counts
 
 
-for name in ("markets", "by_hand", "faults"):
+def run(words):
+    return subprocess.run([program, *words], capture_output=True, text=True)
+
+
+def sizes(rows):
+    """How many points each curve of a table has; a curve begins with the factor 1 on its first day."""
+    counts = []
+    before = ("", "")
+    for name, day, factor in rows:
+        if name != before[0] or day <= before[1]:
+            assert factor == "1.000000000000"
+            counts.append(0)
+        counts[-1] += 1
+        before = (name, day)
+    return counts
+
+
+for name in ("by_hand", "markets", "version_two", "faults"):
     for case in (top / "crates/curve_vectors/data" / name).read_text().split("==\n"):
         given, _, shown = case.partition("-- shown\n")
         words, files = fields(given)
@@ -59,15 +77,17 @@ for name in ("markets", "by_hand", "faults"):
             old.unlink()
         for path, text in files.items():
             pathlib.Path(path).write_text(text)
-        run = subprocess.run([program, *words], capture_output=True, text=True)
-        assert run.stdout + run.stderr == shown, case
-        if run.stdout.startswith("<svg"):
+        ran = run(words)
+        assert ran.stdout + ran.stderr == shown, case
+        if ran.stdout.startswith("<svg"):
             found["pictures"] += 1
-            found["curves in pictures"] += len(points(run.stdout))
-        elif run.stdout.startswith("curve,"):
-            rows = list(csv.reader(io.StringIO(run.stdout)))
+            found["curves in pictures"] += len(points(ran.stdout))
+        elif ran.stdout.startswith("curve,"):
+            rows = list(csv.reader(io.StringIO(ran.stdout)))
             assert all(len(row) == 3 for row in rows)
             found["tables"] += 1
+            assert points(run(words[1:]).stdout) == sizes(rows[1:])
+            found["pictures of the curves of a table"] += 1
         else:
             found["lines"] += 1
 for what, count in found.items():

@@ -1,0 +1,45 @@
+-- Nodes and arrows written out by hand.
+use Rattle.std.specs.Prelude.{◌≡◌, ℕ, Bool, true, false, List, [], ◌∷◌, pos, negsuc, codes}
+use Rattle.desk_terms.specs.declared.kind.Kind.TheVariants.{Today, Quote, CurveHandle, Curve, Stock, Flows, Watcher}
+use Rattle.desk_terms.specs.declared.kind.Kind.{Kind}
+use Rattle.desk_terms.specs.declared.asked.Mark.TheVariants.{Fresh, Frozen}
+use Rattle.graph_dot.specs.declared.node.Finding.{Finding}
+use Rattle.graph_dot.specs.declared.node.Finding.TheVariants.{Unasked, NotCurrent, Kept, Missing}
+use Rattle.graph_dot.specs.declared.node.Shown.{Shown}
+use Rattle.graph_dot.specs.declared.node.Shown.TheVariants as shown
+use Rattle.graph_dot.specs.Dot.{node_text, edges_text}
+use Rattle.graph_dot.specs.declared.node.GraphNode.{GraphNode}
+
+abbrev pub five_names : List (List ℕ)
+five_names = codes "today" ∷ codes "q" ∷ codes "s" ∷ codes "c" ∷ codes "w" ∷ []
+
+abbrev pub five_objects : List ℕ
+five_objects = 0 ∷ 1 ∷ 2 ∷ 3 ∷ 4 ∷ []
+
+abbrev pub node : ℕ → Kind → Shown → Finding → Bool → GraphNode
+node object kind shown finding is_deferred =
+    record { object = object; kind = kind; shown = shown; finding = finding; is_deferred = is_deferred }
+
+abbrev pub drawn : GraphNode → List ℕ
+drawn n = node_text five_names five_objects n
+
+pub record AreDrawn : Type 0 where
+  pub today : drawn (node 0 Today shown.Nothing Unasked false) ≡
+      codes "  \"today\" [shape=ellipse, label=\"today\\nevaluation date\"];\n"
+  pub quote : drawn (node 1 Quote (shown.Rate (pos 36_000_000)) Unasked true) ≡
+      codes "  \"q\" [shape=ellipse, peripheries=2, label=\"q\\nquote\\n0.036000000\\ndeferred\"];\n"
+  pub unset : drawn (node 1 Quote shown.Unset Unasked false) ≡
+      codes "  \"q\" [shape=ellipse, label=\"q\\nquote\\nunset\"];\n"
+  pub fresh : drawn (node 2 Stock (shown.Money (negsuc 12_345_677)) (Kept Fresh) false) ≡
+      codes "  \"s\" [shape=box, fillcolor=\"#b7e1a1\", label=\"s\\nstock\\n-12.345678\\nfresh\"];\n"
+  pub unpriced : drawn (node 2 Flows shown.Nothing (Missing Frozen) false) ≡
+      codes "  \"s\" [shape=box, fillcolor=\"#f4a6a6\", label=\"s\\ncash flows\\nfrozen\\nunpriced\"];\n"
+  pub outdated : drawn (node 3 Curve (shown.Point (record { day = pos 19_824; factor = pos 990_099_009_901 })) NotCurrent false) ≡
+      codes "  \"c\" [shape=box, fillcolor=\"#d9d9d9\", label=\"c\\ncurve\\n2024-04-11 0.990099009901\\nnot current\"];\n"
+  pub forwarder : drawn (node 3 CurveHandle shown.Nothing Unasked false) ≡
+      codes "  \"c\" [shape=hexagon, label=\"c\\ncurve handle\"];\n"
+  pub watcher : drawn (node 4 Watcher shown.Nothing Unasked false) ≡
+      codes "  \"w\" [shape=octagon, style=\"filled,dotted\", label=\"w\\nwatcher\"];\n"
+  pub arrows : edges_text five_names five_objects
+      (record { observer = 2; subject = 1; is_registration = false } ∷ record { observer = 4; subject = 2; is_registration = true } ∷ []) ≡
+      codes "  \"s\" -> \"q\";\n  \"w\" -> \"s\" [style=dashed];\n"

@@ -1,0 +1,5 @@
+pub mod Appending
+pub mod Below
+pub mod Edged
+pub mod Once
+pub mod Unquoted

@@ -1,0 +1,4 @@
+pub mod Edges
+pub mod Graph
+pub mod Node
+pub mod Rows

@@ -8,9 +8,9 @@ ghost use Rattle.std.specs.Prelude.{◌≡◌};
 ghost use Rattle.std.specs.Process.{exit_status};
 ghost use Rattle.grid_run.specs.Status.{code_of};
 
-use grid_run::{GridStatus, run_grid};
 use desk_bench::DeskBench;
 use desk_edge::{FileShelf, OutSink};
+use grid_run::{GridStatus, run_grid};
 use std::io::Eprint;
 use std::marker::Model;
 use std::process::{ExitCode, Termination};

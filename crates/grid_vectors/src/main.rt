@@ -2,9 +2,9 @@
 //! independent model writes: prints each case that differs, and how many agree.
 #![tactic(auto)]
 
-use grid_run::{GridStatus, run_grid};
 use desk_bench::DeskBench;
 use desk_edge::{CallList, MemoryShelf, MemorySink};
+use grid_run::{GridStatus, run_grid};
 use std::alloc::{AllocError, Global};
 use std::{fs, io};
 use whole_cases::{shelf, words};

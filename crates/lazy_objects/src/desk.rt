@@ -5,7 +5,7 @@ ghost use Rattle.desk_terms.specs.Reading.{Calc, AreInRange, IsFitting};
 ghost use Rattle.desk_model.specs.Market.{kind_at, terms_at, slot_at, is_given, is_watcher, is_observable, least_user};
 ghost use Rattle.desk_model.specs.Told.{is_registered, is_watching};
 ghost use Rattle.desk_model.specs.Uses.{index_at, fixings_in};
-ghost use Rattle.desk_model.specs.State.{kept_at, held, is_frozen, is_late, is_source, least_source};
+ghost use Rattle.desk_model.specs.State.{kept_at, held, is_frozen, is_late, least_source};
 ghost use Rattle.desk_model.specs.Sound.{IsSound, KeepsCurrent};
 ghost use Rattle.desk_model.specs.Links.{AreOfKind, AreRanged, IsKinded, IsWhole, Serve, is_lazy_at, reaches, serves_as};
 ghost use Rattle.desk_model.specs.Effect.{start, made, quote_set, relinked, engine_set, member_set, fixing_added, today_set, dropped, watching, registered_with, unregistered, handed_out, frozen_set, thawed, forward_set, deferred, resumed};
@@ -511,14 +511,14 @@ impl Desk {
 
     /// Whether an object is frozen.
     pub fn is_frozen(&self, object: ObjId) -> bool
-        ensures { result ≡ is_frozen self.now object }
+        ensures { result ≡ (kept_at self.now object).frozen }
     {
         self.store.is_frozen(object)
     }
 
     /// Whether an object is a deferred source: it changed while notices are held back, and has told nobody yet.
     pub fn is_source(&self, object: ObjId) -> bool
-        ensures { result ≡ is_source self.now object }
+        ensures { result ≡ (kept_at self.now object).source }
     {
         self.store.is_source(object)
     }

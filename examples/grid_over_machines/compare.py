@@ -14,7 +14,7 @@ grid = os.path.abspath(os.environ.get("DESK_GRID", os.path.join(here, "../../cra
 
 
 def cases():
-    for name in ("by_hand", "markets"):
+    for name in ("by_hand", "markets", "version_two"):
         with open(os.path.join(data, name)) as file:
             for text in file.read().split("==\n"):
                 given, shown = text.split("-- shown\n")

@@ -14,10 +14,12 @@ const ROOM: usize = 100_000;
 
 // `by_hand` has blocks in either order, a block that holds nothing, equal values, each fault of a shape, as many blocks and
 // asks as there may be and one more, words and files that are not there; `markets` has markets and scripts made at random;
-// `faults` has scripts that are refused.
+// `version_two` has markets of version 2, with payments after a lag and curves that start on a day of their own; `faults` has
+// scripts that are refused.
 fn main(rt: HostRuntime) -> io::Result<()> {
     compare(&rt, "by_hand")?;
     compare(&rt, "markets")?;
+    compare(&rt, "version_two")?;
     compare(&rt, "faults")
 }
 

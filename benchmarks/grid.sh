@@ -3,7 +3,7 @@
 # the example desk, and over a market of 1,000 instruments under a curve of 20 helpers, each scenario a move of all its rates. It says how
 # far the cost is from a straight line in the scenarios, and checks no other figure.
 #
-#   (cd crates/desk_grid && rt run -- market.toml script)     # builds the program
+#   (cd crates/desk_grid && rt run)     # builds the program
 #   benchmarks/grid.sh
 set -euo pipefail
 cd "$(dirname "$0")/.."

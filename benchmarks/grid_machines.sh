@@ -3,7 +3,7 @@
 # blocks: the seconds of each, and whether the joined bytes are those of one run. Then one part is killed in its middle: no joined file
 # may be there. And how many scenarios a second one process does over 10, 100 and 1,000 instruments.
 #
-#   (cd crates/desk_grid && rt run -- market.toml script)     # builds the program
+#   (cd crates/desk_grid && rt run)     # builds the program
 #   apt-get install parallel
 #   benchmarks/grid_machines.sh
 set -euo pipefail

@@ -31,7 +31,9 @@ with tempfile.TemporaryDirectory() as work:
         folder = os.path.join(work, str(at))
         os.mkdir(folder)
         for path, text in files.items():
-            open(os.path.join(folder, path), "w").write(text)
+            file = os.path.join(folder, path)
+            os.makedirs(os.path.dirname(file), exist_ok=True)
+            open(file, "w").write(text)
         for blocks in (1, 7, 100):
             if blocks == 1 and len(files[words[1]]) > 10000:
                 continue

@@ -32,11 +32,11 @@ left() {
     done
 }
 
-for attempt in 1 2; do
+for _ in 1 2; do
     left > "$folder/left"
     [ -s "$folder/left" ] || break
     parallel --will-cite ${GRID_PARALLEL:-} -j "$processes" "$here/run_part.sh" "$DESK_GRID" "$market" {} \
-        < "$folder/left" || [ "$attempt" = 1 ] || true
+        < "$folder/left" || true
 done
 left > "$folder/left"
 if [ -s "$folder/left" ]; then

@@ -1,5 +1,5 @@
 -- The session of a scenario before its first move.
-use Rattle.std.proofs.Common.{◌≡◌, ℕ, List, [], false, Result, Ok, Err, sym, ◌∙◌, ap, subst, ℤ, All}
+use Rattle.std.proofs.Common.{◌≡◌, ℕ, List, [], Result, Ok, sym, ◌∙◌, ap, subst, ℤ, All}
 use Rattle.std.proofs.lemmas.List.Elements.{All-nil}
 use Rattle.desk_terms.specs.declared.terms.Terms.{Terms}
 use Rattle.session_commands.specs.declared.command.Command.{Command}

@@ -1,9 +1,9 @@
 -- The course of commands: its lines, its computations and the session that it leaves are those of their rounds.
-use Rattle.std.proofs.Common.{◌≡◌, ℕ, Bool, List, [], ◌∷◌, ◌++◌, refl, sym, ◌∙◌, ap}
+use Rattle.std.proofs.Common.{◌≡◌, ℕ, Bool, List, [], ◌∷◌, ◌++◌, refl, ◌∙◌, ap}
 use Rattle.desk_terms.specs.Reading.{Calc}
 use Rattle.session_commands.specs.declared.command.Command.{Command}
 use Rattle.watch_rounds.specs.declared.picker.Order.{Order}
-use Rattle.session_model.specs.Course.{Running, Course, quiet, before, and_then, round_of}
+use Rattle.session_model.specs.Course.{Running, Course, before, and_then, round_of}
 use Rattle.session_model.specs.Rounds.{rounds, lines_of, calls_in, transcript, calls_of}
 use Rattle.session_rounds.proofs.Going.{joined}
 use Rattle.grid_model.specs.Scenario.{ordered, after}

@@ -1,12 +1,11 @@
 -- The money that an ask shows is what is stored behind it.
-use Rattle.std.proofs.Common.{suc, zero, ◌≡◌, inl, inr, ℕ, ℤ, Bool, true, false, List, [], ◌∷◌, Option, Some, None, Result, Ok, Err, refl, sym, ◌∙◌, ap, subst}
+use Rattle.std.proofs.Common.{suc, zero, ◌≡◌, inl, inr, ℕ, ℤ, Bool, true, false, List, [], Option, Some, None, Result, Ok, Err, refl, sym, ◌∙◌, ap}
 use Rattle.std.specs.Prelude.{if◌then◌else◌}
 use Rattle.std.proofs.lemmas.Bool.{cases_Bool, or_parts, false≢true}
 use Rattle.desk_terms.specs.declared.value.Value.{Value}
 use Rattle.desk_terms.specs.declared.value.Value.TheVariants.{Money, Curve}
-use Rattle.desk_terms.specs.declared.cause.Cause.{Cause}
 use Rattle.desk_terms.specs.declared.asked.Mark.TheVariants.{Fresh, Frozen, Late, Held}
-use Rattle.desk_terms.specs.Reading.{Outcome, Calc}
+use Rattle.desk_terms.specs.Reading.{Calc}
 use Rattle.desk_model.specs.declared.kept.Kept.{Kept}
 use Rattle.desk_model.specs.State.{State, kept_at, last_of, is_frozen, is_source, is_late, is_clear, mark_of, held, seen, shows}
 use Rattle.desk_model.specs.Sound.{IsSound}
@@ -23,13 +22,12 @@ use Rattle.desk_model.proofs.Unheld.{unheld_afresh}
 use Rattle.desk_model.proofs.Visits.{cases_outcome, runs_closed, runs_idle}
 use Rattle.desk_model.proofs.Watchers.{thawed_forwarder}
 use Rattle.watch_rounds.specs.declared.picker.Order.{Order}
-use Rattle.session_commands.specs.declared.command.Command.{Command}
 use Rattle.session_commands.specs.declared.command.Command.TheVariants.{Ask}
 use Rattle.session_commands.specs.declared.refusal.Refusal.{Refusal}
 use Rattle.session_model.specs.declared.place.Place.TheVariants.{Priced}
 use Rattle.session_model.specs.declared.act.Act.TheVariants as act
 use Rattle.session_model.specs.declared.act.How.TheVariants as how
-use Rattle.session_model.specs.Course.{Running, Course, Meaning, taken, noticed, heard, all_handed_out, and_then, done, unless_none, run, runs_by, most_runs, opened, round_of}
+use Rattle.session_model.specs.Course.{Running, Meaning, taken, noticed, heard, all_handed_out, and_then, done, unless_none, run, runs_by, most_runs, opened, round_of}
 use Rattle.session_model.specs.Resolve.{find, with_found, resolve}
 use Rattle.session_model.specs.Standing.{Standing}
 use Rattle.session_model.specs.Turn.{done_as, effect_of, step, turn}

@@ -1,20 +1,20 @@
 -- The moves of a scenario, and then its asks.
-use Rattle.std.proofs.Common.{◌≡◌, ℕ, ℤ, Bool, List, [], ◌++◌, length, take, Option, refl, sym, ◌∙◌, ap, subst, arith, All}
+use Rattle.std.proofs.Common.{◌≡◌, ℕ, ℤ, Bool, List, [], ◌++◌, length, take, Option, sym, ◌∙◌, ap, subst, arith, All}
 use Rattle.std.proofs.Math.Seq.{take-length}
 use Rattle.std.proofs.lemmas.List.{take-append-le}
 use Rattle.desk_terms.specs.Reading.{Calc}
 use Rattle.session_commands.specs.declared.command.Command.{Command}
 use Rattle.session_commands.specs.Whole.{IsCommand}
 use Rattle.watch_rounds.specs.declared.picker.Order.{Order}
-use Rattle.session_model.specs.Course.{Running, Course, and_then}
+use Rattle.session_model.specs.Course.{Running, Course}
 use Rattle.session_model.specs.Rounds.{transcript, calls_of}
 use Rattle.session_model.specs.Standing.{Standing, IsKnown}
 use Rattle.market_session.proofs.Started.{starts_known}
 use Rattle.session_rounds.specs.Goes.{Output, Does, Halts, with_more}
 use Rattle.session_rounds.proofs.Going.{does_both, halts_first, halts_second, halts_at_once}
-use Rattle.grid_model.specs.Scenario.{Basis, ordered, first_of, after, values_of, scenario_lines, scenario_calls, scenario_values}
+use Rattle.grid_model.specs.Scenario.{Basis, ordered, first_of, after, values_of}
 use Rattle.scenario_grid.specs.Calls.{Begins}
-use Rattle.scenario_grid.specs.Course.{course_of, output, scenario_of}
+use Rattle.scenario_grid.specs.Course.{course_of, output}
 use Rattle.scenario_grid.specs.Going.{Extends}
 use Rattle.scenario_grid.proofs.Courses.{course_lines, course_calls, course_next, course_joined}
 

@@ -1,5 +1,5 @@
 -- How far the commands of a scenario are done.
-use Rattle.std.proofs.Common.{◌≡◌, ℕ, ◌+◌, ◌<◌, ◌≤◌, ℤ, Bool, true, false, List, [], ◌∷◌, ◌++◌, length, drop, get_or, Option, Some, None, Result, Ok, Err, refl, sym, ◌∙◌, ap, subst, All}
+use Rattle.std.proofs.Common.{◌≡◌, ℕ, ◌+◌, ◌<◌, ◌≤◌, ℤ, true, false, List, [], ◌∷◌, ◌++◌, length, drop, get_or, Option, Result, Ok, Err, refl, sym, ◌∙◌, ap, subst, All}
 use Rattle.std.specs.Prelude.{OnOk, OnErr}
 use Rattle.std.proofs.lemmas.List.{append_assoc, append-nil, drop_more, drop_all}
 use Rattle.std.proofs.lemmas.List.Elements.{All-nil}
@@ -9,7 +9,7 @@ use Rattle.session_commands.specs.declared.command.Command.{Command}
 use Rattle.session_commands.specs.Whole.{IsCommand}
 use Rattle.watch_rounds.specs.declared.picker.Order.{Order}
 use Rattle.session_model.specs.Afresh.{holds_nothing}
-use Rattle.session_model.specs.Course.{Running, Course, quiet, and_then, round_of}
+use Rattle.session_model.specs.Course.{Running, round_of}
 use Rattle.session_model.specs.Standing.{Standing, IsKnown}
 use Rattle.session_model.proofs.Afresh.{round_unheld}
 use Rattle.session_rounds.specs.Goes.{Output, Does, Halts, Goes, Stays}

@@ -1,6 +1,5 @@
 // What is asked for in a scenario.
 ghost use Rattle.std.specs.Prelude.{◌≡◌, ◌++◌, ◌∷◌, [], true, false, option_copied, All, OnOk, OnErr};
-ghost use Rattle.desk_model.specs.Links.{IsWhole};
 ghost use Rattle.session_model.specs.Standing.{IsKnown};
 ghost use Rattle.session_model.specs.Course.{round_of};
 ghost use Rattle.session_rounds.specs.Goes.{Does, Halts, Stays};

@@ -1,10 +1,10 @@
 // The lines of a grid.
-ghost use Rattle.std.specs.Prelude.{◌≡◌, ◌++◌, ◌∷◌, [], true, length, All, IfOk, OnOk, OnErr};
+ghost use Rattle.std.specs.Prelude.{◌≡◌, ◌++◌, ◌∷◌, [], true, length, All, IfOk, OnOk};
 ghost use Rattle.market_loader.specs.Market.{texts_in};
 ghost use Rattle.session_commands.specs.Whole.{IsCommand, IsScript};
 ghost use Rattle.grid_shape.specs.Kinds.{is_move, is_ask};
 ghost use Rattle.grid_shape.specs.Laws.{IsTaken};
-ghost use Rattle.grid_model.specs.Grid.{grid, grid_calls, scenarios_of, scenario_texts, scenarios_calls, rows_of, scenario_text};
+ghost use Rattle.grid_model.specs.Grid.{grid, grid_calls, scenarios_of, scenario_texts, rows_of, scenario_text};
 ghost use Rattle.grid_model.specs.Scenario.{scenario_lines, scenario_calls, scenario_values};
 ghost use Rattle.grid_report.specs.Shown.{rows_in};
 ghost use Rattle.scenario_grid.specs.Basis.{basis_of, IsGround};

@@ -2,8 +2,8 @@
 ghost use Rattle.std.specs.Prelude.{◌≡◌, ℕ, List, Ok, IfOk};
 ghost use Rattle.desk_terms.specs.Reading.{Calc};
 ghost use Rattle.market_loader.specs.Market.{texts_in};
-ghost use Rattle.grid_model.specs.Scenario.{Basis, first_of};
-ghost use Rattle.scenario_grid.specs.Basis.{basis_of, basis_with, IsGround, IsSaid};
+ghost use Rattle.grid_model.specs.Scenario.{first_of};
+ghost use Rattle.scenario_grid.specs.Basis.{basis_of, IsGround, IsSaid};
 ghost use Rattle.scenario_grid.specs.Going.{IsGoing};
 
 use desk_names::Names;

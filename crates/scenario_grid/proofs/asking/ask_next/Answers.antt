@@ -1,11 +1,10 @@
-use Rattle.std.proofs.Common.{◌≡◌, ◌++◌, ◌∷◌, [], ℕ, ℤ, List, Option, sym, ◌∙◌, ap, subst}
+use Rattle.std.proofs.Common.{◌≡◌, ◌++◌, ◌∷◌, [], ℕ, ℤ, Option, sym, ◌∙◌, ap, subst}
 use Rattle.std.specs.Prelude.{OnOk}
 use Rattle.desk_model.specs.Links.{IsWhole}
 use Rattle.watch_rounds.specs.declared.picker.Order.{Order}
 use Rattle.session_model.specs.Course.{Running, round_of}
 use Rattle.session_model.specs.Standing.{Standing}
 use Rattle.session_rounds.proofs.Going.{does_halts}
-use Rattle.grid_shape.specs.Kinds.{asked_name}
 use Rattle.grid_model.specs.Scenario.{ordered}
 use Rattle.scenario_grid.specs.Course.{output}
 use Rattle.scenario_grid.specs.Kept.{money_asked}

@@ -1,4 +1,3 @@
-use Rattle.std.proofs.Common.{◌≡◌, ◌∙◌, ap}
 use Rattle.std.proofs.lemmas.Result.{err_from_is_err_and}
 use Rattle.market_loader.specs.Market.{texts_in}
 use Rattle.grid_report.specs.Shown.{rows_in}

@@ -1,4 +1,4 @@
-use Rattle.std.proofs.Common.{[], ◌∙◌, ap, subst, sym}
+use Rattle.std.proofs.Common.{◌∙◌, ap, subst, sym}
 use Rattle.desk_model.specs.Sound.{IsSound}
 use Rattle.market_loader.specs.Market.{texts_in}
 use Rattle.session_model.specs.Course.{Running, running}

@@ -1,4 +1,4 @@
-use Rattle.std.proofs.Common.{◌≡◌, ℕ, Bool, List, length, Option, take, ◌∙◌, ap, arith}
+use Rattle.std.proofs.Common.{◌≡◌, ℕ, length, take, ◌∙◌, ap, arith}
 use Rattle.session_rounds.specs.Goes.{Output}
 use Rattle.market_loader.specs.Market.{texts_in}
 use Rattle.grid_model.specs.Scenario.{first_of}

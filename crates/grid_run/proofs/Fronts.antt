@@ -1,9 +1,6 @@
 -- A run that ends before the lines are made.
-use Rattle.std.proofs.Common.{◌≡◌, ◌⊎◌, inl, inr, ℕ, ◌+◌, ◌≤◌, Bool, List, [], Option, Some, None, pos, refl, ap, arith}
-use Rattle.std.proofs.lemmas.List.{append-nil}
+use Rattle.std.proofs.Common.{◌⊎◌, inl, inr, ℕ, Bool, List, [], Option, pos, refl}
 use Rattle.desk_terms.specs.Reading.{Calc}
-use Rattle.desk_terms.specs.Bench.{logged}
-use Rattle.scenario_grid.specs.Calls.{Begins}
 use Rattle.scenario_grid.proofs.Calling.{begins_none}
 use Rattle.grid_run.specs.declared.status.GridStatus.{GridStatus}
 use Rattle.grid_run.specs.declared.status.GridStatus.TheVariants as status

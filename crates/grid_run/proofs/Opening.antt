@@ -1,5 +1,5 @@
 -- The reading of a market and of a script, step by step.
-use Rattle.std.proofs.Common.{◌≡◌, inl, inr, ⊎_elim, ℕ, Bool, ◌+◌, ◌≤◌, List, Option, Some, None, Result, Ok, Err, Vec, refl, sym, ◌∙◌, ap, subst, arith}
+use Rattle.std.proofs.Common.{◌≡◌, inl, inr, ℕ, ◌≤◌, List, Option, Result, Ok, Err, Vec, refl, sym, ◌∙◌, ap, subst, arith}
 use Rattle.std.specs.Prelude.{IfSome, IfErr, IsErrOf, IsOk}
 use Rattle.std.specs.declared.alloc.Global.{Global}
 use Rattle.desk_edge.specs.Count.{Rose}
@@ -10,19 +10,18 @@ use Rattle.market_loader.specs.declared.faults.FileFault as file
 use Rattle.market_loader.specs.declared.faults.LoadFault as load
 use Rattle.market_loader.specs.declared.faults.MarketRole.TheVariants as role
 use Rattle.market_loader.specs.declared.texts.MarketTexts.{MarketTexts}
-use Rattle.market_loader.specs.Ends.{End, Refused, Missing, Failed, Halted, file_end, load_end, with_fault}
-use Rattle.market_loader.specs.Files.{Files, file_of, file_calls}
-use Rattle.market_loader.specs.Market.{Texts, texts_in, market_in, texts_of, market_said, market_calls, and_then}
+use Rattle.market_loader.specs.Ends.{Missing, Failed, file_end, load_end, with_fault}
+use Rattle.market_loader.specs.Files.{Files, file_calls}
+use Rattle.market_loader.specs.Market.{Texts, texts_in, market_said, market_calls, and_then}
 use Rattle.market_loader.specs.Reads.{Seen, IsOutside as IsOutsideOf, Tells as TellsOf, faults_at, faults_after as counted_at, Reads, IsRefusedAs, Says}
 use Rattle.market_loader.proofs.Steps.{told_map, reads_on, reads_off, reads_text, reads_within}
 use Rattle.session_commands.specs.declared.script.Script.{Script}
 use Rattle.session_commands.specs.declared.script_kind.ScriptKind.{ScriptKind}
-use Rattle.session_lang.specs.Given.{GivesAt, FailsAt}
+use Rattle.session_lang.specs.Given.{FailsAt}
 use Rattle.session_lang.specs.Reading.{script_meaning}
 use Rattle.session_lang.specs.declared.fault.ScriptFault.{ScriptFault}
 use Rattle.session_lang.specs.declared.fault.ScriptFault.TheVariants as unread
 use Rattle.grid_model.specs.Scenario.{Basis}
-use Rattle.grid_shape.specs.Shape.{shape_of}
 use Rattle.scenario_grid.specs.Basis.{basis_of, basis_with, today_in, made_in, IsGround}
 use Rattle.grid_run.specs.declared.reading.Opened.{Opened}
 use Rattle.grid_run.specs.declared.status.GridRole.{GridRole}
@@ -31,7 +30,7 @@ use Rattle.grid_run.specs.declared.status.GridStatus.TheVariants as status
 use Rattle.grid_run.specs.declared.wanted.Wanted as found
 use Rattle.grid_run.specs.Found.{basis_in, wanted_in}
 use Rattle.grid_run.specs.Run.{IsOutside, IsRefusal, Tells, faults_then, faults_after, grid_end}
-use Rattle.grid_run.specs.Status.{role_of, load_status, file_status, script_status}
+use Rattle.grid_run.specs.Status.{load_status, file_status, script_status}
 use Rattle.grid_run.specs.Verdict.{Wanted, texts_at, basis_said, basis_at, script_at, or_script, in_shape, scripted, script_said, script_over, wanted_of, wanted_calls}
 use Rattle.grid_run.specs.Words.{Request}
 

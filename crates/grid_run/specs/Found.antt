@@ -1,5 +1,4 @@
 -- What the reading of words and files gives, as the definitions see it.
-use Rattle.std.specs.Prelude.{ℕ}
 use Rattle.market_loader.specs.Market.{texts_in}
 use Rattle.session_commands.specs.Whole.{IsScript}
 use Rattle.grid_shape.specs.Laws.{IsTaken}

@@ -2,7 +2,7 @@
 use Rattle.std.specs.Prelude.{◌≡◌, [], ◌∷◌, codes, None, Some}
 use Rattle.session_commands.specs.declared.script_kind.ScriptKind.TheVariants as script
 use Rattle.grid_run.specs.declared.status.GridRole.TheVariants as of
-use Rattle.grid_run.specs.declared.status.GridStatus.TheVariants.{Done, Usage, Script, Shape, ReadFault, WriteFault, NoMemory, Absent}
+use Rattle.grid_run.specs.declared.status.GridStatus.TheVariants.{Done, Usage, Script, Shape, Absent}
 use Rattle.grid_run.specs.Status.{code_of, status_text}
 use Rattle.grid_run.specs.Words.{request_of}
 

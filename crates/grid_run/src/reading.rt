@@ -1,5 +1,5 @@
 // The files of a grid, in reading order.
-ghost use Rattle.std.specs.Prelude.{◌≡◌, IfOk, IfErr};
+ghost use Rattle.std.specs.Prelude.{IfOk, IfErr};
 ghost use Rattle.desk_names.specs.Names.{IsNames};
 ghost use Rattle.market_loader.specs.Files.{file_calls};
 ghost use Rattle.market_loader.specs.Market.{texts_in, market_calls};

@@ -1,5 +1,5 @@
 use Rattle.grid_run.specs.Found.{request_in}
-use Rattle.grid_run.proofs.Opening.{script_found, script_lost, market_gone}
+use Rattle.grid_run.proofs.Opening.{script_found}
 use Rattle.grid_run.proofs.wanted.wanted_for.Goals as goal
 
 pub returns-clause-reads : goal.returns-clause-reads

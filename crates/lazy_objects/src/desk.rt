@@ -566,7 +566,7 @@ impl Desk {
     }
 
     /// The terms of an object as they stand, with its links, members and fixings: those of a quote without its value, which
-    /// `quote` tells. None where no live object has the number, and of a watcher.
+    /// `quote` tells. None where no live object has the number, of `today`, and of a watcher.
     pub fn terms(&self, object: ObjId) -> Option<&Terms>
         ensures { option_copied result ≡ bare (terms_at self.now.market object) }
     {

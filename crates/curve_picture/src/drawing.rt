@@ -1,5 +1,5 @@
 // The picture.
-ghost use Rattle.std.specs.Prelude.{◌≡◌, ◌++◌, OnOk};
+ghost use Rattle.std.specs.Prelude.{◌≡◌, ◌++◌, OnOk, OnErr, IfOk};
 ghost use Rattle.curve_picture.specs.Scale.{IsScale};
 ghost use Rattle.curve_picture.specs.Svg.{heading_text, picture_on, picture_text};
 
@@ -14,8 +14,8 @@ use price_report::Namer;
 use std::alloc::{AllocError, Global};
 
 /// Appends the picture of curves: a line for each, with its points marked, axes of years and of factors, and a legend with
-/// the names of their owners. `today` is the day of the market that they come from. After want of memory a part of it may
-/// stand.
+/// the names of their owners. `today` is the day of the market that they come from. After want of memory `out` has its old
+/// bytes.
 pub fn picture(
     alloc: Global,
     today: Day,
@@ -23,12 +23,28 @@ pub fn picture(
     namer: &Namer<'_>,
     out: &mut Vec<u8>,
 ) -> Result<(), AllocError>
-    ensures { OnOk result (out.new.items
+    ensures ok { OnOk result (out.new.items
         ≡ out.old.items ++ picture_text namer.now.names.now namer.now.of_object.now today curves.now) }
+    ensures err { OnErr result (out.new.items ≡ out.old.items) }
+{
+    let picture = picture_of(alloc, today, curves, namer)?;
+    out.extend_from_slice(picture.as_slice())
+}
+
+// The picture in a vector of its own.
+fn picture_of(
+    alloc: Global,
+    today: Day,
+    curves: &[CurveValue],
+    namer: &Namer<'_>,
+) -> Result<Vec<u8>, AllocError>
+    ensures { IfOk result (λ picture. picture.items ≡ picture_text namer.now.names.now namer.now.of_object.now today curves.now) }
 {
     let points = points_of(alloc, curves)?;
     let scale = scale_of(today, points.as_slice());
-    push_picture(alloc, today, &scale, curves, namer, out)
+    let mut picture = Vec::new(alloc);
+    push_picture(alloc, today, &scale, curves, namer, &mut picture)?;
+    Ok(picture)
 }
 
 // Appends the picture over a scale.

@@ -1,5 +1,5 @@
 // The points of curves as lines of comma-separated values.
-ghost use Rattle.std.specs.Prelude.{◌≡◌, ◌++◌, OnOk, codes};
+ghost use Rattle.std.specs.Prelude.{◌≡◌, ◌++◌, OnOk, OnErr, IfOk, codes};
 ghost use Rattle.curve_picture.specs.Table.{row_text, rows_text, curve_rows, curves_rows, table_text};
 
 use crate::points::{push_point, push_points};
@@ -7,20 +7,31 @@ use curve_points::{CurveNode, CurveValue};
 use price_report::Namer;
 use std::alloc::{AllocError, Global};
 
-/// Appends the points of curves as lines `curve,day,discount` below that heading. After want of memory a part of them may
-/// stand.
-#[tactic(auto, unfolding(crate::specs::Table::table_text))]
+/// Appends the points of curves as lines `curve,day,discount` below that heading. After want of memory `out` has its old
+/// bytes.
 pub fn table(
     alloc: Global,
     curves: &[CurveValue],
     namer: &Namer<'_>,
     out: &mut Vec<u8>,
 ) -> Result<(), AllocError>
-    ensures { OnOk result (out.new.items
+    ensures ok { OnOk result (out.new.items
         ≡ out.old.items ++ table_text namer.now.names.now namer.now.of_object.now curves.now) }
+    ensures err { OnErr result (out.new.items ≡ out.old.items) }
 {
-    out.extend_from_slice(b"curve,day,discount\n")?;
-    push_curves(alloc, curves, namer, out)
+    let table = table_of(alloc, curves, namer)?;
+    out.extend_from_slice(table.as_slice())
+}
+
+// The table in a vector of its own.
+#[tactic(auto, unfolding(crate::specs::Table::table_text))]
+fn table_of(alloc: Global, curves: &[CurveValue], namer: &Namer<'_>) -> Result<Vec<u8>, AllocError>
+    ensures { IfOk result (λ table. table.items ≡ table_text namer.now.names.now namer.now.of_object.now curves.now) }
+{
+    let mut table = Vec::new(alloc);
+    table.extend_from_slice(b"curve,day,discount\n")?;
+    push_curves(alloc, curves, namer, &mut table)?;
+    Ok(table)
 }
 
 // Appends the rows of the curves.

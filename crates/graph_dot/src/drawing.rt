@@ -1,5 +1,5 @@
 // The graph.
-ghost use Rattle.std.specs.Prelude.{◌≡◌, ◌++◌, OnOk};
+ghost use Rattle.std.specs.Prelude.{◌≡◌, ◌++◌, OnOk, OnErr, IfOk};
 ghost use Rattle.graph_dot.specs.Dot.{graph_text};
 
 use crate::edges::push_edges;
@@ -9,9 +9,8 @@ use crate::texts::{FOOT, HEAD};
 use price_report::Namer;
 use std::alloc::{AllocError, Global};
 
-/// Appends the graph of these nodes and edges, in their orders. An object is named as `namer` says. After want of memory a
-/// part of it may stand.
-#[tactic(auto, unfolding(crate::specs::Dot::graph_text))]
+/// Appends the graph of these nodes and edges, in their orders. An object is named as `namer` says. After want of memory
+/// `out` has its old bytes.
 pub fn graph(
     alloc: Global,
     nodes: &[GraphNode],
@@ -19,11 +18,28 @@ pub fn graph(
     namer: &Namer<'_>,
     out: &mut Vec<u8>,
 ) -> Result<(), AllocError>
-    ensures { OnOk result (out.new.items
+    ensures ok { OnOk result (out.new.items
         ≡ out.old.items ++ graph_text namer.now.names.now namer.now.of_object.now nodes.now edges.now) }
+    ensures err { OnErr result (out.new.items ≡ out.old.items) }
 {
-    out.extend_from_slice(HEAD)?;
-    push_nodes(alloc, nodes, namer, out)?;
-    push_edges(edges, namer, out)?;
-    out.extend_from_slice(FOOT)
+    let text = graph_of(alloc, nodes, edges, namer)?;
+    out.extend_from_slice(text.as_slice())
+}
+
+// The graph in a vector of its own.
+#[tactic(auto, unfolding(crate::specs::Dot::graph_text))]
+fn graph_of(
+    alloc: Global,
+    nodes: &[GraphNode],
+    edges: &[GraphEdge],
+    namer: &Namer<'_>,
+) -> Result<Vec<u8>, AllocError>
+    ensures { IfOk result (λ text. text.items ≡ graph_text namer.now.names.now namer.now.of_object.now nodes.now edges.now) }
+{
+    let mut text = Vec::new(alloc);
+    text.extend_from_slice(HEAD)?;
+    push_nodes(alloc, nodes, namer, &mut text)?;
+    push_edges(edges, namer, &mut text)?;
+    text.extend_from_slice(FOOT)?;
+    Ok(text)
 }

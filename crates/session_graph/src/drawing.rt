@@ -1,5 +1,5 @@
 // The graph of a session.
-ghost use Rattle.std.specs.Prelude.{◌≡◌, ◌++◌, OnOk};
+ghost use Rattle.std.specs.Prelude.{◌≡◌, ◌++◌, OnOk, OnErr};
 ghost use Rattle.session_graph.specs.Graph.{session_graph};
 
 use crate::edges::edges_of;
@@ -12,7 +12,7 @@ use std::alloc::{AllocError, Global};
 use watch_rounds::Picker;
 
 /// Appends the graph of a session: its objects by creation, and the edges of each in their order. Nothing is computed, and
-/// the session stays as it is. After want of memory a part of it may stand. It costs what the objects name, and for each
+/// the session stays as it is. After want of memory `out` has its old bytes. It costs what the objects name, and for each
 /// watcher a look at each number that was given.
 pub fn session_graph<P: Picker>(
     alloc: Global,
@@ -20,6 +20,7 @@ pub fn session_graph<P: Picker>(
     out: &mut Vec<u8>,
 ) -> Result<(), AllocError>
     ensures graph { OnOk result (out.new.items ≡ out.old.items ++ session_graph session.old.standing) }
+    ensures err { OnErr result (out.new.items ≡ out.old.items) }
     ensures same { session.new ≡ session.old }
 {
     let nodes = nodes_of(alloc, session)?;

@@ -98,6 +98,7 @@ impl Store {
     }
 
     /// A lazy object has this value, and it is current.
+    #[inline(always)]
     pub fn keep(&mut self, object: ObjId, value: Value)
         requires { role_at self.old.shape object ≡ Some role.Lazy }
         ensures kept { self.new.kept ≡ slice_set self.old.kept object (with_value (slice_index_or self.old.kept object unpriced) (Some value)) }
@@ -105,8 +106,7 @@ impl Store {
         ensures switch { self.new.deferring ≡ self.old.deferring }
         ensures told { self.new.noticed ≡ self.old.noticed }
     {
-        let flags = self.deferral.as_graph().flags(object);
-        self.deferral.graph().set_flags(object, settled(flags));
+        self.deferral.graph().settle(object);
         self.lasts[object.place()] = Some(value);
     }
 
@@ -325,16 +325,6 @@ fn last_in(lasts: &[Option<Value>], object: ObjId) -> Option<&Value>
     match lasts.get(object.place()) {
         Some(last) => last.as_ref(),
         None => None,
-    }
-}
-
-// The flags of an object that is current.
-fn settled(flags: Flags) -> Flags
-    ensures { result ≡ record flags { current = true } }
-{
-    Flags {
-        current: true,
-        ..flags
     }
 }
 

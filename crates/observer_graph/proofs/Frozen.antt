@@ -3,7 +3,7 @@ use Rattle.std.proofs.Common.{◌≡◌, inl, inr, ℕ, zero, suc, ◌+◌, ◌<
 use Rattle.std.specs.Prelude.{slice_index_or, slice_set, if◌then◌else◌}
 use Rattle.observer_graph.specs.declared.node.Node.{Node}
 use Rattle.observer_graph.specs.declared.node.Flags.{Flags}
-use Rattle.observer_graph.specs.GraphView.{IsLazy}
+use Rattle.observer_graph.specs.GraphView.{IsLazy, flags_of}
 use Rattle.observer_graph.specs.Late.{frozen_of, frozen_count}
 use Rattle.observer_graph.specs.Notice.{Settles, unsettled}
 use Rattle.observer_graph.specs.Change.{flagged}
@@ -88,6 +88,13 @@ pub count_flagged : (nodes : List (Option Node)) (o count : ℕ) (flags : Flags)
 count_flagged nodes o count flags lazy low counted =
     let e = count_set nodes o (flagged flags (slice_index_or nodes o None)) low in
     let b = ap one_if (flagged_frozen flags (slice_index_or nodes o None) lazy) in omega arith
+
+-- a lazy node that is current
+pub count_settled : (nodes : List (Option Node)) (o : ℕ) → IsLazy (slice_index_or nodes o None) → o < length nodes
+    → frozen_count nodes ≡ frozen_count (slice_set nodes o
+        (flagged (record (flags_of (slice_index_or nodes o None)) { current = true }) (slice_index_or nodes o None)))
+count_settled nodes o lazy low =
+    count_flagged nodes o (frozen_count nodes) (record (flags_of (slice_index_or nodes o None)) { current = true }) lazy low refl
 
 -- a node less
 pub count_removed : (nodes : List (Option Node)) (o count : ℕ) → o < length nodes

@@ -1,8 +1,8 @@
 // The graph of observers and its calls.
-ghost use Rattle.std.specs.Prelude.{◌≡◌, ◌↔◌, ◌<◌, ◌≤◌, ◌+◌, ℕ, [], ◌∷◌, length, max, IsTrue, IfOk, IfSome, IfNone, OnOk, OnErr, is_some, if◌then◌else◌};
+ghost use Rattle.std.specs.Prelude.{◌≡◌, ◌↔◌, ◌<◌, ◌≤◌, ◌+◌, ℕ, [], ◌∷◌, length, max, true, IsTrue, IfOk, IfSome, IfNone, OnOk, OnErr, is_some, if◌then◌else◌};
 ghost use Rattle.walks.specs.Walk.{Among};
 ghost use Rattle.observer_graph.specs.declared.node.Role.TheVariants.{Lazy};
-ghost use Rattle.observer_graph.specs.GraphView.{IsLive, IsLazy, IsPair, IsWhole, node_at, flags_at, is_source};
+ghost use Rattle.observer_graph.specs.GraphView.{IsLive, IsLazy, IsPair, IsWhole, node_at, flags_of, flags_at, is_source};
 ghost use Rattle.observer_graph.specs.Notice.{IsLeast, IsUser, Reaches, Tells, with_stale};
 ghost use Rattle.observer_graph.specs.Late.{IsClear, IsLateOf};
 ghost use Rattle.observer_graph.specs.Noticed.{IsRising};
@@ -273,6 +273,7 @@ impl Graph {
     }
 
     /// Sets the flags of a lazy node. Nobody is told. Takes no memory.
+    #[inline(always)]
     pub fn set_flags(&mut self, node: ObjId, flags: Flags)
         requires { IsLazy (node_at self.old node) }
         ensures { self.new ≡ with_flags node flags self.old }
@@ -280,6 +281,15 @@ impl Graph {
         let was = is_frozen(&self.nodes[node.place()]);
         self.frozen = recounted(self.frozen, was, flags.frozen);
         set_flags_of(&mut self.nodes[node.place()], flags);
+    }
+
+    /// A lazy node is current. Nobody is told. Takes no memory.
+    #[inline(always)]
+    pub fn settle(&mut self, node: ObjId)
+        requires { IsLazy (node_at self.old node) }
+        ensures { self.new ≡ with_flags node (record (flags_at self.old node) { current = true }) self.old }
+    {
+        settle_one(&mut self.nodes[node.place()]);
     }
 
     /// The node is not current, whatever its role. Nobody is told. Takes no memory.
@@ -364,6 +374,15 @@ fn takes_flags(role: Role) -> bool
         Role::Forwarder => false,
         Role::Lazy => true,
         Role::Watcher => false,
+    }
+}
+
+// A live node is current.
+fn settle_one(node: &mut Option<Node>)
+    ensures { node.new ≡ flagged (record (flags_of node.old) { current = true }) node.old }
+{
+    if let Some(live) = node {
+        live.flags.current = true;
     }
 }
 

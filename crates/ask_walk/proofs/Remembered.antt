@@ -15,7 +15,7 @@ use Rattle.desk_model.specs.Links.{IsLinked}
 use Rattle.desk_model.proofs.Bounds.{Ranks, ranks_of}
 use Rattle.desk_model.proofs.Locality.{input_same}
 use Rattle.ask_walk.specs.declared.reader.Look.TheVariants.{Is, First}
-use Rattle.ask_walk.specs.Reads.{recalled, Remembers, and_is, and_sum, given_by}
+use Rattle.ask_walk.specs.Reads.{recalled, Remembers, and_is, and_sum, given_by, passed_to}
 use Rattle.ask_walk.proofs.Stacks.{Rising, rising_length, turned}
 
 -- what an object gives is given over what its inputs give
@@ -25,6 +25,45 @@ input_is m links o =
     let ranks = ranks_of m links in
     let low = ranks.2 o in
     input_same m m ranks.0 ranks.1 (suc (length m.objects)) (suc (suc (length m.objects))) o low (omega arith) (record { terms = refl; day = λ is. refl }) (λ forwards x near. record { terms = refl; day = λ is. refl })
+
+-- what is passed on is the entry of what is named
+passed_same : (read : ℕ → Entry) (o : ℕ) (terms : Option Terms) → read o ≡ given read o terms → read (passed_to o terms) ≡ read o
+passed_same read o None is = refl
+passed_same read o (Some (Quote value)) is = refl
+passed_same read o (Some (Derived minus first second)) is = refl
+passed_same read o (Some (Handle kind None)) is = refl
+passed_same read o (Some (Handle kind (Some target))) is = sym is
+passed_same read o (Some (Index terms fixings)) is = sym is
+passed_same read o (Some (Engine curve)) is = sym is
+passed_same read o (Some (Curve terms)) is = refl
+passed_same read o (Some (Implied curve reference)) is = refl
+passed_same read o (Some (Stock quote)) is = refl
+passed_same read o (Some (Composite parts)) is = refl
+passed_same read o (Some (Flows flows engine)) is = refl
+
+pub input_passed : (m : Market) → IsLinked m → (o : ℕ) → input_at m (passed_to o (terms_at m o)) ≡ input_at m o
+input_passed m links o = passed_same (input_at m) o (terms_at m o) (input_is m links o)
+
+passed_edge : (o : ℕ) (terms : Option Terms) → (passed_to o terms ≡ o) ⊎ Among (passed_to o terms) (edges_of terms)
+passed_edge o None = inl refl
+passed_edge o (Some (Quote value)) = inl refl
+passed_edge o (Some (Derived minus first second)) = inl refl
+passed_edge o (Some (Handle kind None)) = inl refl
+passed_edge o (Some (Handle handle.TheVariants.Quote (Some target))) = inr (inl refl)
+passed_edge o (Some (Handle handle.TheVariants.Curve (Some target))) = inr (inl refl)
+passed_edge o (Some (Index terms fixings)) = inr (input_edge (Index terms fixings) terms.curve (inl refl))
+passed_edge o (Some (Engine curve)) = inr (inl refl)
+passed_edge o (Some (Curve terms)) = inl refl
+passed_edge o (Some (Implied curve reference)) = inl refl
+passed_edge o (Some (Stock quote)) = inl refl
+passed_edge o (Some (Composite parts)) = inl refl
+passed_edge o (Some (Flows flows engine)) = inl refl
+
+pub passed_within : (m : Market) → IsLinked m → (o : ℕ) → o < length m.objects → passed_to o (terms_at m o) < length m.objects
+passed_within m links o low = elim (passed_edge o (terms_at m o)) [
+  | inl same ↦ subst (λ (x : ℕ). x < length m.objects) (sym same) low
+  | inr among ↦ links.within o (passed_to o (terms_at m o)) among
+]
 
 -- one look gives what the definition gives
 Knows : (ℕ → Option Entry) → (ℕ → Entry) → Type 0

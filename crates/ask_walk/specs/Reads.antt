@@ -55,3 +55,18 @@ given_by memo o (Some (Implied curve reference)) = Is (Needs o)
 given_by memo o (Some (Stock quote)) = Is (Needs o)
 given_by memo o (Some (Composite parts)) = Is (Needs o)
 given_by memo o (Some (Flows flows engine)) = Is (Needs o)
+
+-- whose entry an object with these terms gives: that of what a handle, an index or an engine names, else its own
+abbrev pub passed_to : ℕ → Option Terms → ℕ
+passed_to o None = o
+passed_to o (Some (Quote value)) = o
+passed_to o (Some (Derived minus first second)) = o
+passed_to o (Some (Handle kind None)) = o
+passed_to o (Some (Handle kind (Some target))) = target
+passed_to o (Some (Index terms fixings)) = terms.curve
+passed_to o (Some (Engine curve)) = curve
+passed_to o (Some (Curve terms)) = o
+passed_to o (Some (Implied curve reference)) = o
+passed_to o (Some (Stock quote)) = o
+passed_to o (Some (Composite parts)) = o
+passed_to o (Some (Flows flows engine)) = o

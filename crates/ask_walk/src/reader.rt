@@ -7,7 +7,7 @@ ghost use Rattle.desk_model.specs.Links.{IsLinked};
 ghost use Rattle.std.specs.Prelude.{ℤ, ◌-ℤ◌, ◌+ℤ◌, if◌then◌else◌};
 ghost use Rattle.object_store.specs.Slots.{market_of};
 ghost use Rattle.object_store.specs.Objects.{quoted};
-ghost use Rattle.ask_walk.specs.Reads.{recalled, Remembers, given_by, quote_entry, and_sum, and_is};
+ghost use Rattle.ask_walk.specs.Reads.{recalled, Remembers, given_by, passed_to, quote_entry, and_sum, and_is};
 
 use day_number::Day;
 use desk_model::Entry;
@@ -41,6 +41,7 @@ pub fn read(
     ensures remembers { Remembers (market_of today objects.now) scratch.new.entries }
     ensures positions { scratch.new.positions ≡ scratch.old.positions }
 {
+    let object = passed_to(objects, object);
     match scratch.entry(object) {
         Some(entry) => return Ok(entry),
         None => {}
@@ -48,6 +49,30 @@ pub fn read(
     match look_at(objects, scratch, object) {
         Look::Is(entry) => Ok(entry),
         Look::First(_) => read_through(alloc, today, objects, scratch, object),
+    }
+}
+
+// Whose entry an object gives: that of what a handle, an index or an engine names, else its own.
+fn passed_to(objects: &Objects, object: ObjId) -> ObjId
+    ensures { result ≡ passed_to object (terms_in (slice_index_or objects.now object Free)) }
+{
+    match objects.terms(object) {
+        None => object,
+        Some(terms) => match terms {
+            Terms::Handle { target, .. } => match target {
+                None => object,
+                Some(reached) => *reached,
+            },
+            Terms::Index(index, _) => index.curve,
+            Terms::Engine { curve } => *curve,
+            Terms::Quote(_)
+            | Terms::Derived { .. }
+            | Terms::Curve(_)
+            | Terms::Implied { .. }
+            | Terms::Stock { .. }
+            | Terms::Composite(_)
+            | Terms::Flows(..) => object,
+        },
     }
 }
 

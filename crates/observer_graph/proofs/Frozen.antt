@@ -92,7 +92,7 @@ count_flagged nodes o count flags lazy low counted =
 -- a lazy node that is current
 pub count_settled : (nodes : List (Option Node)) (o : ℕ) → IsLazy (slice_index_or nodes o None) → o < length nodes
     → frozen_count nodes ≡ frozen_count (slice_set nodes o
-        (flagged (record (flags_of (slice_index_or nodes o None)) { current = true }) (slice_index_or nodes o None)))
+    (flagged (record (flags_of (slice_index_or nodes o None)) { current = true }) (slice_index_or nodes o None)))
 count_settled nodes o lazy low =
     count_flagged nodes o (frozen_count nodes) (record (flags_of (slice_index_or nodes o None)) { current = true }) lazy low refl
 

@@ -1,5 +1,6 @@
 pub mod Announced
 pub mod Answered
+pub mod Descent
 pub mod Empty
 pub mod Extends
 pub mod Fronted

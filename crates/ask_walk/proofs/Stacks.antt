@@ -23,5 +23,8 @@ turned stack x = reverse-append stack (x ∷ [])
 pub measure_push : (opens L a b : ℕ) → b ≡ a + 1 → a ≤ suc L → opens * (L + 3) + (L + 2 - b) < opens * (L + 3) + (L + 2 - a)
 measure_push opens L a b is le = omega arith
 
+pub measure_more : (opens L a b : ℕ) → a < b → a ≤ suc L → opens * (L + 3) + (L + 2 - b) < opens * (L + 3) + (L + 2 - a)
+measure_more opens L a b more le = omega arith
+
 pub measure_value : (opens after L a b : ℕ) → after + 1 ≡ opens → after * (L + 3) + (L + 2 - b) < opens * (L + 3) + (L + 2 - a)
 measure_value opens after L a b is = let e : opens * (L + 3) ≡ (after + 1) * (L + 3) = ap (λ (n : ℕ). n * (L + 3)) (sym is) in omega arith

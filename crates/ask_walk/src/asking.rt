@@ -1,21 +1,22 @@
 // An ask: what it uses and has no current value is computed, by an explicit stack.
-ghost use Rattle.std.specs.Prelude.{◌≡◌, ◌≢◌, ◌⊎◌, ◌<◌, ◌^◌, ℤ, true, false, List, length, None, Some, Ok, Err, IsOk, IfOk, OnErr, slice_index_or, is_some};
+ghost use Rattle.std.specs.Prelude.{◌≡◌, ◌≢◌, ◌⊎◌, ◌<◌, ◌^◌, ℤ, true, false, List, length, None, Some, Ok, Err, IsOk, IfOk, IfSome, OnErr, slice_index_or, is_some};
 ghost use Rattle.std.specs.Option.{option_copied};
 ghost use Rattle.desk_terms.specs.declared.terms.Terms.{Terms};
 ghost use Rattle.desk_terms.specs.Bench.{counted};
 ghost use Rattle.desk_terms.specs.Reading.{IsWellFormed};
 ghost use Rattle.desk_model.specs.Market.{terms_at};
 ghost use Rattle.desk_model.specs.declared.slot.Slot.{Slot};
-ghost use Rattle.desk_model.specs.Links.{is_lazy_at, IsWhole};
+ghost use Rattle.desk_model.specs.Links.{IsLinked, is_lazy_at, IsWhole};
 ghost use Rattle.desk_model.specs.Uses.{reading_at};
 ghost use Rattle.desk_model.specs.State.{unpriced, held};
-ghost use Rattle.object_store.specs.Slots.{market_of, state_of, is_now};
+ghost use Rattle.object_store.specs.Slots.{market_of, state_of, is_now, is_at_hand};
 ghost use Rattle.object_store.specs.Store.{registry_of};
 ghost use Rattle.object_store.specs.Scratch.{AreClear, IsEmpty};
 ghost use Rattle.object_store.specs.Shape.{IsJoined, role_at};
 ghost use Rattle.observer_graph.specs.declared.node.Role.TheVariants as role;
 ghost use Rattle.ask_walk.specs.Reads.{Remembers};
 ghost use Rattle.ask_walk.specs.Begun.{Begun};
+ghost use Rattle.ask_walk.specs.Steps.{NeedsFirst, Descends};
 ghost use Rattle.ask_walk.specs.Asks.{Asks, Walks, Stops, MayAsk, Stays, Computes, lacking, walk_mark, held_answer};
 
 use crate::steps::{Step, next};
@@ -174,14 +175,14 @@ fn walk<B: Bench>(
     ensures begun { Begun objects.now store.new.kept scratch.new.positions }
 {
     let mut waiting: Vec<ObjId> = Vec::new(alloc);
-    let mut top = object;
+    let mut top = descend(today, objects, store, object, &mut waiting)?;
     let mut runs: u64 = 0;
     loop {
         match next(alloc, today, objects, store, scratch, top, inputs)? {
             Step::Stops(cause) => return Ok(answered(Some(cause), mark, runs)),
             Step::First(needed) => {
                 waiting.push(top)?;
-                top = needed;
+                top = descend(today, objects, store, needed, &mut waiting)?;
             }
             Step::Ready => {
                 let cause = compute(alloc, today, objects, store, top, inputs, bench)?;
@@ -196,6 +197,51 @@ fn walk<B: Bench>(
             }
         }
     }
+}
+
+// Goes down from an object by first members that have to be computed, each of which waits for the next; the last of them.
+#[inline(always)]
+fn descend(
+    today: Day,
+    objects: &Objects,
+    store: &Store,
+    object: ObjId,
+    waiting: &mut Vec<ObjId>,
+) -> Result<ObjId, AllocError>
+    requires linked { IsLinked (market_of today objects.now) }
+    ensures descends { IfOk result (λ low. Descends (market_of today objects.now) store.now.kept waiting.old.items object waiting.new.items low) }
+{
+    let mut top = object;
+    while let Some(needed) = first_needed(objects, store, top) {
+        waiting.push(top)?;
+        top = needed;
+    }
+    Ok(top)
+}
+
+// The first member of a composite, where it has to be computed.
+#[inline(always)]
+fn first_needed(objects: &Objects, store: &Store, object: ObjId) -> Option<ObjId>
+    ensures { IfSome result (λ y. (today : ℤ) → NeedsFirst (market_of today objects.now) store.now.kept object y) }
+{
+    match objects.terms(object) {
+        Some(Terms::Composite(parts)) => match parts.items() {
+            [part, ..] => unless_at_hand(store, part.member),
+            [] => None,
+        },
+        _ => None,
+    }
+}
+
+// An object that has to be computed; none where it is at hand.
+#[inline(always)]
+fn unless_at_hand(store: &Store, object: ObjId) -> Option<ObjId>
+    ensures { IfSome result (λ y. (y ≡ object) × (is_at_hand store.now.kept object ≡ false)) }
+{
+    if store.is_at_hand(object) {
+        return None;
+    }
+    Some(object)
 }
 
 /// One computation: the value is stored, or the cause is answered.

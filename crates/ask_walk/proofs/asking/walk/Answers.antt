@@ -10,17 +10,33 @@ use Rattle.ask_walk.proofs.Loop.{Asking, left, left_refused, top_lazy, top_withi
 use Rattle.desk_model.specs.Market.{terms_at}
 use Rattle.object_store.specs.Shape.{Shape, role_at}
 use Rattle.object_store.proofs.Joined.{lazy_there}
-use Rattle.ask_walk.proofs.Stacks.{measure_push, measure_value}
+use Rattle.ask_walk.proofs.Stacks.{measure_more, measure_value}
+use Rattle.ask_walk.proofs.Descent.{asking_down, descends_longer}
 use Rattle.ask_walk.proofs.Fronted.{on_err, stopped, stopped_in_bench}
 use Rattle.ask_walk.proofs.Fronts.{begun_valued, begun_refused}
 use Rattle.ask_walk.proofs.asking.walk.Goals as goal
 
+pub descend-requires : goal.descend-requires
+descend-requires g c = record { linked = c.requires.may.whole.links }
+
+pub descend-requires-in-First : goal.descend-requires-in-First
+descend-requires-in-First g c = record { linked = c.loop-waiting.invariant.1.may.whole.links }
+
+pub returns-in_err-top-clause-stops : goal.returns-in_err-top-clause-stops
+returns-in_err-top-clause-stops g c = on_err _ (stopped (g.B.Bench.calc c.args.bench.now) (state_of c.args.today c.args.objects.now c.args.store.now.kept (registry_of c.args.store.now)) c.args.object (g.B.Bench.count c.args.bench.now) (g.B.Bench.log c.args.bench.now) (c.args.object ∷ []) c.args.store.now.kept 0 (g.B.Bench.count c.args.bench.now) (g.B.Bench.log c.args.bench.now)
+    (begins (g.B.Bench.calc c.args.bench.now) (state_of c.args.today c.args.objects.now c.args.store.now.kept (registry_of c.args.store.now)) c.args.object (g.B.Bench.count c.args.bench.now) (g.B.Bench.log c.args.bench.now) c.requires.may c.requires.free c.requires.stale))
+
+pub returns-in_err-top-clause-stays : goal.returns-in_err-top-clause-stays
+returns-in_err-top-clause-stays g c = left (g.B.Bench.calc c.args.bench.now) (state_of c.args.today c.args.objects.now c.args.store.now.kept (registry_of c.args.store.now)) c.args.object (g.B.Bench.count c.args.bench.now) (g.B.Bench.log c.args.bench.now) (c.args.object ∷ []) c.args.store.now.kept 0 (g.B.Bench.count c.args.bench.now) (g.B.Bench.log c.args.bench.now)
+    (begins (g.B.Bench.calc c.args.bench.now) (state_of c.args.today c.args.objects.now c.args.store.now.kept (registry_of c.args.store.now)) c.args.object (g.B.Bench.count c.args.bench.now) (g.B.Bench.log c.args.bench.now) c.requires.may c.requires.free c.requires.stale)
+
 pub loop-waiting-init : goal.loop-waiting-init
 loop-waiting-init g c = (
   refl,
-  subst (λ (st : List ℕ). Asking (g.B.Bench.calc c.args.bench.now) (state_of c.args.today c.args.objects.now c.args.store.now.kept (registry_of c.args.store.now)) c.args.object (g.B.Bench.count c.args.bench.now) (g.B.Bench.log c.args.bench.now) (st ++ c.args.object ∷ []) c.args.store.now.kept 0 (g.B.Bench.count c.args.bench.now) (g.B.Bench.log c.args.bench.now))
-      (sym c.new-waiting.ensures.items)
-      (begins (g.B.Bench.calc c.args.bench.now) (state_of c.args.today c.args.objects.now c.args.store.now.kept (registry_of c.args.store.now)) c.args.object (g.B.Bench.count c.args.bench.now) (g.B.Bench.log c.args.bench.now) c.requires.may c.requires.free c.requires.stale),
+  asking_down (g.B.Bench.calc c.args.bench.now) (state_of c.args.today c.args.objects.now c.args.store.now.kept (registry_of c.args.store.now)) c.args.object (g.B.Bench.count c.args.bench.now) (g.B.Bench.log c.args.bench.now) c.args.store.now.kept 0 (g.B.Bench.count c.args.bench.now) (g.B.Bench.log c.args.bench.now)
+      c.new-waiting.result.items c.args.object c.descend.new.waiting.items c.in_ok-top.top c.in_ok-top.ensures.descends
+      (subst (λ (st : List ℕ). Asking (g.B.Bench.calc c.args.bench.now) (state_of c.args.today c.args.objects.now c.args.store.now.kept (registry_of c.args.store.now)) c.args.object (g.B.Bench.count c.args.bench.now) (g.B.Bench.log c.args.bench.now) (st ++ c.args.object ∷ []) c.args.store.now.kept 0 (g.B.Bench.count c.args.bench.now) (g.B.Bench.log c.args.bench.now))
+      (sym c.new-waiting.ensures.items) (begins (g.B.Bench.calc c.args.bench.now) (state_of c.args.today c.args.objects.now c.args.store.now.kept (registry_of c.args.store.now)) c.args.object (g.B.Bench.count c.args.bench.now) (g.B.Bench.log c.args.bench.now) c.requires.may c.requires.free c.requires.stale)),
   c.requires.remembers,
   c.requires.begun,
   refl,
@@ -52,8 +68,10 @@ loop-waiting-smaller-in-First g c =
     let stack = c.loop-waiting.waiting.items in
     let a = c.loop-waiting.invariant.1 in
     let x = length-append stack (c.loop-waiting.top ∷ []) in
-    measure_push (open_of c.loop-waiting.store.kept) (length c.args.objects.now) (length stack + 1) (length c.push.new.self.items + 1)
-    (let e = ap length c.in_ok-push-in-First.ensures.items in omega arith)
+    let longer = descends_longer (market_of c.args.today c.args.objects.now) c.loop-waiting.store.kept c.push.new.self.items c.in-First.needed
+    c.descend-in-First.new.waiting.items c.in_ok-top-in-First.top c.in_ok-top-in-First.ensures.descends in
+    measure_more (open_of c.loop-waiting.store.kept) (length c.args.objects.now) (length stack + 1) (length c.descend-in-First.new.waiting.items + 1)
+    (let e = ap length c.in_ok-push-in-First.ensures.items in omega (arith, e, x, longer))
     (let b = stack_bound calc s c.args.object count0 log0 stack c.loop-waiting.top c.loop-waiting.store.kept c.loop-waiting.runs (g.B.Bench.count c.loop-waiting.bench) (g.B.Bench.log c.loop-waiting.bench) a in omega arith)
 
 pub loop-waiting-preserved-in-First : goal.loop-waiting-preserved-in-First
@@ -65,13 +83,30 @@ loop-waiting-preserved-in-First g c =
     let stack = c.loop-waiting.waiting.items in
     let a = c.loop-waiting.invariant.1 in (
       c.loop-waiting.invariant.0,
-      subst (λ (st : List ℕ). Asking (g.B.Bench.calc c.args.bench.now) (state_of c.args.today c.args.objects.now c.args.store.now.kept (registry_of c.args.store.now)) c.args.object (g.B.Bench.count c.args.bench.now) (g.B.Bench.log c.args.bench.now) (st ++ c.in-First.needed ∷ []) c.loop-waiting.store.kept c.loop-waiting.runs (g.B.Bench.count c.loop-waiting.bench) (g.B.Bench.log c.loop-waiting.bench)) (sym c.in_ok-push-in-First.ensures.items)
-          (pushes calc s c.args.object count0 log0 stack c.loop-waiting.top c.loop-waiting.store.kept c.loop-waiting.runs (g.B.Bench.count c.loop-waiting.bench) (g.B.Bench.log c.loop-waiting.bench) a c.in-First.needed (sym c.in_ok-cause.ensures.next ∙ ap (next_with c.next.new.inputs) c.in-First.is)),
+      asking_down (g.B.Bench.calc c.args.bench.now) (state_of c.args.today c.args.objects.now c.args.store.now.kept (registry_of c.args.store.now)) c.args.object (g.B.Bench.count c.args.bench.now) (g.B.Bench.log c.args.bench.now) c.loop-waiting.store.kept c.loop-waiting.runs (g.B.Bench.count c.loop-waiting.bench) (g.B.Bench.log c.loop-waiting.bench)
+          c.push.new.self.items c.in-First.needed c.descend-in-First.new.waiting.items c.in_ok-top-in-First.top c.in_ok-top-in-First.ensures.descends
+          (subst (λ (st : List ℕ). Asking (g.B.Bench.calc c.args.bench.now) (state_of c.args.today c.args.objects.now c.args.store.now.kept (registry_of c.args.store.now)) c.args.object (g.B.Bench.count c.args.bench.now) (g.B.Bench.log c.args.bench.now) (st ++ c.in-First.needed ∷ []) c.loop-waiting.store.kept c.loop-waiting.runs (g.B.Bench.count c.loop-waiting.bench) (g.B.Bench.log c.loop-waiting.bench)) (sym c.in_ok-push-in-First.ensures.items)
+          (pushes calc s c.args.object count0 log0 stack c.loop-waiting.top c.loop-waiting.store.kept c.loop-waiting.runs (g.B.Bench.count c.loop-waiting.bench) (g.B.Bench.log c.loop-waiting.bench) a c.in-First.needed (sym c.in_ok-cause.ensures.next ∙ ap (next_with c.next.new.inputs) c.in-First.is))),
       c.in_ok-cause.ensures.remembers,
       c.in_ok-cause.ensures.begun,
       c.loop-waiting.invariant.4,
       c.loop-waiting.invariant.5,
     )
+
+pub returns-in_err-top-in-First-clause-same : goal.returns-in_err-top-in-First-clause-same
+returns-in_err-top-in-First-clause-same g c = c.loop-waiting.invariant.0
+
+pub returns-in_err-top-in-First-clause-stops : goal.returns-in_err-top-in-First-clause-stops
+returns-in_err-top-in-First-clause-stops g c = on_err _ (stopped (g.B.Bench.calc c.args.bench.now) (state_of c.args.today c.args.objects.now c.args.store.now.kept (registry_of c.args.store.now)) c.args.object (g.B.Bench.count c.args.bench.now) (g.B.Bench.log c.args.bench.now) (c.loop-waiting.waiting.items ++ c.loop-waiting.top ∷ []) c.loop-waiting.store.kept c.loop-waiting.runs (g.B.Bench.count c.loop-waiting.bench) (g.B.Bench.log c.loop-waiting.bench) c.loop-waiting.invariant.1)
+
+pub returns-in_err-top-in-First-clause-stays : goal.returns-in_err-top-in-First-clause-stays
+returns-in_err-top-in-First-clause-stays g c = left (g.B.Bench.calc c.args.bench.now) (state_of c.args.today c.args.objects.now c.args.store.now.kept (registry_of c.args.store.now)) c.args.object (g.B.Bench.count c.args.bench.now) (g.B.Bench.log c.args.bench.now) (c.loop-waiting.waiting.items ++ c.loop-waiting.top ∷ []) c.loop-waiting.store.kept c.loop-waiting.runs (g.B.Bench.count c.loop-waiting.bench) (g.B.Bench.log c.loop-waiting.bench) c.loop-waiting.invariant.1
+
+pub returns-in_err-top-in-First-clause-shape : goal.returns-in_err-top-in-First-clause-shape
+returns-in_err-top-in-First-clause-shape g c = c.loop-waiting.invariant.4
+
+pub returns-in_err-top-in-First-clause-registry : goal.returns-in_err-top-in-First-clause-registry
+returns-in_err-top-in-First-clause-registry g c = c.loop-waiting.invariant.5
 
 pub returns-in_err-push-in-First-clause-same : goal.returns-in_err-push-in-First-clause-same
 returns-in_err-push-in-First-clause-same g c = c.loop-waiting.invariant.0

@@ -1,4 +1,4 @@
-use Rattle.std.proofs.Common.{◌≡◌, max, refl, ap, subst}
+use Rattle.std.proofs.Common.{◌≡◌, max, subst}
 use Rattle.std.proofs.lemmas.Result.{on_ok_weaker}
 use Rattle.observer_graph.specs.GraphView.{GraphView}
 use Rattle.object_store.proofs.Kept.{spared_view}

@@ -1,7 +1,7 @@
 use Rattle.std.specs.Prelude.{vec_capacity, slice_index_or, None, true}
 use Rattle.observer_graph.specs.Change.{flagged}
 use Rattle.observer_graph.proofs.Numbers.{noticed_set, room_set}
-use Rattle.std.proofs.Common.{ap, sym, subst, ◌∙◌}
+use Rattle.std.proofs.Common.{sym, subst, ◌∙◌}
 use Rattle.observer_graph.specs.GraphView.{GraphView, IsLazy, node_at, flags_of}
 use Rattle.observer_graph.specs.Walks.{graph_of}
 use Rattle.observer_graph.proofs.Wholes.{is_live, live_within, node_read, stands_flagged}

@@ -1,5 +1,5 @@
 -- A printed field is read back.
-use Rattle.std.proofs.Common.{◌≡◌, ℕ, ◌<◌, ◌≤◌, Bool, true, false, not, ◌&&◌, ◌||◌, cond, List, [], length, nat_le, slice_index_or, Option, Some, None, is_some, Ok, ℤ, unsigned_abs, codes, refl, sym, ap, subst, ◌∙◌, ⊎_elim, arith, All, lit<}
+use Rattle.std.proofs.Common.{◌≡◌, ℕ, ◌<◌, ◌≤◌, Bool, true, false, not, ◌&&◌, ◌||◌, cond, List, [], length, nat_le, slice_index_or, Option, Some, None, is_some, Ok, slice_get, ℤ, unsigned_abs, codes, refl, sym, ap, subst, ◌∙◌, ⊎_elim, arith, All, lit<}
 use Rattle.std.specs.Str.{bytes_eq}
 use Rattle.std.proofs.lemmas.Bool.{cases_Bool}
 use Rattle.std.proofs.lemmas.Option.{slice_get-get_or}
@@ -45,6 +45,16 @@ pub nothing_back : (names : List (List ℕ)) (an : List ℕ) (word : List ℕ) �
 unfolding fault_of field_of plain_field
 nothing_back names an word = record { good = refl; read = refl }
 
+-- a number within its limit
+pub number_said : (names : List (List ℕ)) (an word : List ℕ) (units : ℤ) → number_within 9 1_000_000_000_000_000_000 word ≡ Some units → Back names an kind.Number (Number units) word
+unfolding fault_of field_of plain_field
+number_said names an word units e = record { good = ap (λ o. unless (is_some o) fault.Number) e; read = ap (λ o. Ok (number_field o, names)) e }
+
+-- a weight
+pub weight_said : (names : List (List ℕ)) (an word : List ℕ) (weight : ℤ) → weight_of word ≡ Some weight → Back names an kind.Weight (Weight weight) word
+unfolding fault_of field_of plain_field
+weight_said names an word weight e = record { good = ap (λ o. unless (is_some o) fault.Number) e; read = ap (λ o. Ok (weight_field o, names)) e }
+
 third_true : (a b c : Bool) → (a && b && c) ≡ true → c ≡ true
 third_true true true c h = h
 third_true true false c h = absurd (cc)
@@ -76,17 +86,21 @@ module _ (names : List (List ℕ)) (an : List ℕ) (sound : IsNames names) where
   name_is : (name : ℕ) → name < length names → is_name (name_text names name) ≡ true
   name_is name lt = IsName-at names (name_text names name) sound name (slice_get-get_or names name [] lt)
 
+  -- a name that is kept is read as its number
+  pub name_said : (name : ℕ) (word : List ℕ) → slice_get names name ≡ Some word → Back names an kind.Name (Name name) word
+  unfolding fault_of field_of
+  name_said name word at = record {
+    good = ap (λ b. unless b fault.Name) (IsName-at names word sound name at);
+    read = ap (λ r. r >>= (λ n. Ok (named_field kind.Name n.0, n.1))) (name_again names name word sound at);
+  }
+
   name_numbered : (name : ℕ) → name < length names → numbered names (name_text names name) ≡ Ok (name, names)
   name_numbered name lt = name_again names name (name_text names name) sound (slice_get-get_or names name [] lt)
 
   name_back : (name : ℕ) → name < length names → Printed names an kind.Name (Name name)
-  unfolding fault_of field_of
   name_back name lt = record {
     word = name_word (name_text names name) (name_is name lt);
-    back = record {
-      good = ap (λ b. unless b fault.Name) (name_is name lt);
-      read = ap (λ r. r >>= (λ n. Ok (named_field kind.Name n.0, n.1))) (name_numbered name lt);
-    };
+    back = name_said name (name_text names name) (slice_get-get_or names name [] lt);
   }
 
   action_back : (action : ℕ) → slice_index_or an action (length names) < length names → Printed names an kind.Action (Action action)
@@ -128,13 +142,10 @@ module _ (names : List (List ℕ)) (an : List ℕ) (sound : IsNames names) where
       }
 
   number_back : (units : ℤ) → unsigned_abs units ≤ 1_000_000_000_000_000_000 → Printed names an kind.Number (Number units)
-  unfolding fault_of field_of plain_field
-  number_back units fits =
-      let e : number_within 9 1_000_000_000_000_000_000 (decimal_text units 9) ≡ Some units = decimal_again units 1_000_000_000_000_000_000 (lit< tt) fits in
-      record {
-        word = decimal_word units 9 (omega arith);
-        back = record { good = ap (λ o. unless (is_some o) fault.Number) e; read = ap (λ o. Ok (number_field o, names)) e };
-      }
+  number_back units fits = record {
+    word = decimal_word units 9 (omega arith);
+    back = number_said names an (decimal_text units 9) units (decimal_again units 1_000_000_000_000_000_000 (lit< tt) fits);
+  }
 
   rate_back : (units : ℤ) → unsigned_abs units ≤ 10_000_000_000 → Printed names an kind.Rate (Number units)
   unfolding fault_of field_of plain_field
@@ -146,13 +157,10 @@ module _ (names : List (List ℕ)) (an : List ℕ) (sound : IsNames names) where
       }
 
   weight_back : (weight : ℤ) → unsigned_abs weight ≤ 1_000_000 → Printed names an kind.Weight (Weight weight)
-  unfolding fault_of field_of plain_field
-  weight_back weight fits =
-      let e : weight_of (decimal_text weight 0) ≡ Some weight = weight_again weight fits in
-      record {
-        word = decimal_word weight 0 (omega arith);
-        back = record { good = ap (λ o. unless (is_some o) fault.Number) e; read = ap (λ o. Ok (weight_field o, names)) e };
-      }
+  weight_back weight fits = record {
+    word = decimal_word weight 0 (omega arith);
+    back = weight_said names an (decimal_text weight 0) weight (weight_again weight fits);
+  }
 
   day_back : (day : ℤ) → IsDayNumber day → Printed names an kind.Day (Day day)
   unfolding fault_of field_of plain_field

@@ -127,7 +127,7 @@ value_within : (unset : Bool) (o : Option ℤ) → IsValue o → IsValue (cond u
 value_within true o h = tt
 value_within false o h = h
 
-weight_fits : (word : List ℕ) (u : ℤ) → weight_of word ≡ Some u → unsigned_abs u ≤ 1_000_000
+pub weight_fits : (word : List ℕ) (u : ℤ) → weight_of word ≡ Some u → unsigned_abs u ≤ 1_000_000
 unfolding weight_of
 weight_fits word u h = within_fits 1_000_000 u (decimal_value word 0) (passed (nat_le (length (unsigned_part word)) 7) (number_within 0 1_000_000 word) u h).1
 

@@ -128,20 +128,28 @@ module _ (names : List (List ℕ)) (an : List ℕ) (sound : IsNames names) (know
         third = c.back;
       }
 
-run_read : (names begun : List (List ℕ)) (an : List ℕ) (v : Verb) (p : Parts) (c : Command) (w : Words names an (row_of v) p) → command_of (together v (as_read names an p.first) (as_read names an p.second) (as_read names an p.third)) ≡ Some c → fields_meaning (record { names = names; begun = begun }) v w.words ≡ Ok (Run c, record { names = names; begun = begun })
+-- words are those of a row with these fields, over names that stay as they are
+pub record Said (names : List (List ℕ)) (an : List ℕ) (r : Row) (p : Parts) (words : List (List ℕ)) : Type 0 where
+  pub count : length words ≡ words_in r
+  pub first : Back names an r.first p.first (word words 0)
+  pub second : Back names an r.second p.second (word words 1)
+  pub third : Back names an r.third p.third (word words 2)
+
+run_read : (names begun : List (List ℕ)) (an : List ℕ) (v : Verb) (p : Parts) (c : Command) (words : List (List ℕ)) → Said names an (row_of v) p words → command_of (together v (as_read names an p.first) (as_read names an p.second) (as_read names an p.third)) ≡ Some c → fields_meaning (record { names = names; begun = begun }) v words ≡ Ok (Run c, record { names = names; begun = begun })
 unfolding fields_meaning
-run_read names begun an v p c w made = rw (w.first.read, w.second.read, w.third.read, made) refl
+run_read names begun an v p c words s made = rw (s.first.read, s.second.read, s.third.read, made) refl
 
-no_fault : (names : List (List ℕ)) (an : List ℕ) (r : Row) (p : Parts) (w : Words names an r p) → words_fault r w.words ≡ None
-no_fault names an r p w = rw (w.first.good, w.second.good, w.third.good) refl
+no_fault : (names : List (List ℕ)) (an : List ℕ) (r : Row) (p : Parts) (words : List (List ℕ)) → Said names an r p words → words_fault r words ≡ None
+no_fault names an r p words s = rw (s.first.good, s.second.good, s.third.good) refl
 
-command_read : (names begun : List (List ℕ)) (an : List ℕ) (v : Verb) (p : Parts) (c : Command) (w : Words names an (row_of v) p) → command_of (together v (as_read names an p.first) (as_read names an p.second) (as_read names an p.third)) ≡ Some c → command_meaning (record { names = names; begun = begun }) (Some v) w.words ≡ Ok (Run c, record { names = names; begun = begun })
+-- they are read as the command of the row and the fields
+pub command_read : (names begun : List (List ℕ)) (an : List ℕ) (v : Verb) (p : Parts) (c : Command) (words : List (List ℕ)) → Said names an (row_of v) p words → command_of (together v (as_read names an p.first) (as_read names an p.second) (as_read names an p.third)) ≡ Some c → command_meaning (record { names = names; begun = begun }) (Some v) words ≡ Ok (Run c, record { names = names; begun = begun })
 unfolding command_meaning
-command_read names begun an v p c w made =
+command_read names begun an v p c words s made =
     let known : Known = record { names = names; begun = begun } in
-    ap (λ b. cond b (unless_fault (words_fault (row_of v) w.words) (fields_meaning known v w.words)) (Err fault.Count)) (eq-eqb (length w.words) (words_in (row_of v)) w.count)
-    ∙ ap (λ o. unless_fault o (fields_meaning known v w.words)) (no_fault names an (row_of v) p w)
-    ∙ run_read names begun an v p c w made
+    ap (λ b. cond b (unless_fault (words_fault (row_of v) words) (fields_meaning known v words)) (Err fault.Count)) (eq-eqb (length words) (words_in (row_of v)) s.count)
+    ∙ ap (λ o. unless_fault o (fields_meaning known v words)) (no_fault names an (row_of v) p words s)
+    ∙ run_read names begun an v p c words s made
 
 words_of_row : (names begun : List (List ℕ)) (an : List ℕ) (v : Verb) (p : Parts) (c : Command) (inside : Bool) (w : Words names an (row_of v) p) → command_of (together v (as_read names an p.first) (as_read names an p.second) (as_read names an p.third)) ≡ Some c → words_meaning (record { names = names; begun = begun }) inside ((row_of v).word ∷ w.words) ≡ Ok (Run c, record { names = names; begun = begun })
 unfolding words_meaning
@@ -151,7 +159,7 @@ words_of_row names begun an v p c inside w made =
     ap (λ b. cond b (begin_meaning known inside w.words) (cond (bytes_eq (row_of v).word (codes "end")) (end_meaning known inside w.words) (command_meaning known (verb_of (row_of v).word) w.words))) is.no_action
     ∙ ap (λ b. cond b (end_meaning known inside w.words) (command_meaning known (verb_of (row_of v).word) w.words)) is.no_end
     ∙ ap (λ o. command_meaning known o w.words) (word_found v)
-    ∙ command_read names begun an v p c w made
+    ∙ command_read names begun an v p c w.words (record { count = w.count; first = w.first; second = w.second; third = w.third }) made
 
 -- what a line without fault says
 line_said : (known : Known) (inside : Bool) (line : List ℕ) → list_all is_good line ≡ true → line_meaning known inside line ≡ words_meaning known inside (words_of line)

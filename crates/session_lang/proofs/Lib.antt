@@ -7,6 +7,7 @@ pub mod LeftNames
 pub mod RowFacts
 pub mod PlainWords
 pub mod CommandLines
+pub mod KnownLines
 pub mod Tells
 pub mod ScriptBack
 pub mod RowLinks

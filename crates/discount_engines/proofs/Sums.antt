@@ -1,15 +1,22 @@
 -- The sum over the parts, from a place on.
-use Rattle.std.proofs.Common.{◌≡◌, ◌≤◌, ◌<◌, ◌+◌, ℕ, ℤ, pos, ◌+ℤ◌, List, ◌∷◌, length, drop, Option, Some, None, refl, sym, ◌∙◌, ap}
-use Rattle.std.proofs.Math.ListN.{get_or, drop_of_length-le}
+use Rattle.std.proofs.Common.{◌≡◌, ◌<◌, ◌+◌, ℕ, ℤ, ◌+ℤ◌, List, [], ◌∷◌, length, drop, Option, Some, None, arith, refl, sym, ◌∙◌, ap}
+use Rattle.std.proofs.Math.ListN.{get_or}
 use Rattle.std.proofs.Math.IntN.{+ℤ_assoc}
 use Rattle.std.proofs.lemmas.List.{drop_more}
 use Rattle.desk_terms.specs.declared.terms.Part.{Part}
 use Rattle.desk_terms.specs.declared.value.Input as input
 use Rattle.discount_engines.specs.Composite.{plus, product, weighted}
 
+plus_none : (a : Option ℤ) → plus a None ≡ None
+plus_none None = refl
+plus_none (Some a) = refl
+
 -- fewer inputs than parts
-pub too_few : (parts : List Part) (inputs : List input.Input) (at : ℕ) → at < length parts → length inputs ≤ at → weighted (drop at parts) (drop at inputs) ≡ None
-too_few parts inputs at within few = rw (drop_more parts at (record { weight = pos 0; member = 0 }) within, drop_of_length-le inputs few) refl
+pub too_few : (parts : List Part) (inputs : List input.Input) → length inputs < length parts → weighted parts inputs ≡ None
+too_few [] inputs few = absurd (omega (arith, few))
+too_few (part ∷ parts) [] few = refl
+too_few (part ∷ parts) (i ∷ inputs) few =
+    ap (plus (product part i)) (too_few parts inputs (omega (arith, few))) ∙ plus_none (product part i)
 
 pub one_more : (parts : List Part) (inputs : List input.Input) (at : ℕ) (part : Part) (i : input.Input) → at < length parts → part ≡ get_or parts at part → at < length inputs → i ≡ get_or inputs at i
     → weighted (drop at parts) (drop at inputs) ≡ plus (product part i) (weighted (drop (at + 1) parts) (drop (at + 1) inputs))

@@ -6,23 +6,24 @@ use Rattle.discount_engines.specs.Composite.{plus, weighted}
 use Rattle.discount_engines.proofs.Sums.{too_few, one_more, plus_on}
 use Rattle.discount_engines.proofs.composites.weighted.Goals as goal
 
-pub returns-then-at-inputs : goal.returns-then-at-inputs
-returns-then-at-inputs c =
-    let within : c.loop-at.at < length c.args.parts.now = c.loop-at-test.true in
-    let few = too_few c.args.parts.now c.args.inputs.now c.loop-at.at within c.if-at-inputs.true in
-    ap (plus (Some (to_z w128 c.loop-at.sum-bits))) (sym few) ∙ c.loop-at.invariant.0
+pub returns-then-inputs-parts : goal.returns-then-inputs-parts
+returns-then-inputs-parts c = sym (too_few c.args.parts.now c.args.inputs.now c.if-inputs-parts.true)
 
 pub returns-in-None : goal.returns-in-None
 returns-in-None c =
     let within : c.loop-at.at < length c.args.parts.now = c.loop-at-test.true in
-    let more = one_more c.args.parts.now c.args.inputs.now c.loop-at.at c.index-parts-at.result c.index-inputs-at.result within c.index-parts-at.is c.if-at-inputs.false c.index-inputs-at.is in
+    let given : c.loop-at.at < length c.args.inputs.now = omega (arith, within, c.if-inputs-parts.false) in
+    let more = one_more c.args.parts.now c.args.inputs.now c.loop-at.at c.index-parts-at.result c.index-inputs-at.result
+    within c.index-parts-at.is given c.index-inputs-at.is in
     let rest = weighted (drop (c.loop-at.at + 1) c.args.parts.now) (drop (c.loop-at.at + 1) c.args.inputs.now) in
     ap (λ (p : Option ℤ). plus (Some (to_z w128 c.loop-at.sum-bits)) (plus p rest)) (sym c.in-None.is ∙ c.product.ensures.value) ∙ ap (plus (Some (to_z w128 c.loop-at.sum-bits))) (sym more) ∙ c.loop-at.invariant.0
 
 pub loop-at-preserved : goal.loop-at-preserved
 loop-at-preserved c =
     let within : c.loop-at.at < length c.args.parts.now = c.loop-at-test.true in
-    let more = one_more c.args.parts.now c.args.inputs.now c.loop-at.at c.index-parts-at.result c.index-inputs-at.result within c.index-parts-at.is c.if-at-inputs.false c.index-inputs-at.is in
+    let given : c.loop-at.at < length c.args.inputs.now = omega (arith, within, c.if-inputs-parts.false) in
+    let more = one_more c.args.parts.now c.args.inputs.now c.loop-at.at c.index-parts-at.result c.index-inputs-at.result
+    within c.index-parts-at.is given c.index-inputs-at.is in
     let sum : ℤ = to_z w128 c.loop-at.sum-bits in
     let rest = weighted (drop (c.loop-at.at + 1) c.args.parts.now) (drop (c.loop-at.at + 1) c.args.inputs.now) in
     let small : unsigned_abs c.in-Some.units ≤ 10 ^ 32 = c.in-Some.ensures.bound in

@@ -1,10 +1,11 @@
 // The price of a composite.
 ghost use Rattle.std.specs.Prelude.{◌≡◌, ◌≤◌, ◌^◌, ◌*ℤ◌, length, IfSome, unsigned_abs};
+ghost use Rattle.discount_engines.specs.Money.{as_money};
 ghost use Rattle.discount_engines.specs.Composite.{product, weighted, composite_price};
 
 use crate::money::{money_of, sum_of};
 use desk_names::ObjId;
-use desk_terms::{Cause, Input, Part, Value};
+use desk_terms::{Cause, Input, Part};
 use fixed_amount::Amount;
 
 // The most that a weight is, either way.
@@ -19,8 +20,8 @@ pub(crate) fn composite_price(
     object: ObjId,
     parts: &[Part],
     inputs: &[Input],
-) -> Result<Value, Cause>
-    ensures { result ≡ composite_price object parts.now inputs.now }
+) -> Result<Amount, Cause>
+    ensures { as_money result ≡ composite_price object parts.now inputs.now }
 {
     if parts.len() > MOST_PARTS {
         return Err(Cause::TooLarge(object));

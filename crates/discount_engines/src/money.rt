@@ -1,20 +1,20 @@
 // Money in the limits of a price, and sums of products.
 ghost use Rattle.std.specs.Prelude.{◌≡◌, ◌≤◌, ◌+◌, ◌*◌, ◌^◌, ◌+ℤ◌, unsigned_abs};
-ghost use Rattle.discount_engines.specs.Money.{money_of};
+ghost use Rattle.discount_engines.specs.Money.{money_of, as_money};
 
 use desk_names::ObjId;
-use desk_terms::{Cause, Value};
+use desk_terms::Cause;
 use fixed_amount::Amount;
 
 // The most units of a price, either way.
 const MOST_UNITS: i128 = 1_000_000_000_000_000_000_000_000;
 
 /// Money in the limits, or the refusal.
-pub(crate) fn money_of(object: ObjId, units: i128) -> Result<Value, Cause>
-    ensures { result ≡ money_of object units }
+pub(crate) fn money_of(object: ObjId, units: i128) -> Result<Amount, Cause>
+    ensures { as_money result ≡ money_of object units }
 {
     if units >= -MOST_UNITS && units <= MOST_UNITS {
-        Ok(Value::Money(Amount(units)))
+        Ok(Amount(units))
     } else {
         Err(Cause::TooLarge(object))
     }

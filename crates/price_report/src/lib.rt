@@ -1,6 +1,6 @@
 //! The lines of a transcript: what an ask shows, the discount factor of a curve at a day, which command is refused and
-//! why, and which watcher was stopped. The line of an ask is written behind the output and taken back after want of memory;
-//! each other line is built apart and appended whole. So after want of memory the output is as it was.
+//! why, and which watcher was stopped. The line of a discount factor is built apart and appended whole; each other line is
+//! written behind the output and taken back after want of memory. So after want of memory the output is as it was.
 //! Offers `Namer`, `asked_line`, `df_line`, `refusal_line`, `over_line` and `cause_text`.
 #![tactic(auto)]
 

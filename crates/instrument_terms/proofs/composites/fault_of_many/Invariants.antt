@@ -1,7 +1,7 @@
 use Rattle.std.proofs.Common.{◌≡◌, [], take, drop}
 use Rattle.instrument_terms.specs.Marks.{AreMarks}
 use Rattle.instrument_terms.specs.Parts.{first_fault}
-use Rattle.instrument_terms.proofs.composites.fault_of_parts.Given as goal
+use Rattle.instrument_terms.proofs.composites.fault_of_many.Given as goal
 
 abbrev pub invariant-loop-at : goal.invariant-loop-at
 invariant-loop-at l = record {

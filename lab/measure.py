@@ -57,7 +57,7 @@ W = {
     "wide, all moved, a member": lambda: (count(wide + "".join(f"set q {k + 2}\nask c\n" for k in range(20))) - count(wide)) / 20000,
     "wide, one moved, a member": lambda: (count(apart + "".join(f"set q{k} {k + 2}\nask c\n" for k in range(20))) - count(apart)) / 20000,
     "sums, a level": lambda: (count(sums + "".join(f"set q {k + 2}\nask s\n" for k in range(20))) - count(sums)) / 20000,
-    "names 65,000": lambda: count("".join(f"quote name{k} 1\ndrop name{k}\n" for k in range(65000))),
+    "names 65,000": lambda: count("".join(f"quote n{k} 1\n" for k in range(65535))),
     "load 1000": lambda: run(["load", "1000"]),
 }
 for name in sys.argv[1:] or W:

@@ -154,6 +154,7 @@ pub fn compute_all<B: Bench>(
 }
 
 /// One computation: the value is stored, or the cause is answered.
+#[inline(always)]
 pub fn compute<'a, B: Bench>(
     alloc: Global,
     today: Day,

@@ -150,6 +150,7 @@ fn next_entries(
 }
 
 /// What an ask does next at a lazy object. The inputs are those that its price takes, where it is ready.
+#[inline(always)]
 pub fn next(
     alloc: Global,
     today: Day,

@@ -37,6 +37,7 @@ impl Bench for DeskBench {
     ghost fits = { λ _ reading formed. desk_fits reading formed };
 
     // The trait's clauses for this bench, and where it may want memory.
+    #[inline(always)]
     fn price(&mut self, alloc: Global, job: &Job<'_>) -> Result<Value, BenchFault>
         requires { IsWellFormed (reading_of job.now) }
         ensures answer { Answers (desk_calc (reading_of job.now)) result }

@@ -17,6 +17,7 @@ use fixed_amount::Rate;
 use std::alloc::{AllocError, Global};
 
 /// The curve of an object, by the rates of its helpers in their order.
+#[inline(never)]
 pub fn curve_price(
     alloc: Global,
     object: ObjId,
@@ -34,6 +35,7 @@ pub fn curve_price(
 }
 
 /// The curve of an object that sees another from its own reference day. What is refused is refused without memory.
+#[inline(never)]
 pub fn implied_price(
     alloc: Global,
     object: ObjId,

@@ -11,6 +11,7 @@ use discount_engines::{PriceFault, price};
 use std::alloc::Global;
 
 /// The price of a job. An instrument's takes no memory.
+#[inline(always)]
 pub fn price_of(alloc: Global, job: &Job<'_>) -> Result<Value, BenchFault>
     requires { IsWellFormed (reading_of job.now) }
     ensures price { Answers (desk_calc (reading_of job.now)) result }
@@ -32,6 +33,7 @@ pub fn price_of(alloc: Global, job: &Job<'_>) -> Result<Value, BenchFault>
 }
 
 // The price of an instrument.
+#[inline(always)]
 fn instrument_price(alloc: Global, job: &Job<'_>) -> Result<Value, BenchFault>
     requires { IsWellFormed (reading_of job.now) }
     ensures price { Answers (instrument_price (reading_of job.now)) result }
@@ -41,6 +43,7 @@ fn instrument_price(alloc: Global, job: &Job<'_>) -> Result<Value, BenchFault>
 }
 
 // The answer of a bench where an instrument is priced, or is not.
+#[inline(always)]
 fn priced_answer(priced: Result<Value, PriceFault>) -> Result<Value, BenchFault>
     ensures { result ≡ priced_answer priced }
 {

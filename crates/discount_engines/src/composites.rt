@@ -14,6 +14,7 @@ const MOST_WEIGHT: u64 = 1_000_000;
 const MOST_PARTS: usize = 4096;
 
 /// The price of a composite.
+#[inline(always)]
 pub(crate) fn composite_price(
     object: ObjId,
     parts: &[Part],
@@ -31,6 +32,7 @@ pub(crate) fn composite_price(
 }
 
 // The sum of each weight times the value of its member.
+#[inline(always)]
 fn weighted(parts: &[Part], inputs: &[Input]) -> Option<i128>
     requires { length parts.now ≤ 4096 }
     ensures { result ≡ weighted parts.now inputs.now }
@@ -49,6 +51,7 @@ fn weighted(parts: &[Part], inputs: &[Input]) -> Option<i128>
 }
 
 // A weight times the value of its member.
+#[inline(always)]
 fn product(part: &Part, input: &Input) -> Option<i128>
     ensures value { result ≡ product part.now input.now }
     ensures bound { IfSome result (λ units. unsigned_abs units ≤ 10 ^ 32) }

@@ -18,6 +18,7 @@ use fixed_amount::{Amount, Rounding, div_round};
 use flow_terms::{FlowTerms, IndexUse, expired};
 
 /// The price of an instrument of flows: nothing where each is paid on or before today.
+#[inline(never)]
 pub(crate) fn flows_price(
     object: ObjId,
     flows: &FlowTerms,

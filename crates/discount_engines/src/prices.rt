@@ -14,6 +14,7 @@ use std::alloc::Global;
 /// either way (QuantLib's `PricingEngine`). `Refused` by the first cause in the order of the flows: `NoFixing`, `Before`,
 /// `Past`, `RateRange` and `DateRange` of the index or of its curve, `TooLarge` of the instrument; then `Before` and `Past`
 /// of the discount curve. No price takes memory today, so `NoMemory` does not come.
+#[inline(always)]
 pub fn price(_alloc: Global, job: &Job<'_>) -> Result<Value, PriceFault>
     requires { IsWellFormed (reading_of job.now) }
     ensures answer { result ≡ answer_of (instrument_price (reading_of job.now)) }
@@ -23,6 +24,7 @@ pub fn price(_alloc: Global, job: &Job<'_>) -> Result<Value, PriceFault>
 }
 
 // The same with a cause alone.
+#[inline(always)]
 fn price_of(job: &Job<'_>) -> Result<Value, Cause>
     requires { IsWellFormed (reading_of job.now) }
     ensures { result ≡ instrument_price (reading_of job.now) }

@@ -98,6 +98,7 @@ impl Store {
     }
 
     /// A lazy object has this value, and it is current.
+    #[inline(always)]
     pub fn keep(&mut self, object: ObjId, value: Value)
         requires { role_at self.old.shape object ≡ Some role.Lazy }
         ensures kept { self.new.kept ≡ slice_set self.old.kept object (with_value (slice_index_or self.old.kept object unpriced) (Some value)) }

@@ -273,6 +273,7 @@ impl Graph {
     }
 
     /// Sets the flags of a lazy node. Nobody is told. Takes no memory.
+    #[inline(always)]
     pub fn set_flags(&mut self, node: ObjId, flags: Flags)
         requires { IsLazy (node_at self.old node) }
         ensures { self.new ≡ with_flags node flags self.old }

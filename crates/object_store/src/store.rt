@@ -106,8 +106,7 @@ impl Store {
         ensures switch { self.new.deferring ≡ self.old.deferring }
         ensures told { self.new.noticed ≡ self.old.noticed }
     {
-        let flags = self.deferral.as_graph().flags(object);
-        self.deferral.graph().set_flags(object, settled(flags));
+        self.deferral.graph().settle(object);
         self.lasts[object.place()] = Some(value);
     }
 
@@ -326,16 +325,6 @@ fn last_in(lasts: &[Option<Value>], object: ObjId) -> Option<&Value>
     match lasts.get(object.place()) {
         Some(last) => last.as_ref(),
         None => None,
-    }
-}
-
-// The flags of an object that is current.
-fn settled(flags: Flags) -> Flags
-    ensures { result ≡ record flags { current = true } }
-{
-    Flags {
-        current: true,
-        ..flags
     }
 }
 

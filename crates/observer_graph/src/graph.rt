@@ -283,6 +283,15 @@ impl Graph {
         set_flags_of(&mut self.nodes[node.place()], flags);
     }
 
+    /// A lazy node is current. Nobody is told. Takes no memory.
+    #[inline(always)]
+    pub fn settle(&mut self, node: ObjId)
+        requires { IsLazy (node_at self.old node) }
+        ensures { self.new ≡ with_flags node (record (flags_at self.old node) { current = true }) self.old }
+    {
+        settle_one(&mut self.nodes[node.place()]);
+    }
+
     /// The node is not current, whatever its role. Nobody is told. Takes no memory.
     pub fn outdate(&mut self, node: ObjId)
         requires { IsLive self.old node }
@@ -365,6 +374,15 @@ fn takes_flags(role: Role) -> bool
         Role::Forwarder => false,
         Role::Lazy => true,
         Role::Watcher => false,
+    }
+}
+
+// A live node is current.
+fn settle_one(node: &mut Option<Node>)
+    ensures { (flags : Flags) → IfLive node.old flags → node.new ≡ flagged (record flags { current = true }) node.old }
+{
+    if let Some(live) = node {
+        live.flags.current = true;
     }
 }
 

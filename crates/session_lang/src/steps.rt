@@ -10,7 +10,7 @@ ghost use Rattle.session_commands.specs.declared.command.Command.{Command};
 use crate::statement::Statement;
 use desk_names::{NameId, NameList, Names};
 use script_words::text_at;
-use session_commands::{ActionId, Actions, Command, CommandList, Parts};
+use session_commands::{ActionId, Actions, Command, CommandList};
 use std::alloc::{AllocError, Global};
 
 /// A statement with the number of its line.
@@ -51,7 +51,10 @@ fn step_at(line: u32, what: Statement) -> Step
 fn action_of(command: Command) -> Option<ActionId>
     ensures { result ≡ action_of command }
 {
-    Parts::of(command).second.action()
+    match command {
+        Command::Watch(_, action) => Some(action),
+        _ => None,
+    }
 }
 
 // Whether a statement is asked for after all lines.

@@ -36,9 +36,9 @@ fn units_within(word: &[u8], places: u8, limit: u64) -> Option<i64>
     }
 }
 
-// The whole number within 1,000,000 either way, of at most seven digits.
+/// The whole number within 1,000,000 either way, of at most seven digits.
 #[tactic(auto, unfolding(crate::specs::Word::weight_of))]
-fn read_weight(word: &[u8]) -> Option<i64>
+pub fn weight_of_word(word: &[u8]) -> Option<i64>
     ensures { result ≡ weight_of word.now }
 {
     if digits_of(word).len() > 7 {
@@ -84,6 +84,13 @@ fn rate_within(word: &[u8], limit: u64) -> Option<Rate>
         Some(units) => Some(Rate(units)),
         None => None,
     }
+}
+
+/// The decimal within 10^9 either way, of at most 9 places.
+pub fn number_of_word(word: &[u8]) -> Option<Rate>
+    ensures { result ≡ number_within 9 1_000_000_000_000_000_000 word.now }
+{
+    rate_within(word, MOST_VALUE)
 }
 
 // Whether a name stands where one of this kind is asked for.
@@ -197,7 +204,7 @@ pub fn word_said(kind: Kind, word: &[u8]) -> Result<Field, ScriptKind>
         Kind::Value => value_said(word),
         Kind::Number => number_said(rate_within(word, MOST_VALUE)),
         Kind::Rate => number_said(rate_within(word, MOST_RATE)),
-        Kind::Weight => weight_said(read_weight(word)),
+        Kind::Weight => weight_said(weight_of_word(word)),
         Kind::Day => day_said(read_day(word)),
         Kind::Target => formed(
             word == b"quote".as_slice() || word == b"curve".as_slice(),

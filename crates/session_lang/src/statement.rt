@@ -8,7 +8,8 @@ ghost use Rattle.session_lang.specs.Statement.{Known, ArePlain, PlainOf, names_w
 
 use desk_names::{MOST_NAMES, NameId, Names, is_name};
 use script_words::{
-    LineFault, field_of, has_good_bytes, names_new, number_of, word_at, word_said, words_of,
+    LineFault, field_of, has_good_bytes, names_new, number_of, number_of_word, weight_of_word,
+    word_at, word_said, words_of,
 };
 use session_commands::{Command, Kind, Parts, ScriptKind, Verb};
 
@@ -107,6 +108,57 @@ fn run_fields(
     Ok(Statement::Run(parts.command()))
 }
 
+// The command of an ask, of a set or of a new member, where its words have no fault and each name in them is known, so that
+// none is added. Most lines of a long script are of these, and each of their words is looked at once.
+fn known_command(verb: Verb, words: &[&[u8]], names: &Names) -> Option<Command>
+    ensures { IfSome result (λ c. (begun : List (List ℕ)) → command_meaning (record { names = names.now; begun = begun }) (Some verb) (map (λ word. word.now) words.now)
+        ≡ Ok (Run c, record { names = names.now; begun = begun })) }
+{
+    match verb {
+        Verb::Ask => known_ask(words, names),
+        Verb::Set => known_set(words, names),
+        Verb::Member => known_member(words, names),
+        _ => None,
+    }
+}
+
+// An ask of a known name.
+fn known_ask(words: &[&[u8]], names: &Names) -> Option<Command>
+    ensures { IfSome result (λ c. (begun : List (List ℕ)) → command_meaning (record { names = names.now; begun = begun }) (Some Ask) (map (λ word. word.now) words.now)
+        ≡ Ok (Run c, record { names = names.now; begun = begun })) }
+{
+    match words {
+        [name] => Some(Command::Ask(names.find(name)?)),
+        _ => None,
+    }
+}
+
+// A set of a known name.
+fn known_set(words: &[&[u8]], names: &Names) -> Option<Command>
+    ensures { IfSome result (λ c. (begun : List (List ℕ)) → command_meaning (record { names = names.now; begun = begun }) (Some Set) (map (λ word. word.now) words.now)
+        ≡ Ok (Run c, record { names = names.now; begun = begun })) }
+{
+    match words {
+        [name, value] => Some(Command::Set(names.find(name)?, number_of_word(value)?)),
+        _ => None,
+    }
+}
+
+// A member of a known name for a composite of a known name.
+fn known_member(words: &[&[u8]], names: &Names) -> Option<Command>
+    ensures { IfSome result (λ c. (begun : List (List ℕ)) → command_meaning (record { names = names.now; begun = begun }) (Some Member) (map (λ word. word.now) words.now)
+        ≡ Ok (Run c, record { names = names.now; begun = begun })) }
+{
+    match words {
+        [composite, member, weight] => Some(Command::Member(
+            names.find(composite)?,
+            names.find(member)?,
+            weight_of_word(weight)?,
+        )),
+        _ => None,
+    }
+}
+
 // A line of a command, by its first word and the words behind it.
 #[tactic(auto, unfolding(crate::specs::Statement::command_meaning), using(script_words::proofs::Interning::grows_same))]
 fn run_line(
@@ -123,6 +175,9 @@ fn run_line(
     let Some(verb) = Verb::of_word(first) else {
         return Err(LineFault::Kind(ScriptKind::Word));
     };
+    if let Some(command) = known_command(verb, words, names) {
+        return Ok(Statement::Run(command));
+    }
     if words.len() != words_in(verb) {
         return Err(LineFault::Kind(ScriptKind::Count));
     }

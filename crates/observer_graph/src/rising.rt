@@ -6,6 +6,7 @@ use desk_names::ObjId;
 use std::alloc::AllocError;
 
 /// Puts a node in its place, unless it is there.
+#[inline(never)]
 pub fn put_in(nodes: &mut Vec<ObjId>, entry: ObjId)
     requires rising { IsRising nodes.old.items }
     requires room { length (with_number entry nodes.old.items) ≤ vec_capacity nodes.old }

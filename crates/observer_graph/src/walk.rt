@@ -108,6 +108,7 @@ fn pass_on(
 }
 
 // The observers of a node are told.
+#[inline(always)]
 fn tell_observers(
     edges: &Edges,
     from: ObjId,
@@ -142,6 +143,7 @@ fn tell_observers(
 
 // A node is told: it is remembered if it is a watcher, is no longer current, and waits if it passes the notice on to
 // someone, and was not marked.
+#[inline(always)]
 fn tell_one(
     edges: &Edges,
     told: ObjId,

@@ -12,26 +12,21 @@ use std::marker::Model;
 #[derive(Drop)]
 pub struct Wave {
     marks: Vec<bool>,
-    // The node that was put in after a node.
-    nexts: Vec<Option<ObjId>>,
-    // The first and the last that were put in, and the first that waits.
-    first: Option<ObjId>,
-    last: Option<ObjId>,
-    head: Option<ObjId>,
+    // The marked nodes in the order in which they were put in, each once. There is room for every node.
+    nodes: Vec<ObjId>,
+    // How many of them were handed out.
+    done: usize,
 }
 
 impl Model for Wave {
-    ghost use Rattle.std.specs.Prelude.{length};
-    ghost use Rattle.wave_queue.specs.Thread.{WaveView, Stands, nodes_from};
+    ghost use Rattle.std.specs.Prelude.{◌≤◌, drop, length, vec_capacity};
+    ghost use Rattle.wave_queue.specs.Thread.{WaveView, Stands};
 
     ghost Value = { WaveView };
 
-    ghost view = { λ w. record {
-      marks = w.marks.items;
-      waiting = nodes_from w.nexts.items (length w.nexts.items) w.head;
-    } };
+    ghost view = { λ w. record { marks = w.marks.items; waiting = drop w.done w.nodes.items } };
 
-    ghost invariant = { λ w. Stands w.marks.items w.nexts.items w.first w.head w.last };
+    ghost invariant = { λ w. Stands w.marks.items w.nodes.items w.done × (length w.marks.items ≤ vec_capacity w.nodes) };
 }
 
 impl Wave {
@@ -41,10 +36,8 @@ impl Wave {
     {
         Wave {
             marks: Vec::new(alloc),
-            nexts: Vec::new(alloc),
-            first: None,
-            last: None,
-            head: None,
+            nodes: Vec::new(alloc),
+            done: 0,
         }
     }
 
@@ -57,8 +50,9 @@ impl Wave {
     {
         let more = (nodes as usize).saturating_sub(self.marks.len());
         self.marks.reserve(more)?;
-        self.nexts.reserve(more)?;
-        widen(&mut self.marks, &mut self.nexts, more);
+        self.nodes
+            .reserve(self.marks.len() + more - self.nodes.len())?;
+        widen(&mut self.marks, more);
         Ok(())
     }
 
@@ -73,10 +67,7 @@ impl Wave {
             return false;
         }
         self.marks[node.place()] = true;
-        thread_on(&mut self.nexts, self.last, node);
-        self.first = or_node(self.first, node);
-        self.head = or_node(self.head, node);
-        self.last = Some(node);
+        self.nodes.push_reserved(node);
         true
     }
 
@@ -89,13 +80,12 @@ impl Wave {
         ensures once { IfSome result (λ node. Among node self.new.waiting → ⊥) }
         ensures marks { self.new.marks ≡ self.old.marks }
     {
-        match self.head {
-            None => None,
-            Some(node) => {
-                self.head = self.nexts[node.place()];
-                Some(node)
-            }
+        if self.done == self.nodes.len() {
+            return None;
         }
+        let node = self.nodes[self.done];
+        self.done += 1;
+        Some(node)
     }
 
     /// Whether a node is marked.
@@ -112,56 +102,28 @@ impl Wave {
         ensures len { length self.new.marks ≡ length self.old.marks }
         ensures waiting { self.new.waiting ≡ [] }
     {
-        unmark(&mut self.marks, &self.nexts, self.first);
-        self.first = None;
-        self.last = None;
-        self.head = None;
+        unmark(&mut self.marks, &self.nodes);
+        self.nodes.clear();
+        self.done = 0;
     }
 }
 
-// The nodes of a thread are not marked.
-fn unmark(marks: &mut [bool], nexts: &[Option<ObjId>], first: Option<ObjId>)
-    requires { MarksThread marks.old nexts.now first }
+// These nodes are not marked.
+fn unmark(marks: &mut [bool], nodes: &[ObjId])
+    requires { Marks marks.old nodes.now }
     ensures { (o : ℕ) → is_marked marks.new o ≡ false }
 {
-    let mut at = first;
-    while let Some(node) = at {
+    for node in nodes {
         marks[node.place()] = false;
-        at = nexts[node.place()];
     }
 }
 
 // So many nodes more, none of them marked.
-fn widen(marks: &mut Vec<bool>, nexts: &mut Vec<Option<ObjId>>, more: usize)
-    requires marks { vec_len marks.old + more ≤ vec_capacity marks.old }
-    requires nexts { vec_len nexts.old + more ≤ vec_capacity nexts.old }
-    ensures marks { marks.new.items ≡ marks.old.items ++ replicate more false }
-    ensures nexts { nexts.new.items ≡ nexts.old.items ++ replicate more None }
+fn widen(marks: &mut Vec<bool>, more: usize)
+    requires { vec_len marks.old + more ≤ vec_capacity marks.old }
+    ensures { marks.new.items ≡ marks.old.items ++ replicate more false }
 {
     for _ in 0..more {
         marks.push_reserved(false);
-        nexts.push_reserved(None);
-    }
-}
-
-// The last node leads to this one, and this one to none.
-fn thread_on(nexts: &mut [Option<ObjId>], last: Option<ObjId>, node: ObjId)
-    requires node { node < length nexts.old }
-    requires last { IfSome last (λ o. o < length nexts.old) }
-    ensures { nexts.new ≡ threaded last node nexts.old }
-{
-    nexts[node.place()] = None;
-    if let Some(last) = last {
-        nexts[last.place()] = Some(node);
-    }
-}
-
-// A node, or this one where there is none.
-fn or_node(found: Option<ObjId>, node: ObjId) -> Option<ObjId>
-    ensures { result ≡ or_node found node }
-{
-    match found {
-        None => Some(node),
-        Some(_) => found,
     }
 }

@@ -41,6 +41,7 @@ pub fn read(
     ensures remembers { Remembers (market_of today objects.now) scratch.new.entries }
     ensures positions { scratch.new.positions ≡ scratch.old.positions }
 {
+    let object = passed_to(objects, object);
     match scratch.entry(object) {
         Some(entry) => return Ok(entry),
         None => {}
@@ -48,6 +49,32 @@ pub fn read(
     match look_at(objects, scratch, object) {
         Look::Is(entry) => Ok(entry),
         Look::First(_) => read_through(alloc, today, objects, scratch, object),
+    }
+}
+
+// The object whose value a handle, an index or an engine gives, and any other object itself.
+fn passed_to(objects: &Objects, object: ObjId) -> ObjId
+    requires within { object < length objects.now }
+    ensures same { (today : ℤ) → IsLinked (market_of today objects.now) → input_at (market_of today objects.now) result ≡ input_at (market_of today objects.now) object }
+    ensures within { (today : ℤ) → IsLinked (market_of today objects.now) → result < length objects.now }
+{
+    match objects.terms(object) {
+        None => object,
+        Some(terms) => match terms {
+            Terms::Handle { target, .. } => match target {
+                None => object,
+                Some(reached) => *reached,
+            },
+            Terms::Index(index, _) => index.curve,
+            Terms::Engine { curve } => *curve,
+            Terms::Quote(_)
+            | Terms::Derived { .. }
+            | Terms::Curve(_)
+            | Terms::Implied { .. }
+            | Terms::Stock { .. }
+            | Terms::Composite(_)
+            | Terms::Flows(..) => object,
+        },
     }
 }
 

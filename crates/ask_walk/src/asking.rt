@@ -127,19 +127,64 @@ pub fn compute_all<B: Bench>(
     ensures remembers { Remembers (market_of today objects.now) scratch.new.entries }
     ensures begun { Begun objects.now store.new.kept scratch.new.positions }
 {
+    let mut inputs = scratch.take_inputs(alloc);
+    let answer = walk(
+        alloc,
+        today,
+        objects,
+        store,
+        scratch,
+        object,
+        mark,
+        &mut inputs,
+        bench,
+    );
+    scratch.keep_inputs(inputs);
+    answer
+}
+
+// The same; `inputs` is room for those of each price.
+fn walk<B: Bench>(
+    alloc: Global,
+    today: Day,
+    objects: &Objects,
+    store: &mut Store,
+    scratch: &mut Scratch,
+    object: ObjId,
+    mark: Mark,
+    inputs: &mut InputList,
+    bench: &mut B,
+) -> Result<Asked, AllocError>
+    requires may { MayAsk (B.calc bench.old) (state_of today objects.now store.old.kept (registry_of store.old)) object }
+    requires free { held (state_of today objects.now store.old.kept (registry_of store.old)) object ≡ None }
+    requires stale { is_now store.old.kept object ≡ false }
+    requires remembers { Remembers (market_of today objects.now) scratch.old.entries }
+    requires begun { Begun objects.now store.old.kept scratch.old.positions }
+    requires joined { IsJoined (market_of today objects.now) store.old.shape }
+    ensures same { B.calc bench.new ≡ B.calc bench.old }
+    ensures walks { IfOk result (λ answer. Walks (B.calc bench.old) object (state_of today objects.now store.old.kept (registry_of store.old)) (state_of today objects.now store.new.kept (registry_of store.old)) mark answer
+        (B.count bench.old) (B.count bench.new) (B.log bench.old) (B.log bench.new)) }
+    ensures few { IfOk result (λ answer. answer.runs < 2 ^ 17) }
+    ensures stops { OnErr result (Stops (B.calc bench.old) object (state_of today objects.now store.old.kept (registry_of store.old)) (state_of today objects.now store.new.kept (registry_of store.old))
+        (B.count bench.old) (B.count bench.new) (B.log bench.old) (B.log bench.new)) }
+    ensures stays { Stays (B.calc bench.old) (state_of today objects.now store.new.kept (registry_of store.old)) }
+    ensures shape { store.new.shape ≡ store.old.shape }
+    ensures registry { registry_of store.new ≡ registry_of store.old }
+    ensures remembers { Remembers (market_of today objects.now) scratch.new.entries }
+    ensures begun { Begun objects.now store.new.kept scratch.new.positions }
+{
     let mut waiting: Vec<ObjId> = Vec::new(alloc);
-    let mut inputs = InputList::new(alloc);
     let mut top = object;
     let mut runs: u64 = 0;
     loop {
-        match next(alloc, today, objects, store, scratch, top, &mut inputs)? {
+        match next(alloc, today, objects, store, scratch, top, inputs)? {
             Step::Stops(cause) => return Ok(answered(Some(cause), mark, runs)),
             Step::First(needed) => {
                 waiting.push(top)?;
                 top = needed;
             }
             Step::Ready => {
-                let cause = compute(alloc, today, objects, store, top, &inputs, bench)?;
+                let cause = compute(alloc, today, objects, store, top, inputs, bench)?;
                 runs += 1;
                 if cause.is_some() {
                     return Ok(answered(cause, mark, runs));

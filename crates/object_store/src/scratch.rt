@@ -5,10 +5,11 @@ ghost use Rattle.object_store.specs.Scratch.{AreTouched, AreClear};
 
 use desk_model::Entry;
 use desk_names::ObjId;
-use desk_terms::Cause;
+use desk_terms::{Cause, InputList};
 use fixed_amount::Rate;
 use std::alloc::{AllocError, Global};
 use std::marker::Model;
+use std::mem;
 
 /// What quotes give, as far as it was worked out, and how far the members of composites were read.
 #[derive(Drop)]
@@ -16,6 +17,8 @@ pub struct Scratch {
     entries: Vec<Option<Entry>>,
     positions: Vec<usize>,
     touched: Vec<ObjId>,
+    // Room for the inputs of a price; empty between asks.
+    inputs: InputList,
 }
 
 impl Model for Scratch {
@@ -31,7 +34,7 @@ impl Model for Scratch {
       spare = min (vec_capacity s.entries) (vec_capacity s.positions) - length s.entries.items;
     } };
 
-    ghost invariant = { λ s. AreTouched s.entries.items s.positions.items s.touched.items × (length s.positions.items ≡ length s.entries.items) };
+    ghost invariant = { λ s. AreTouched s.entries.items s.positions.items s.touched.items × (length s.positions.items ≡ length s.entries.items) × (s.inputs ≡ []) };
 }
 
 impl Scratch {
@@ -45,6 +48,7 @@ impl Scratch {
             entries: Vec::new(alloc),
             positions: Vec::new(alloc),
             touched: Vec::new(alloc),
+            inputs: InputList::new(alloc),
         }
     }
 
@@ -116,6 +120,22 @@ impl Scratch {
         self.touched.push(object)?;
         self.positions[object.place()] = position;
         Ok(())
+    }
+
+    /// An empty list of inputs, with the room that the last one left.
+    pub fn take_inputs(&mut self, alloc: Global) -> InputList
+        ensures empty { result ≡ [] }
+        ensures same { self.new ≡ self.old }
+    {
+        mem::replace(&mut self.inputs, InputList::new(alloc))
+    }
+
+    /// Keeps the room of a list of inputs for the next one.
+    pub fn keep_inputs(&mut self, mut inputs: InputList)
+        ensures same { self.new ≡ self.old }
+    {
+        inputs.truncate(0);
+        self.inputs = inputs;
     }
 
     /// Nothing is remembered of any object. It costs what was touched.

@@ -25,6 +25,7 @@ use desk_names::ObjId;
 use desk_terms::{Asked, Bench, Cause, InputList, Job, Mark, Terms, Value};
 use object_store::{Objects, Scratch, Store};
 use std::alloc::{AllocError, Global};
+use std::mem;
 
 /// Asks a lazy object. It computes only what it uses and has no current value, and works each derived quote out at most once.
 pub fn ask<B: Bench>(
@@ -96,6 +97,37 @@ fn last_answer(store: &Store, object: ObjId, mark: Mark) -> Asked
         Some(_) => answered(None, mark, 0),
         None => answered(Some(Cause::Unpriced(object)), mark, 0),
     }
+}
+
+// An object that waits for another, and the inputs that were read for it.
+#[derive(Drop)]
+struct Frame {
+    object: ObjId,
+    inputs: InputList,
+}
+
+// What was read of an object that waits; an empty list with room takes its place.
+fn set_aside(alloc: Global, scratch: &mut Scratch, inputs: &mut InputList) -> InputList
+    ensures aside { result ≡ inputs.old }
+    ensures empty { inputs.new ≡ [] }
+    ensures same { scratch.new ≡ scratch.old }
+{
+    if inputs.len() == 0 {
+        return InputList::new(alloc);
+    }
+    mem::replace(inputs, scratch.take_inputs(alloc))
+}
+
+// What was read of an object that waited stands again; the room of the other list is kept.
+fn take_back(scratch: &mut Scratch, inputs: &mut InputList, aside: InputList)
+    ensures back { inputs.new ≡ aside }
+    ensures same { scratch.new ≡ scratch.old }
+{
+    if aside.len() == 0 {
+        inputs.truncate(0);
+        return;
+    }
+    scratch.keep_inputs(mem::replace(inputs, aside));
 }
 
 /// The walk of an ask, of an object that is neither held nor current.
@@ -173,14 +205,17 @@ fn walk<B: Bench>(
     ensures remembers { Remembers (market_of today objects.now) scratch.new.entries }
     ensures begun { Begun objects.now store.new.kept scratch.new.positions }
 {
-    let mut waiting: Vec<ObjId> = Vec::new(alloc);
+    let mut waiting: Vec<Frame> = Vec::new(alloc);
     let mut top = object;
     let mut runs: u64 = 0;
     loop {
         match next(alloc, today, objects, store, scratch, top, inputs)? {
             Step::Stops(cause) => return Ok(answered(Some(cause), mark, runs)),
             Step::First(needed) => {
-                waiting.push(top)?;
+                waiting.push(Frame {
+                    object: top,
+                    inputs: set_aside(alloc, scratch, inputs),
+                })?;
                 top = needed;
             }
             Step::Ready => {
@@ -190,7 +225,10 @@ fn walk<B: Bench>(
                     return Ok(answered(cause, mark, runs));
                 }
                 match waiting.pop() {
-                    Some(under) => top = under,
+                    Some(frame) => {
+                        top = frame.object;
+                        take_back(scratch, inputs, frame.inputs);
+                    }
                     None => return Ok(answered(None, mark, runs)),
                 }
             }

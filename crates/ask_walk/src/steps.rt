@@ -59,65 +59,26 @@ fn answer(store: &Store, object: ObjId) -> Option<Result<&Value, Cause>>
     }
 }
 
-// What an ask does next at a composite of these parts, of which the first were read and are settled. It reads on from
-// there, and all of them once more when all are settled; where none was read yet, once.
+// What an ask does next at a composite of these parts, of which the first were read. It reads on from there.
 #[inline(always)]
 fn next_member(
     alloc: Global,
     store: &Store,
     parts: &[Part],
-    begun: &mut usize,
     inputs: &mut InputList,
 ) -> Result<Step, AllocError>
-    requires low { begun.old ≤ length parts.now }
-    requires settled { AreSettled store.now.kept (take begun.old parts.now) }
+    requires read { AreRead store.now.kept parts.now inputs.old }
     ensures next { IfOk result (λ step. next_with inputs.new step ≡ next_of (is_at_hand store.now.kept) (answer_of store.now.kept) (member_entries parts.now)) }
-    ensures low { begun.new ≤ length parts.now }
-    ensures settled { AreSettled store.now.kept (take begun.new parts.now) }
+    ensures read { AreRead store.now.kept parts.now inputs.new }
 {
-    if *begun == 0 {
-        return all_members(alloc, store, parts, begun, inputs);
-    }
-    while *begun < parts.len() {
-        let part = &parts[*begun];
-        match answer(store, part.member) {
-            Some(outcome) => match outcome {
-                Ok(_) => *begun += 1,
-                Err(cause) => return Ok(Step::Stops(cause)),
-            },
-            None => return Ok(Step::First(part.member)),
-        }
-    }
-    all_members(alloc, store, parts, begun, inputs)
-}
-
-// What an ask does next at a composite of these parts, all of which it reads, up to the first that has to be computed.
-#[inline(always)]
-fn all_members(
-    alloc: Global,
-    store: &Store,
-    parts: &[Part],
-    begun: &mut usize,
-    inputs: &mut InputList,
-) -> Result<Step, AllocError>
-    requires low { begun.old ≤ length parts.now }
-    requires settled { AreSettled store.now.kept (take begun.old parts.now) }
-    ensures next { IfOk result (λ step. next_with inputs.new step ≡ next_of (is_at_hand store.now.kept) (answer_of store.now.kept) (member_entries parts.now)) }
-    ensures low { begun.new ≤ length parts.now }
-    ensures settled { AreSettled store.now.kept (take begun.new parts.now) }
-{
-    inputs.truncate(0);
-    for at in 0..parts.len() {
+    for at in inputs.len()..parts.len() {
         let part = &parts[at];
         match answer(store, part.member) {
             Some(outcome) => match outcome {
                 Ok(value) => push_value(alloc, value, inputs)?,
                 Err(cause) => return Ok(Step::Stops(cause)),
             },
-            None => {
-                *begun = at;
-                return Ok(Step::First(part.member));
-            }
+            None => return Ok(Step::First(part.member)),
         }
     }
     Ok(Step::Ready)
@@ -142,7 +103,10 @@ fn next_entries(
                     Ok(held) => push_value(alloc, held, inputs)?,
                     Err(cause) => return Ok(Step::Stops(cause)),
                 },
-                None => return Ok(Step::First(object)),
+                None => {
+                    inputs.truncate(0);
+                    return Ok(Step::First(object));
+                }
             },
         }
     }
@@ -174,16 +138,7 @@ pub fn next(
             let entry = read(alloc, today, objects, scratch, *quote)?;
             next_entries(alloc, store, &[entry], inputs)
         }
-        Terms::Composite(parts) => {
-            let was = scratch.position(object);
-            let mut at = was;
-            let step = next_member(alloc, store, parts.items(), &mut at, inputs)?;
-            if at == was {
-                return Ok(step);
-            }
-            scratch.advance(object, at)?;
-            Ok(step)
-        }
+        Terms::Composite(parts) => next_member(alloc, store, parts.items(), inputs),
         Terms::Implied { curve, .. } => {
             let entry = read(alloc, today, objects, scratch, *curve)?;
             next_entries(alloc, store, &[entry], inputs)

@@ -8,7 +8,7 @@ use desk_terms::{Cause, Input, Part, Value};
 use fixed_amount::Amount;
 
 // The most that a weight is, either way.
-const MOST_WEIGHT: u64 = 1_000_000;
+const MOST_WEIGHT: i64 = 1_000_000;
 
 // The most parts of a composite.
 const MOST_PARTS: usize = 4096;
@@ -37,11 +37,11 @@ fn weighted(parts: &[Part], inputs: &[Input]) -> Option<i128>
     requires { length parts.now ≤ 4096 }
     ensures { result ≡ weighted parts.now inputs.now }
 {
+    if inputs.len() < parts.len() {
+        return None;
+    }
     let mut sum: i128 = 0;
     for at in 0..parts.len() {
-        if at >= inputs.len() {
-            return None;
-        }
         match product(&parts[at], &inputs[at]) {
             None => return None,
             Some(units) => sum = sum_of(sum, units),
@@ -60,7 +60,7 @@ fn product(part: &Part, input: &Input) -> Option<i128>
         Input::Rate(_) => None,
         Input::Curve(_) => None,
         Input::Money(amount) => {
-            if part.weight.unsigned_abs() > MOST_WEIGHT {
+            if part.weight < -MOST_WEIGHT || part.weight > MOST_WEIGHT {
                 return None;
             }
             Some(times(part.weight, *amount))

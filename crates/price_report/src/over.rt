@@ -8,7 +8,7 @@ use std::alloc::{AllocError, Global};
 
 /// Appends the line that says that the watcher of this name was stopped. After want of memory `out` has its old bytes.
 pub fn over_line(
-    alloc: Global,
+    _alloc: Global,
     name: NameId,
     names: &Names,
     out: &mut Vec<u8>,
@@ -16,18 +16,24 @@ pub fn over_line(
     ensures ok { OnOk result (out.new.items ≡ out.old.items ++ over_line names.now name) }
     ensures err { OnErr result (out.new.items ≡ out.old.items) }
 {
-    let line = over_bytes(alloc, name, names)?;
-    out.extend_from_slice(line.as_slice())
+    let front = out.len();
+    match push_over(name, names, out) {
+        Ok(()) => Ok(()),
+        Err(fault) => {
+            out.truncate(front);
+            Err(fault)
+        }
+    }
 }
 
-// The line in a vector of its own.
-#[tactic(auto, unfolding(crate::specs::Line::over_line))]
-fn over_bytes(alloc: Global, name: NameId, names: &Names) -> Result<Vec<u8>, AllocError>
-    ensures { IfOk result (λ line. line.items ≡ over_line names.now name) }
+// Appends the line; a part of it may stand where memory was wanting.
+#[tactic(auto, unfolding(crate::specs::Line::over_line), using(crate::proofs::Fronts::front_on, crate::proofs::Fronts::front_same))]
+fn push_over(name: NameId, names: &Names, line: &mut Vec<u8>) -> Result<(), AllocError>
+    ensures ok { OnOk result (line.new.items ≡ line.old.items ++ over_line names.now name) }
+    ensures err { OnErr result (KeepsFront line.old.items line.new.items) }
 {
-    let mut line = Vec::new(alloc);
     line.extend_from_slice(b"over ")?;
     line.extend_from_slice(text_of(names, name))?;
-    line.extend_from_slice(b"\n")?;
-    Ok(line)
+    line.push(b'\n')?;
+    Ok(())
 }

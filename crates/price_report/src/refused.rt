@@ -24,29 +24,36 @@ pub fn refusal_line(
         ≡ out.old.items ++ refusal_line namer.now.names.now namer.now.of_object.now word.now refusal.now) }
     ensures err { OnErr result (out.new.items ≡ out.old.items) }
 {
-    let line = refusal_bytes(alloc, word, refusal, namer)?;
-    out.extend_from_slice(line.as_slice())
+    let front = out.len();
+    match push_refusal(alloc, word, refusal, namer, out) {
+        Ok(()) => Ok(()),
+        Err(fault) => {
+            out.truncate(front);
+            Err(fault)
+        }
+    }
 }
 
-// The line in a vector of its own.
-#[tactic(auto, unfolding(crate::specs::Line::refusal_line))]
-fn refusal_bytes(
+// Appends the line; a part of it may stand where memory was wanting.
+#[tactic(auto, unfolding(crate::specs::Line::refusal_line), using(crate::proofs::Fronts::front_on, crate::proofs::Fronts::front_same))]
+fn push_refusal(
     alloc: Global,
     word: &[u8],
     refusal: &Refusal,
     namer: &Namer<'_>,
-) -> Result<Vec<u8>, AllocError>
-    ensures { IfOk result (λ line. line.items
-        ≡ refusal_line namer.now.names.now namer.now.of_object.now word.now refusal.now) }
+    line: &mut Vec<u8>,
+) -> Result<(), AllocError>
+    ensures ok { OnOk result (line.new.items
+        ≡ line.old.items ++ refusal_line namer.now.names.now namer.now.of_object.now word.now refusal.now) }
+    ensures err { OnErr result (KeepsFront line.old.items line.new.items) }
 {
-    let mut line = Vec::new(alloc);
     line.extend_from_slice(b"refused ")?;
     line.extend_from_slice(word)?;
-    line.extend_from_slice(b" ")?;
+    line.push(b' ')?;
     line.extend_from_slice(refusal.word())?;
-    push_detail(alloc, refusal, namer, &mut line)?;
-    line.extend_from_slice(b"\n")?;
-    Ok(line)
+    push_detail(alloc, refusal, namer, line)?;
+    line.push(b'\n')?;
+    Ok(())
 }
 
 // Appends what a refusal says behind its word.
@@ -56,7 +63,8 @@ fn push_detail(
     namer: &Namer<'_>,
     line: &mut Vec<u8>,
 ) -> Result<(), AllocError>
-    ensures { OnOk result (line.new.items
+    ensures err { OnErr result (KeepsFront line.old.items line.new.items) }
+    ensures ok { OnOk result (line.new.items
         ≡ line.old.items ++ refusal_detail namer.now.names.now namer.now.of_object.now refusal.now) }
 {
     match refusal {
@@ -75,16 +83,18 @@ fn push_detail(
 
 // Appends a space and a text.
 fn push_word(text: &[u8], line: &mut Vec<u8>) -> Result<(), AllocError>
-    ensures { OnOk result (line.new.items ≡ line.old.items ++ (codes " " ++ text.now)) }
+    ensures ok { OnOk result (line.new.items ≡ line.old.items ++ (codes " " ++ text.now)) }
+    ensures err { OnErr result (KeepsFront line.old.items line.new.items) }
 {
-    line.extend_from_slice(b" ")?;
+    line.push(b' ')?;
     line.extend_from_slice(text)
 }
 
 // Appends a space and a rate.
 fn push_rate(alloc: Global, rate: Rate, line: &mut Vec<u8>) -> Result<(), AllocError>
-    ensures { OnOk result (line.new.items ≡ line.old.items ++ (codes " " ++ decimal_text rate 9)) }
+    ensures ok { OnOk result (line.new.items ≡ line.old.items ++ (codes " " ++ decimal_text rate 9)) }
+    ensures err { OnErr result (KeepsFront line.old.items line.new.items) }
 {
-    line.extend_from_slice(b" ")?;
+    line.push(b' ')?;
     print_decimal(alloc, i128::from(rate.units()), RATE_PLACES, line)
 }

@@ -106,6 +106,52 @@ struct Frame {
     inputs: InputList,
 }
 
+// Goes down from an object by first members that have to be computed, each of which waits for the next; to the last.
+fn descend(
+    alloc: Global,
+    objects: &Objects,
+    store: &Store,
+    object: ObjId,
+    waiting: &mut Vec<Frame>,
+) -> Result<ObjId, AllocError>
+{
+    let mut top = object;
+    while let Some(needed) = first_needed(objects, store, top) {
+        waiting.push(Frame {
+            object: top,
+            inputs: InputList::new(alloc),
+        })?;
+        top = needed;
+    }
+    Ok(top)
+}
+
+// The first member of a composite, where it has to be computed.
+fn first_needed(objects: &Objects, store: &Store, object: ObjId) -> Option<ObjId>
+{
+    match objects.own_terms(object) {
+        Terms::Composite(parts) => match parts.items() {
+            [part, ..] => {
+                if store.is_at_hand(part.member) {
+                    None
+                } else {
+                    Some(part.member)
+                }
+            }
+            [] => None,
+        },
+        Terms::Quote(_)
+        | Terms::Derived { .. }
+        | Terms::Handle { .. }
+        | Terms::Index(..)
+        | Terms::Engine { .. }
+        | Terms::Curve(_)
+        | Terms::Implied { .. }
+        | Terms::Stock { .. }
+        | Terms::Flows(..) => None,
+    }
+}
+
 // What was read of an object that waits; an empty list with room takes its place.
 fn set_aside(alloc: Global, scratch: &mut Scratch, inputs: &mut InputList) -> InputList
     ensures aside { result ≡ inputs.old }
@@ -206,7 +252,7 @@ fn walk<B: Bench>(
     ensures begun { Begun objects.now store.new.kept scratch.new.positions }
 {
     let mut waiting: Vec<Frame> = Vec::new(alloc);
-    let mut top = object;
+    let mut top = descend(alloc, objects, store, object, &mut waiting)?;
     let mut runs: u64 = 0;
     loop {
         match next(alloc, today, objects, store, scratch, top, inputs)? {
@@ -216,7 +262,7 @@ fn walk<B: Bench>(
                     object: top,
                     inputs: set_aside(alloc, scratch, inputs),
                 })?;
-                top = needed;
+                top = descend(alloc, objects, store, needed, &mut waiting)?;
             }
             Step::Ready => {
                 let cause = compute(alloc, today, objects, store, top, inputs, bench)?;

@@ -19,8 +19,8 @@ pub(crate) fn composite_price(
     object: ObjId,
     parts: &[Part],
     inputs: &[Input],
-) -> Result<Value, Cause>
-    ensures { result ≡ composite_price object parts.now inputs.now }
+) -> Result<Amount, Cause>
+    ensures { as_money result ≡ composite_price object parts.now inputs.now }
 {
     if parts.len() > MOST_PARTS {
         return Err(Cause::TooLarge(object));

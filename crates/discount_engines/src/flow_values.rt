@@ -25,14 +25,14 @@ pub(crate) fn flows_price(
     today: Day,
     index: Option<&IndexUse<'_>>,
     inputs: &[Input],
-) -> Result<Value, Cause>
+) -> Result<Amount, Cause>
     requires range { AreFlowsInRange flows.now }
     requires index { IsIndexOf flows.now.index (index_reading (option_copied index)) }
     requires inputs { AreCurves flows.now (Some today) (index_reading (option_copied index)) inputs.now }
-    ensures { result ≡ flows_price object flows.now (Some today) (index_reading (option_copied index.entry)) inputs.now }
+    ensures { as_money result ≡ flows_price object flows.now (Some today) (index_reading (option_copied index.entry)) inputs.now }
 {
     if expired(flows, today) {
-        return Ok(Value::Money(Amount(0)));
+        return Ok(Amount(0));
     }
     match inputs {
         [Input::Curve(curve)] => value_over(object, flows, today, index, curve, None),
@@ -51,11 +51,11 @@ fn value_over(
     index: Option<&IndexUse<'_>>,
     curve: &CurveValue,
     forecast: Option<&CurveValue>,
-) -> Result<Value, Cause>
+) -> Result<Amount, Cause>
     requires range { AreFlowsInRange flows.now }
     requires index { IsIndexOf flows.now.index (index_reading (option_copied index)) }
     requires curve { needs_curve (views_of (option_copied index)) flows.now.flows today ≡ true → IsSome forecast }
-    ensures { result ≡ value_over object flows.now.flows today (index_reading (option_copied index.entry)) curve.now (option_copied forecast.entry) }
+    ensures { as_money result ≡ value_over object flows.now.flows today (index_reading (option_copied index.entry)) curve.now (option_copied forecast.entry) }
 {
     let units = worth(object, flows.flows.items(), today, index, curve, forecast)?;
     money_of(object, rounded(units))

@@ -10,11 +10,11 @@ use fixed_amount::Amount;
 const MOST_UNITS: i128 = 1_000_000_000_000_000_000_000_000;
 
 /// Money in the limits, or the refusal.
-pub(crate) fn money_of(object: ObjId, units: i128) -> Result<Value, Cause>
-    ensures { result ≡ money_of object units }
+pub(crate) fn money_of(object: ObjId, units: i128) -> Result<Amount, Cause>
+    ensures { as_money result ≡ money_of object units }
 {
     if units >= -MOST_UNITS && units <= MOST_UNITS {
-        Ok(Value::Money(Amount(units)))
+        Ok(Amount(units))
     } else {
         Err(Cause::TooLarge(object))
     }

@@ -8,6 +8,7 @@ use crate::composites::composite_price;
 use crate::flow_values::flows_price;
 use crate::stocks::stock_price;
 use desk_terms::{Cause, Job, Terms, Value};
+use fixed_amount::Amount;
 use std::alloc::Global;
 
 /// The price of a stock, a composite, a bond, a swap or a forward rate agreement, in units of 10^-6, within 10^24 units
@@ -20,14 +21,17 @@ pub fn price(_alloc: Global, job: &Job<'_>) -> Result<Value, PriceFault>
     ensures answer { result ≡ answer_of (instrument_price (reading_of job.now)) }
     ensures fits { Fits (reading_of job.now) (instrument_price (reading_of job.now)) }
 {
-    price_of(job).map_err(PriceFault::Refused)
+    match price_of(job) {
+        Ok(amount) => Ok(Value::Money(amount)),
+        Err(cause) => Err(PriceFault::Refused(cause)),
+    }
 }
 
 // The same with a cause alone.
 #[inline(always)]
-fn price_of(job: &Job<'_>) -> Result<Value, Cause>
+fn price_of(job: &Job<'_>) -> Result<Amount, Cause>
     requires { IsWellFormed (reading_of job.now) }
-    ensures { result ≡ instrument_price (reading_of job.now) }
+    ensures { as_money result ≡ instrument_price (reading_of job.now) }
 {
     let inputs = job.inputs.items();
     match job.terms {

@@ -6,14 +6,14 @@ ghost use Rattle.discount_engines.specs.Stock.{stock_price};
 use crate::money::money_of;
 use desk_names::ObjId;
 use desk_terms::{Cause, Input, Value};
-use fixed_amount::{Rate, Rounding, div_round};
+use fixed_amount::{Amount, Rate, Rounding, div_round};
 
 // How many units of a rate make one unit of an amount.
 const RATE_UNITS: i128 = 1000;
 
 /// The price of a stock.
-pub(crate) fn stock_price(object: ObjId, inputs: &[Input]) -> Result<Value, Cause>
-    ensures { result ≡ stock_price object inputs.now }
+pub(crate) fn stock_price(object: ObjId, inputs: &[Input]) -> Result<Amount, Cause>
+    ensures { as_money result ≡ stock_price object inputs.now }
 {
     match inputs {
         [Input::Rate(rate)] => money_of(object, stock_units(*rate)),

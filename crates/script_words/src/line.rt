@@ -80,6 +80,47 @@ pub fn words_of<'a>(line: &'a [u8], words: &mut Vec<&'a [u8]>) -> Result<(), All
     Ok(())
 }
 
+// Whether a byte may stand in a word: no blank, and no `#`, which begins a comment.
+fn is_word_byte(byte: u8) -> bool
+    ensures { result ≡ is_word_byte byte }
+{
+    33 <= byte && byte <= 126 && byte != b'#'
+}
+
+// How many bytes stand before the first one that no word has, or in all.
+fn word_len(text: &[u8]) -> usize
+    ensures value { result ≡ prefix_len is_word_byte text.now }
+    ensures bound { result ≤ length text.now }
+{
+    text.iter().take_while(|byte| is_word_byte(**byte)).count()
+}
+
+/// Puts the words of a line, as parts of it, in the place of those that `words` has; whether each byte of the line may stand
+/// in a script. Where one may not, `words` has some of the words. Each byte is looked at once.
+pub fn good_words_of<'a>(line: &'a [u8], words: &mut Vec<&'a [u8]>) -> Result<bool, AllocError>
+    ensures good { IfOk result (λ good. good ≡ list_all is_good line.now) }
+    ensures words { IfOk result (λ good. good ≡ true → map (λ word. word.now) words.new.items ≡ words_of line.now) }
+{
+    words.clear();
+    let mut rest = line;
+    while !rest.is_empty() {
+        let (word, behind) = rest.split_at(word_len(rest));
+        if !word.is_empty() {
+            words.push(word)?;
+        }
+        match behind {
+            [] => return Ok(true),
+            [byte, after @ ..] => {
+                if !is_blank(*byte) {
+                    return Ok(*byte == b'#' && has_good_bytes(after));
+                }
+                rest = after;
+            }
+        }
+    }
+    Ok(true)
+}
+
 /// The word at the place, or no bytes where there is none.
 pub fn word_at<'a>(words: &[&'a [u8]], at: usize) -> &'a [u8]
     ensures { result.now ≡ slice_index_or (map (λ word. word.now) words.now) at [] }

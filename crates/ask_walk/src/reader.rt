@@ -41,14 +41,49 @@ pub fn read(
     ensures remembers { Remembers (market_of today objects.now) scratch.new.entries }
     ensures positions { scratch.new.positions ≡ scratch.old.positions }
 {
-    let object = passed_to(objects, object);
-    match scratch.entry(object) {
+    match quote_given(objects, object) {
+        Some(entry) => Ok(entry),
+        None => read_passed(alloc, today, objects, scratch, object),
+    }
+}
+
+// The same of an object that is no quote.
+fn read_passed(
+    alloc: Global,
+    today: Day,
+    objects: &Objects,
+    scratch: &mut Scratch,
+    object: ObjId,
+) -> Result<Entry, AllocError>
+    requires linked { IsLinked (market_of today objects.now) }
+    requires within { object < length objects.now }
+    requires remembers { Remembers (market_of today objects.now) scratch.old.entries }
+    ensures entry { IfOk result (λ entry. entry ≡ input_at (market_of today objects.now) object) }
+    ensures remembers { Remembers (market_of today objects.now) scratch.new.entries }
+    ensures positions { scratch.new.positions ≡ scratch.old.positions }
+{
+    let reached = passed_to(objects, object);
+    match quote_given(objects, reached) {
         Some(entry) => return Ok(entry),
         None => {}
     }
-    match look_at(objects, scratch, object) {
+    match scratch.entry(reached) {
+        Some(entry) => return Ok(entry),
+        None => {}
+    }
+    match look_at(objects, scratch, reached) {
         Look::Is(entry) => Ok(entry),
-        Look::First(_) => read_through(alloc, today, objects, scratch, object),
+        Look::First(_) => read_through(alloc, today, objects, scratch, reached),
+    }
+}
+
+// What an object gives, if it is a quote.
+fn quote_given(objects: &Objects, object: ObjId) -> Option<Entry>
+    ensures { IfSome result (λ entry. (today : ℤ) → entry ≡ input_at (market_of today objects.now) object) }
+{
+    match objects.terms(object) {
+        Some(Terms::Quote(_)) => Some(quoted(object, objects.value(object))),
+        _ => None,
     }
 }
 

@@ -84,6 +84,31 @@ fn next_member(
     Ok(Step::Ready)
 }
 
+// What an ask does next where a price takes this entry alone.
+#[inline(always)]
+fn next_entry(
+    alloc: Global,
+    store: &Store,
+    entry: Entry,
+    inputs: &mut InputList,
+) -> Result<Step, AllocError>
+    requires empty { inputs.old ≡ [] }
+    ensures { IfOk result (λ step. next_with inputs.new step ≡ next_of (is_at_hand store.now.kept) (answer_of store.now.kept) (entry ∷ [])) }
+{
+    match entry {
+        Entry::Gives(rate) => inputs.push(Input::Rate(rate))?,
+        Entry::Refuses(cause) => return Ok(Step::Stops(cause)),
+        Entry::Needs(object) => match answer(store, object) {
+            Some(outcome) => match outcome {
+                Ok(held) => push_value(alloc, held, inputs)?,
+                Err(cause) => return Ok(Step::Stops(cause)),
+            },
+            None => return Ok(Step::First(object)),
+        },
+    }
+    Ok(Step::Ready)
+}
+
 // What an ask does next where a price takes these entries.
 fn next_entries(
     alloc: Global,
@@ -136,12 +161,12 @@ pub fn next(
     match objects.own_terms(object) {
         Terms::Stock { quote } => {
             let entry = read(alloc, today, objects, scratch, *quote)?;
-            next_entries(alloc, store, &[entry], inputs)
+            next_entry(alloc, store, entry, inputs)
         }
         Terms::Composite(parts) => next_member(alloc, store, parts.items(), inputs),
         Terms::Implied { curve, .. } => {
             let entry = read(alloc, today, objects, scratch, *curve)?;
-            next_entries(alloc, store, &[entry], inputs)
+            next_entry(alloc, store, entry, inputs)
         }
         Terms::Curve(curve) => {
             let helpers = curve.helpers.items();

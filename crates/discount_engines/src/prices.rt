@@ -38,7 +38,9 @@ fn price_of(job: &Job<'_>) -> Result<Amount, Cause>
         Terms::Stock { .. } => stock_price(job.object, inputs),
         Terms::Composite(parts) => composite_price(job.object, parts.items(), inputs),
         Terms::Flows(flows, _) => {
-            flows_price(job.object, flows, job.today, job.index.as_ref(), inputs)
+            // A copy, so that no job has to stand in memory for its other kinds.
+            let index = job.index;
+            flows_price(job.object, flows, job.today, index.as_ref(), inputs)
         }
         Terms::Quote(_)
         | Terms::Derived { .. }

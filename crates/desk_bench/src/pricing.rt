@@ -21,9 +21,9 @@ pub fn price_of(alloc: Global, job: &Job<'_>) -> Result<Value, BenchFault>
     match job.terms {
         Terms::Curve(terms) => curve_price(alloc, job.object, terms, job.today, inputs),
         Terms::Implied { reference, .. } => implied_price(alloc, job.object, *reference, inputs),
-        Terms::Stock { .. }
-        | Terms::Composite(_)
-        | Terms::Flows(..)
+        Terms::Composite(_) => instrument_price(alloc, job),
+        Terms::Stock { .. } => instrument_price(alloc, job),
+        Terms::Flows(..)
         | Terms::Quote(_)
         | Terms::Derived { .. }
         | Terms::Handle { .. }

@@ -33,6 +33,14 @@ impl<T> Items<T> {
         }
     }
 
+    /// The empty list, with room for so many items.
+    pub fn with_room(alloc: Global, count: usize) -> Result<Items<T>, AllocError>
+        ensures { IfOk result (λ list. list ≡ []) }
+    {
+        let items = Vec::with_capacity(alloc, count)?;
+        Ok(Items { items })
+    }
+
     /// How many items there are.
     pub fn len(&self) -> usize
         ensures { result ≡ length self.now }

@@ -131,7 +131,7 @@ fn reweighted(
 ) -> Result<PartList, AllocError>
     ensures { IfOk result (λ changed. changed ≡ reweighted parts.now member weight) }
 {
-    let mut changed = PartList::new(alloc);
+    let mut changed = PartList::with_room(alloc, parts.len() + 1)?;
     for part in parts {
         let held = if part.member == member {
             weight

@@ -114,7 +114,7 @@ fn has_member(parts: &[Part], member: ObjId) -> bool
 fn without_member(alloc: Global, parts: &[Part], member: ObjId) -> Result<PartList, AllocError>
     ensures { IfOk result (λ rest. rest ≡ without_member parts.now member) }
 {
-    let mut rest = PartList::new(alloc);
+    let mut rest = PartList::with_room(alloc, parts.len())?;
     for part in parts {
         if part.member != member {
             rest.push(*part)?;

@@ -23,7 +23,7 @@ use crate::uses::index_named;
 use day_number::Day;
 use desk_names::ObjId;
 use desk_terms::{Asked, Bench, Cause, InputList, Job, Mark, Terms, Value};
-use object_store::{Objects, Scratch, Store};
+use object_store::{Objects, Scratch, Store, Waiting};
 use std::alloc::{AllocError, Global};
 use std::mem;
 
@@ -99,25 +99,18 @@ fn last_answer(store: &Store, object: ObjId, mark: Mark) -> Asked
     }
 }
 
-// An object that waits for another, and the inputs that were read for it.
-#[derive(Drop)]
-struct Frame {
-    object: ObjId,
-    inputs: InputList,
-}
-
 // Goes down from an object by first members that have to be computed, each of which waits for the next; to the last.
 fn descend(
     alloc: Global,
     objects: &Objects,
     store: &Store,
     object: ObjId,
-    waiting: &mut Vec<Frame>,
+    waiting: &mut Vec<Waiting>,
 ) -> Result<ObjId, AllocError>
 {
     let mut top = object;
     while let Some(needed) = first_needed(objects, store, top) {
-        waiting.push(Frame {
+        waiting.push(Waiting {
             object: top,
             inputs: InputList::new(alloc),
         })?;
@@ -206,6 +199,7 @@ pub fn compute_all<B: Bench>(
     ensures begun { Begun objects.now store.new.kept scratch.new.positions }
 {
     let mut inputs = scratch.take_inputs(alloc);
+    let mut waiting = scratch.take_waiting(alloc);
     let answer = walk(
         alloc,
         today,
@@ -215,13 +209,16 @@ pub fn compute_all<B: Bench>(
         object,
         mark,
         &mut inputs,
+        &mut waiting,
         bench,
     );
+    scratch.keep_waiting(waiting);
     scratch.keep_inputs(inputs);
     answer
 }
 
-// The same; `inputs` is room for those of each price.
+// The same; `inputs` is room for those of each price, `waiting` for the
+// objects that wait.
 fn walk<B: Bench>(
     alloc: Global,
     today: Day,
@@ -231,6 +228,7 @@ fn walk<B: Bench>(
     object: ObjId,
     mark: Mark,
     inputs: &mut InputList,
+    waiting: &mut Vec<Waiting>,
     bench: &mut B,
 ) -> Result<Asked, AllocError>
     requires may { MayAsk (B.calc bench.old) (state_of today objects.now store.old.kept (registry_of store.old)) object }
@@ -251,18 +249,17 @@ fn walk<B: Bench>(
     ensures remembers { Remembers (market_of today objects.now) scratch.new.entries }
     ensures begun { Begun objects.now store.new.kept scratch.new.positions }
 {
-    let mut waiting: Vec<Frame> = Vec::new(alloc);
-    let mut top = descend(alloc, objects, store, object, &mut waiting)?;
+    let mut top = descend(alloc, objects, store, object, waiting)?;
     let mut runs: u64 = 0;
     loop {
         match next(alloc, today, objects, store, scratch, top, inputs)? {
             Step::Stops(cause) => return Ok(answered(Some(cause), mark, runs)),
             Step::First(needed) => {
-                waiting.push(Frame {
+                waiting.push(Waiting {
                     object: top,
                     inputs: set_aside(alloc, scratch, inputs),
                 })?;
-                top = descend(alloc, objects, store, needed, &mut waiting)?;
+                top = descend(alloc, objects, store, needed, waiting)?;
             }
             Step::Ready => {
                 let cause = compute(alloc, today, objects, store, top, inputs, bench)?;

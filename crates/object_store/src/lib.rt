@@ -15,5 +15,5 @@ pub use edges::{TODAY, watched};
 pub use engines::engine_of;
 pub use fixings::index_of;
 pub use objects::Objects;
-pub use scratch::Scratch;
+pub use scratch::{Scratch, Waiting};
 pub use store::Store;

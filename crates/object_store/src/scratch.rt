@@ -11,6 +11,13 @@ use std::alloc::{AllocError, Global};
 use std::marker::Model;
 use std::mem;
 
+/// An object that waits for another, and the inputs that were read for it.
+#[derive(Drop)]
+pub struct Waiting {
+    pub object: ObjId,
+    pub inputs: InputList,
+}
+
 /// What quotes give, as far as it was worked out, and how far the members of composites were read.
 #[derive(Drop)]
 pub struct Scratch {
@@ -19,6 +26,8 @@ pub struct Scratch {
     touched: Vec<ObjId>,
     // Room for the inputs of a price; empty between asks.
     inputs: InputList,
+    // Room for the objects that wait; empty between asks.
+    waiting: Vec<Waiting>,
 }
 
 impl Model for Scratch {
@@ -34,7 +43,7 @@ impl Model for Scratch {
       spare = min (vec_capacity s.entries) (vec_capacity s.positions) - length s.entries.items;
     } };
 
-    ghost invariant = { λ s. AreTouched s.entries.items s.positions.items s.touched.items × (length s.positions.items ≡ length s.entries.items) × (s.inputs ≡ []) };
+    ghost invariant = { λ s. AreTouched s.entries.items s.positions.items s.touched.items × (length s.positions.items ≡ length s.entries.items) × (s.inputs ≡ []) × (s.waiting.items ≡ []) };
 }
 
 impl Scratch {
@@ -49,6 +58,7 @@ impl Scratch {
             positions: Vec::new(alloc),
             touched: Vec::new(alloc),
             inputs: InputList::new(alloc),
+            waiting: Vec::new(alloc),
         }
     }
 
@@ -136,6 +146,22 @@ impl Scratch {
     {
         inputs.truncate(0);
         self.inputs = inputs;
+    }
+
+    /// An empty stack of objects that wait, with the room that the last one left.
+    pub fn take_waiting(&mut self, alloc: Global) -> Vec<Waiting>
+        ensures empty { result.items ≡ [] }
+        ensures same { self.new ≡ self.old }
+    {
+        mem::replace(&mut self.waiting, Vec::new(alloc))
+    }
+
+    /// Keeps the room of a stack of objects that wait for the next one.
+    pub fn keep_waiting(&mut self, mut waiting: Vec<Waiting>)
+        ensures same { self.new ≡ self.old }
+    {
+        waiting.clear();
+        self.waiting = waiting;
     }
 
     /// Nothing is remembered of any object. It costs what was touched.

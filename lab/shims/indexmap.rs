@@ -166,3 +166,15 @@ impl<T> std::ops::Index<usize> for Keys<T> {
     #[inline(always)]
     fn index(&self, i: usize) -> &T { unsafe { self.0.get_unchecked(i) } }
 }
+/// A map by few keys.
+pub struct IndexMap<K, V> { pairs: std::vec::Vec<(K, V)> }
+impl<V> IndexMap<Vec<u8>, V> {
+    pub fn new(_: Global) -> Self { IndexMap { pairs: std::vec::Vec::new() } }
+    pub fn get(&self, key: &[u8]) -> Option<&V> { self.pairs.iter().find(|(k, _)| k.as_slice() == key).map(|(_, v)| v) }
+    pub fn insert(&mut self, key: Vec<u8>, value: V) -> Result<Option<V>, AllocFailed<()>> {
+        match self.pairs.iter_mut().find(|(k, _)| k.as_slice() == key.as_slice()) {
+            Some((_, v)) => Ok(Some(std::mem::replace(v, value))),
+            None => { self.pairs.push((key, value)); Ok(None) }
+        }
+    }
+}

@@ -1,10 +1,9 @@
-//! The lab's program: `desk_lab run MARKET SCRIPT [ORDER]` and `desk_lab load N`, over a market of no objects but its date.
+//! The lab's program: `desk_lab run MARKET SCRIPT [ORDER]` and `desk_lab load N`.
 use desk_bench::DeskBench;
 use desk_names::Names;
 use rt_std::Vec;
 use rt_std::alloc::Global;
 use session_commands::Command;
-use session_core::Session;
 use session_lang::{ScriptFault, read_script};
 use session_rounds::WatchedSession;
 use std::io::{Read, Write};
@@ -24,16 +23,44 @@ fn file(path: &str) -> Vec<u8> {
     }
 }
 
-fn today_of(market: &str) -> day_number::Day {
-    let text = std::fs::read_to_string(market).unwrap();
-    let line = text.lines().find(|l| l.starts_with("today")).unwrap();
-    let digits: std::vec::Vec<i32> = line.split('"').nth(1).unwrap().split('-').map(|w| w.parse().unwrap()).collect();
-    day_number::Day::of(digits[0], digits[1] as u8, digits[2] as u8).unwrap()
+// Files by path, each read whole, or those that are given.
+struct Files { given: std::vec::Vec<(&'static str, std::vec::Vec<u8>)>, begun: std::vec::Vec<u8>, at: usize }
+impl desk_edge::Shelf for Files {
+    fn find(&mut self, path: &str) -> Result<bool, desk_edge::Failed> {
+        let held = self.given.iter().find(|(p, _)| *p == path).map(|(_, b)| b.clone());
+        match held.or_else(|| if self.given.is_empty() { std::fs::read(path).ok() } else { None }) {
+            None => Ok(false),
+            Some(bytes) => { self.begun = bytes; self.at = 0; Ok(true) }
+        }
+    }
+    fn take(&mut self, buf: &mut [u8]) -> Result<usize, desk_edge::Failed> {
+        let n = buf.len().min(self.begun.len() - self.at);
+        buf[..n].copy_from_slice(&self.begun[self.at..self.at + n]);
+        self.at += n;
+        Ok(n)
+    }
 }
 
-fn session(names: Names, today: day_number::Day, actions: session_commands::Actions, order: Order) -> WatchedSession<Order> {
-    let session = Session::new(Global, names, today, actions).unwrap();
-    WatchedSession::new(Global, session, order).unwrap()
+fn played(given: std::vec::Vec<(&'static str, std::vec::Vec<u8>)>, market: &str, text: &[u8], order: Order) -> Option<(WatchedSession<Order>, session_commands::CommandList)> {
+    let mut names = Names::new(Global);
+    let mut files = Files { given, begun: std::vec::Vec::new(), at: 0 };
+    let market = match market_loader::load_market(Global, market, &mut files, &mut names) {
+        Ok(market) => market,
+        Err(_) => {
+            println!("desk: no market");
+            return None;
+        }
+    };
+    let script = match read_script(Global, text, &mut names) {
+        Ok(script) => script,
+        Err(ScriptFault::At { line, kind }) => {
+            println!("desk: script {line} {kind}");
+            return None;
+        }
+        Err(_) => unreachable!(),
+    };
+    let session = market_session::session_of(Global, names, market.today, market.made, script.actions).unwrap();
+    Some((WatchedSession::new(Global, session, order).unwrap(), script.commands))
 }
 
 #[inline(never)]
@@ -82,32 +109,11 @@ fn tally(session: &mut WatchedSession<Order>, commands: &[Command], bench: &mut 
 }
 
 fn load(n: u32) {
-    let today = day_number::Day::of(2024, 1, 2).unwrap();
     let texts = load_maker::load_texts(Global, n).unwrap();
-    // The objects of the load's market, as commands.
-    let mut making = std::string::String::new();
-    for k in 1..=n {
-        making += &format!("quote q{k} {k}.5\n");
-    }
-    for k in 1..=n {
-        making += &format!("stock s{k} q{k}\n");
-    }
-    for k in 1..=n {
-        making += &format!("composite c{k}\n");
-        if k > 1 {
-            making += &format!("member c{k} c{} 1\n", k - 1);
-        }
-        making += &format!("member c{k} s{k} {k}\n");
-    }
-    let mut text = Vec::new(Global);
-    text.extend_from_slice(making.as_bytes()).unwrap();
-    text.extend_from_slice(texts.script.bytes()).unwrap();
-    let mut names = Names::new(Global);
-    let _ = names.intern(b"today");
-    let script = read_script(Global, &text, &mut names).ok().unwrap();
+    let given = vec![("market.toml", texts.market.bytes().to_vec()), ("quotes.csv", texts.quotes.bytes().to_vec())];
+    let (mut session, commands) = played(given, "market.toml", texts.script.bytes(), Order::First).unwrap();
     let mut bench = DeskBench::new();
-    let mut session = session(names, today, script.actions, Order::First);
-    let tally = tally(&mut session, script.commands.items(), &mut bench);
+    let tally = tally(&mut session, commands.items(), &mut bench);
     print!("load {n} lines {} bytes {}\n{}", tally.lines, tally.bytes, std::string::String::from_utf8_lossy(&tally.last));
 }
 
@@ -116,25 +122,15 @@ fn main() {
     if args[1] == "load" {
         return load(args[2].parse().unwrap());
     }
-    let today = today_of(&args[2]);
     let order = match args.get(4).map(|a| a.as_str()) {
         None | Some("first") => Order::First,
         Some("last") => Order::Last,
         Some(seed) => Order::Seed(seed.parse().unwrap()),
     };
-    let mut names = Names::new(Global);
-    let _ = names.intern(b"today");
     let text = file(&args[3]);
-    let script = match read_script(Global, &text, &mut names) {
-        Ok(script) => script,
-        Err(ScriptFault::At { line, kind }) => {
-            println!("desk: script {line} {kind}");
-            return;
-        }
-        Err(_) => unreachable!(),
-    };
-    let mut bench = DeskBench::new();
-    let mut session = session(names, today, script.actions, order);
-    play(&mut session, script.commands.items(), &mut bench);
+    if let Some((mut session, commands)) = played(std::vec::Vec::new(), &args[2], &text, order) {
+        let mut bench = DeskBench::new();
+        play(&mut session, commands.items(), &mut bench);
+    }
     std::process::exit(0);
 }

@@ -148,10 +148,14 @@ impl<T> Slices<T> for [T] {
     fn to_vec_in(&self, _: Global) -> Result<Vec<T>, AllocError> where T: Clone { Ok(Vec(::std::vec::Vec::from(self))) }
 }
 
-pub trait Texts { fn as_text(&self) -> &str; }
+pub trait Texts {
+    fn as_text(&self) -> &str;
+    fn to_string(&self, alloc: Global) -> Result<String, AllocError>;
+}
 impl Texts for str {
     #[inline(always)]
     fn as_text(&self) -> &str { self }
+    fn to_string(&self, alloc: Global) -> Result<String, AllocError> { String::from_str(alloc, self) }
 }
 /// A text.
 #[derive(Debug, PartialEq, Eq, PartialOrd, Ord, Hash)]

@@ -24,8 +24,49 @@ pub fn composite(parts: PartList) -> Result<Terms, LimitFault>
     }
 }
 
+// How many parts are looked through without marks, which cost a step for each number that a session gives.
+const FEW_PARTS: usize = 64;
+
 // The fault of the first part that has one.
 fn fault_of_parts(parts: &[Part]) -> Option<LimitFault>
+    requires { length parts.now < 2 ^ 32 }
+    ensures { result ≡ due.first_fault [] parts.now }
+{
+    if parts.len() <= FEW_PARTS {
+        fault_of_few(parts)
+    } else {
+        fault_of_many(parts)
+    }
+}
+
+// The same, where each part looks through those before it.
+fn fault_of_few(parts: &[Part]) -> Option<LimitFault>
+    requires { length parts.now < 2 ^ 32 }
+    ensures { result ≡ due.first_fault [] parts.now }
+{
+    for at in 0..parts.len() {
+        let part = &parts[at];
+        let number = at as u32 + 1;
+        if !is_weight(part.weight) {
+            return Some(LimitFault::Weight(number));
+        }
+        if has_member(&parts[..at], part.member) {
+            return Some(LimitFault::Repeated(number));
+        }
+    }
+    None
+}
+
+// Whether a member stands in parts.
+fn has_member(parts: &[Part], member: ObjId) -> bool
+    ensures { result ≡ due.has_member parts.now member }
+{
+    parts.iter().any(|part| part.member == member)
+}
+
+// The same, where each part leaves a mark.
+#[inline(never)]
+fn fault_of_many(parts: &[Part]) -> Option<LimitFault>
     requires { length parts.now < 2 ^ 32 }
     ensures { result ≡ due.first_fault [] parts.now }
 {
@@ -72,5 +113,5 @@ fn is_repeated(marks: &[bool], before: &[Part], member: ObjId) -> bool
     if member.place() < MARKS {
         return is_marked(marks, member);
     }
-    before.iter().any(|part| part.member == member)
+    has_member(before, member)
 }

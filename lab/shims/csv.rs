@@ -17,7 +17,7 @@ impl ReaderBuilder {
 }
 impl<'a> Reader<'a> {
     pub fn into_byte_records(self) -> std::vec::IntoIter<Result<ByteRecord, Error>> {
-        let text = String::from_utf8_lossy(self.text).into_owned();
+        let text = String::from_utf8_lossy(self.text).trim_start_matches('\u{feff}').to_string();
         let records: std::vec::Vec<_> = text
             .lines()
             .filter(|l| !l.is_empty())

@@ -17,11 +17,35 @@ def run(args):
     return int(re.search(r"Collected : (\d+)", done.stderr).group(1))
 
 
-def count(text):
-    if text not in cache:
+def count(text, market=market):
+    if (text, market) not in cache:
         open(f"{work}/script", "w").write(text)
-        cache[text] = run(["run", market, f"{work}/script"])
-    return cache[text]
+        cache[text, market] = run(["run", market, f"{work}/script"])
+    return cache[text, market]
+
+
+def bond_market():
+    """A curve of 6 deposits and 14 swaps, and 100 bonds over it."""
+    lines = ["version = 1", 'today = "2024-01-02"', f'quotes = "{work}/quotes.csv"', "", "[[calendar]]", 'kind = "target"', 'name = "t"']
+
+    def made(kind, name, **keys):
+        lines.extend(["", "[[object]]", f'kind = "{kind}"', f'name = "{name}"'])
+        lines.extend(f"{key} = {value}" if not isinstance(value, str) or value[0] in "[{" else f'{key} = "{value}"' for key, value in keys.items())
+    helpers = [
+        f'{{kind = "deposit", quote = "q{k}", tenor = "{k + 1}M", convention = "following", counter = "act360"}}' if k < 6 else
+        f'{{kind = "swap", quote = "q{k}", tenor = "{k - 5}Y", every = "1Y", convention = "following", counter = "thirty360"}}' for k in range(20)]
+    made("curve", "c", calendar="t", settlement=2, helpers="[" + ", ".join(helpers) + "]")
+    made("engine", "e", curve="c")
+    for k in range(100):
+        made("bond", f"b{k}", notional="100", start="2024-02-01", end=f"{2026 + k % 10}-02-01", calendar="t", engine="e", coupon="0.03", every="1Y",
+             rule="backward", convention="following", end_convention="following", counter="thirty360")
+    open(f"{work}/quotes.csv", "w").write("name,value\n" + "".join(f"q{k},0.03\n" for k in range(20)))
+    open(f"{work}/bonds.toml", "w").write("\n".join(lines) + "\n")
+    return f"{work}/bonds.toml"
+
+
+bonds = bond_market()
+bond_asks = "".join(f"ask b{k}\n" for k in range(100))
 
 
 built = "quote q 1\nstock c0 q\n" + "".join(f"composite c{k}\nmember c{k} c{k - 1} 1\n" for k in range(1, 4001))
@@ -58,6 +82,7 @@ W = {
     "wide, one moved, a member": lambda: (count(apart + "".join(f"set q{k} {k + 2}\nask c\n" for k in range(20))) - count(apart)) / 20000,
     "sums, a level": lambda: (count(sums + "".join(f"set q {k + 2}\nask s\n" for k in range(20))) - count(sums)) / 20000,
     "names 65,000": lambda: count("".join(f"quote n{k} 1\n" for k in range(65535))),
+    "curve moved, 100 bonds": lambda: (count(bond_asks + "".join(f"set q10 0.03{k}\n" + bond_asks for k in range(1, 21)), bonds) - count(bond_asks, bonds)) / 20,
     "load 1000": lambda: run(["load", "1000"]),
 }
 for name in sys.argv[1:] or W:

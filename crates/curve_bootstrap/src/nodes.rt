@@ -86,6 +86,9 @@ fn is_negative_sum(rate: i128, parts: i128) -> bool
     rate < 0 && rate * parts <= -WHOLE
 }
 
+// How far from a guess the excess is tried.
+const GUESSED_WITHIN: i128 = 2;
+
 // The factor at which the excess turns, found by halving.
 fn least_root(
     last: &CurveNode,
@@ -102,14 +105,32 @@ fn least_root(
     requires rate { unsigned_abs rate ≤ 10 ^ 10 }
     ensures { IsRoot (split_excess last.now end rate settled coupons.now) result }
 {
-    if excess_at(last, end, rate, settled, coupons, 0) >= 0 {
+    let least = excess_at(last, end, rate, settled, coupons, 0);
+    if least >= 0 {
         return None;
     }
-    if excess_at(last, end, rate, settled, coupons, MOST_FACTOR) < 0 {
+    let most = excess_at(last, end, rate, settled, coupons, MOST_FACTOR);
+    if most < 0 {
         return None;
     }
-    let root = halved(last, end, rate, settled, coupons);
+    let guess = guess_of(least, most);
+    let root = halved(last, end, rate, settled, coupons, guess);
     Some(factor_of(root))
+}
+
+// A place near which the excess turns, by its values at 0 and at the greatest factor, as if it rose evenly between. Any will
+// do: it is tried before the halves are.
+fn guess_of(least: i128, most: i128) -> i128
+    ensures low { pos 0 ≤ℤ result }
+    ensures high { result ≤ℤ most }
+{
+    // Of each value the bits that tell the place, so that the product fits.
+    let below = (least.unsigned_abs() >> 44) as i128;
+    let above = (most.unsigned_abs() >> 44) as i128;
+    if below + above == 0 {
+        return MOST_FACTOR / 2;
+    }
+    MOST_FACTOR * below / (below + above)
 }
 
 // The discount factor of so many units.
@@ -121,8 +142,16 @@ fn factor_of(root: i128) -> Discount
     Discount(root as i64)
 }
 
-// The place at which the excess turns between 0 and the greatest factor.
-fn halved(last: &CurveNode, end: Day, rate: i128, settled: i128, coupons: &[Coupon]) -> i128
+// The place at which the excess turns between 0 and the greatest factor: first a place a little below a guess and one a
+// little above are tried, and then the middle of what is left, until nothing is.
+fn halved(
+    last: &CurveNode,
+    end: Day,
+    rate: i128,
+    settled: i128,
+    coupons: &[Coupon],
+    guess: i128,
+) -> i128
     requires few { length coupons.now ≤ 801 }
     requires after { AreAfter last.now.day coupons.now }
     requires up_to { AreUpTo end coupons.now }
@@ -131,6 +160,8 @@ fn halved(last: &CurveNode, end: Day, rate: i128, settled: i128, coupons: &[Coup
     requires rate { unsigned_abs rate ≤ 10 ^ 10 }
     requires below { split_excess last.now end rate settled coupons.now (pos 0) <ℤ pos 0 }
     requires above { pos 0 ≤ℤ split_excess last.now end rate settled coupons.now most }
+    requires guess_low { pos 0 ≤ℤ guess }
+    requires guess_high { guess ≤ℤ most }
     ensures low { pos 1 ≤ℤ result }
     ensures high { result ≤ℤ most }
     ensures above { pos 0 ≤ℤ split_excess last.now end rate settled coupons.now result }
@@ -138,13 +169,17 @@ fn halved(last: &CurveNode, end: Day, rate: i128, settled: i128, coupons: &[Coup
 {
     let mut low: i128 = 0;
     let mut high: i128 = MOST_FACTOR;
+    let mut tried = guess - GUESSED_WITHIN;
+    let mut tries: u8 = 0;
     while high - low > 1 {
-        let middle = mean(low, high);
+        let middle = if tries < 2 && low < tried && tried < high { tried } else { mean(low, high) };
         if excess_at(last, end, rate, settled, coupons, middle) < 0 {
             low = middle;
         } else {
             high = middle;
         }
+        tried = guess + GUESSED_WITHIN;
+        tries = tries.saturating_add(1);
     }
     high
 }

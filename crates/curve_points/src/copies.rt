@@ -20,9 +20,5 @@ pub fn copy_curve(alloc: Global, curve: &CurveValue) -> Result<CurveValue, Alloc
 fn copied(alloc: Global, nodes: &[CurveNode]) -> Result<NodeList, AllocError>
     ensures { IfOk result (λ copy. copy ≡ nodes.now) }
 {
-    let mut copy = NodeList::with_room(alloc, nodes.len())?;
-    for node in nodes {
-        copy.push(*node)?;
-    }
-    Ok(copy)
+    NodeList::copy_of(alloc, nodes)
 }

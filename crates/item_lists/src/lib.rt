@@ -83,3 +83,16 @@ impl<T: Drop> Items<T> {
         self.items.truncate(len);
     }
 }
+
+impl<T: Copy> Items<T> {
+    ghost use Rattle.std.specs.Prelude.{◌≡◌, IfOk};
+
+    /// The items of a slice, in one allocation.
+    pub fn copy_of(alloc: Global, items: &[T]) -> Result<Items<T>, AllocError>
+        ensures { IfOk result (λ list. list ≡ items.now) }
+    {
+        let mut copy = Vec::with_capacity(alloc, items.len())?;
+        copy.extend_from_slice(items)?;
+        Ok(Items { items: copy })
+    }
+}

@@ -106,8 +106,7 @@ fn descend(
     store: &Store,
     object: ObjId,
     waiting: &mut Vec<Waiting>,
-) -> Result<ObjId, AllocError>
-{
+) -> Result<ObjId, AllocError> {
     let mut top = object;
     while let Some(needed) = first_needed(objects, store, top) {
         waiting.push(Waiting {
@@ -120,8 +119,7 @@ fn descend(
 }
 
 // The first member of a composite, where it has to be computed.
-fn first_needed(objects: &Objects, store: &Store, object: ObjId) -> Option<ObjId>
-{
+fn first_needed(objects: &Objects, store: &Store, object: ObjId) -> Option<ObjId> {
     match objects.own_terms(object) {
         Terms::Composite(parts) => match parts.items() {
             [part, ..] => {

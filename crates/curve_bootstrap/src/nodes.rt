@@ -172,7 +172,11 @@ fn halved(
     let mut tried = guess - GUESSED_WITHIN;
     let mut tries: u8 = 0;
     while high - low > 1 {
-        let middle = if tries < 2 && low < tried && tried < high { tried } else { mean(low, high) };
+        let middle = if tries < 2 && low < tried && tried < high {
+            tried
+        } else {
+            mean(low, high)
+        };
         if excess_at(last, end, rate, settled, coupons, middle) < 0 {
             low = middle;
         } else {

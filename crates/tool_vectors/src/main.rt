@@ -1,11 +1,12 @@
-//! Runs `desk_bump`, `desk_curve`, `desk_grid` and `desk_yield` over whole cases, and compares the bytes with those that an
-//! independent model writes: prints each case that differs, and how many agree.
+//! Runs `desk_bump`, `desk_curve`, `desk_graph`, `desk_grid` and `desk_yield` over whole cases, and compares the bytes with
+//! those that an independent model writes: prints each case that differs, and how many agree.
 #![tactic(auto)]
 
 use bump_run::{BumpStatus, run_bump};
 use curve_run::{CurveStatus, run_curve};
 use desk_bench::DeskBench;
 use desk_edge::{CallList, MemoryShelf, MemorySink};
+use graph_run::{Status, StatusLine, run_graph};
 use grid_run::{GridStatus, run_grid};
 use std::alloc::{AllocError, Global};
 use std::fmt::Display;
@@ -21,6 +22,7 @@ const ROOM: usize = 100_000;
 enum Tool {
     Bump,
     Curve,
+    Graph,
     Grid,
     Yield,
 }
@@ -37,6 +39,9 @@ fn main(rt: HostRuntime) -> io::Result<()> {
     compare(&rt, Tool::Curve, "curve_markets")?;
     compare(&rt, Tool::Curve, "curve_version_two")?;
     compare(&rt, Tool::Curve, "curve_faults")?;
+    // Sessions of which each shows one thing, and scripts cut off at some command, with what is frozen, late or held then.
+    compare(&rt, Tool::Graph, "graph_by_hand")?;
+    compare(&rt, Tool::Graph, "graph_sessions")?;
     // Blocks in either order, a block that holds nothing, as many blocks and asks as there may be and one more.
     compare(&rt, Tool::Grid, "grid_by_hand")?;
     compare(&rt, Tool::Grid, "grid_markets")?;
@@ -106,6 +111,10 @@ fn ended(
         Tool::Curve => {
             let status = run_curve(alloc, words, shelf, out, &mut bench);
             line(alloc, status == CurveStatus::Done, status)
+        }
+        Tool::Graph => {
+            let status = run_graph(alloc, words, shelf, out, &mut bench);
+            line(alloc, status == Status::Done, StatusLine(status))
         }
         Tool::Grid => {
             let status = run_grid(alloc, words, shelf, out, &mut bench);

@@ -1,0 +1,4 @@
+pub mod Drawn
+pub mod Ended
+pub mod Steps
+pub mod Wording

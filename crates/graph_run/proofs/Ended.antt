@@ -6,11 +6,11 @@ use Rattle.market_loader.specs.Files.{Files}
 use Rattle.market_loader.proofs.Steps.{told_map}
 use Rattle.desk_plan.specs.declared.status.Status.{Status}
 use Rattle.desk_plan.specs.declared.status.Status.TheVariants as status
-use Rattle.desk_plan.specs.Found.{IsBefore, faults_then}
+use Rattle.desk_plan.specs.Found.{IsBefore}
 use Rattle.desk_plan.specs.Verdict.{Plan, Check}
 use Rattle.scenario_grid.proofs.Calling.{begins_none}
-use Rattle.graph_run.specs.Drawing.{output_in, output_of, computed_in, computed_by}
-use Rattle.graph_run.specs.Run.{IsEarly, IsLate, Writes, Computes}
+use Rattle.graph_run.specs.Drawing.{output_in, output_of, computed_in}
+use Rattle.graph_run.specs.Run.{IsEarly, Writes, Computes}
 use Rattle.graph_run.specs.Verdict.{verdict_of}
 
 abbrev Log : Type 0
@@ -34,21 +34,3 @@ module _ (told : Option Files) (words : List (List ℕ)) (calc : Calc) (plan : P
       → Writes old new (output_in calc plan) s → IfSome told (λ files. Writes old new (output_of calc (verdict_of files words)) s)
   told_written old new is writes =
       told_map told (λ files e. subst (λ v. Writes old new (output_of calc v) s) (sym e) writes) is
-
-  -- and so is what was computed
-  pub told_computed : (count now : ℕ) (log late : Log) → IfSome told (λ files. verdict_of files words ≡ Ok plan)
-      → Computes (computed_in calc plan) s count now log late
-      → IfSome told (λ files. Computes (computed_by calc (verdict_of files words)) s count now log late)
-  told_computed count now log late is computes =
-      told_map told (λ files e. subst (λ v. Computes (computed_by calc v) s count now log late) (sym e) computes) is
-
--- what comes behind the reading counts no fault of the shelf
-pub late_counted : (s : Status) (faults : ℕ) → IsLate s → faults ≡ faults_then s faults
-late_counted status.WriteFault faults late = refl
-late_counted status.NoMemory faults late = refl
-late_counted status.Done faults late = absurd late
-late_counted status.Usage faults late = absurd late
-late_counted (status.Market section entry why) faults late = absurd late
-late_counted (status.Script line why) faults late = absurd late
-late_counted status.ReadFault faults late = absurd late
-late_counted (status.Absent role) faults late = absurd late

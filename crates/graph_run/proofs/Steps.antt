@@ -1,5 +1,5 @@
 -- How far the commands of a script are done.
-use Rattle.std.proofs.Common.{◌≡◌, ℕ, ◌+◌, ◌<◌, ◌≤◌, Bool, true, false, List, [], ◌∷◌, ◌++◌, length, drop, get_or, take, Option, Some, None, refl, sym, ◌∙◌, ap, subst, arith}
+use Rattle.std.proofs.Common.{◌≡◌, ℕ, ◌+◌, ◌<◌, ◌≤◌, Bool, false, List, [], ◌∷◌, ◌++◌, length, drop, get_or, Option, refl, sym, ◌∙◌, ap, subst}
 use Rattle.std.specs.Prelude.{All}
 use Rattle.std.proofs.lemmas.List.{drop_more, drop_all}
 use Rattle.desk_terms.specs.Reading.{Calc}
@@ -8,10 +8,10 @@ use Rattle.desk_model.specs.Sound.{IsSound}
 use Rattle.session_commands.specs.declared.command.Command.{Command}
 use Rattle.session_commands.specs.Whole.{IsCommand}
 use Rattle.watch_rounds.specs.declared.picker.Order.{Order}
-use Rattle.session_model.specs.Course.{Running, Course, quiet, and_then, round_of}
+use Rattle.session_model.specs.Course.{Running, Course, round_of}
 use Rattle.session_model.specs.Rounds.{calls_of}
-use Rattle.session_model.specs.Standing.{Standing, IsKnown}
-use Rattle.session_rounds.specs.Goes.{Output, Does, Halts, Goes, Stays, with_more}
+use Rattle.session_model.specs.Standing.{IsKnown}
+use Rattle.session_rounds.specs.Goes.{Output, Does, Halts, Goes, Stays}
 use Rattle.session_rounds.proofs.Going.{goes_start, goes_on, goes_end, goes_halt}
 use Rattle.grid_model.specs.Scenario.{ordered, after}
 use Rattle.scenario_grid.specs.Calls.{Makes, Begins}

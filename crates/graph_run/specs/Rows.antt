@@ -1,5 +1,5 @@
 -- Words that are taken and words that are not, and the lines of statuses, by hand.
-use Rattle.std.specs.Prelude.{◌≡◌, List, [], ◌∷◌, codes, Option, None, Some}
+use Rattle.std.specs.Prelude.{◌≡◌, [], ◌∷◌, codes, None, Some}
 use Rattle.session_commands.specs.declared.script_kind.ScriptKind.TheVariants.{TooLong}
 use Rattle.desk_plan.specs.declared.status.FileRole.TheVariants as role
 use Rattle.desk_plan.specs.declared.status.Status.TheVariants as status

@@ -1,5 +1,5 @@
 -- Whether words and files are accepted, and what is done then (this project's profile).
-use Rattle.std.specs.Prelude.{ℕ, List, Option, None, Some, Result, Ok, Err}
+use Rattle.std.specs.Prelude.{ℕ, List, Option, None, Some, Result, Err}
 use Rattle.market_loader.specs.Files.{Files}
 use Rattle.desk_plan.specs.declared.status.Status.{Status}
 use Rattle.desk_plan.specs.declared.status.Status.TheVariants as status

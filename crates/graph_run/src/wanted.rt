@@ -19,7 +19,8 @@ pub(crate) fn wanted_of<H: Shelf>(
     words: &[String],
     shelf: &mut H,
 ) -> Result<Plan, Status>
-    ensures plans { IfSome (files_of (H.contents shelf.old)) (λ files. Tells plan_in result (verdict_of files (map string_bytes words.now))) }
+    ensures plans { IfSome (files_of (H.contents shelf.old)) (λ files.
+        Tells plan_in result (verdict_of files (map string_bytes words.now))) }
     ensures usage { IsErrOf result Status.Usage ↔ (paths_of (map string_bytes words.now) ≡ None) }
     ensures can { IfOk result CanDo }
     ensures before { IfErr result IsBefore }

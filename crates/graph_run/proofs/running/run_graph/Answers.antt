@@ -3,7 +3,7 @@ use Rattle.std.specs.Prelude.{map}
 use Rattle.std.specs.String.{string_bytes}
 use Rattle.desk_edge.specs.Shelf.{files_of}
 use Rattle.desk_plan.specs.Found.{plan_in}
-use Rattle.graph_run.proofs.Ended.{early_or_none, told_written, told_computed}
+use Rattle.graph_run.proofs.Ended.{early_or_none, told_written}
 use Rattle.graph_run.proofs.running.run_graph.Goals as goal
 
 pub returns-in-Err-clause-carried : goal.returns-in-Err-clause-carried
@@ -15,12 +15,12 @@ pub returns-in-Ok-carry_out-clause-carried : goal.returns-in-Ok-carry_out-clause
 returns-in-Ok-carry_out-clause-carried g c =
     inr (plan_in c.in-Ok.plan, c.in-Ok-carry_out.ensures.written, c.in-Ok-carry_out.ensures.computed)
 
-pub returns-clause-written : goal.returns-clause-written
-returns-clause-written g c =
+pub returns-in-Err-carry_out-clause-written : goal.returns-in-Err-carry_out-clause-written
+returns-in-Err-carry_out-clause-written g c =
     told_written (files_of (g.H.Shelf.contents c.args.shelf.now)) (map string_bytes c.args.words.now)
     (g.B.Bench.calc c.args.bench.now) (plan_in c.in-Ok.plan) c.in-Err-carry_out.status (g.K.Sink.bytes c.args.out.now)
     (g.K.Sink.bytes c.carry_out.new.out) c.in-Ok.ensures.plans c.in-Err-carry_out.ensures.written
 
-pub returns-clause-carried : goal.returns-clause-carried
-returns-clause-carried g c =
+pub returns-in-Err-carry_out-clause-carried : goal.returns-in-Err-carry_out-clause-carried
+returns-in-Err-carry_out-clause-carried g c =
     inr (plan_in c.in-Ok.plan, c.in-Err-carry_out.ensures.written, c.in-Err-carry_out.ensures.computed)

@@ -3,7 +3,7 @@ use Rattle.std.proofs.Common.{◌≡◌, ◌∙◌, ap, sym, subst, refl, ℕ, �
 use Rattle.std.specs.Prelude.{IfSome}
 use Rattle.std.specs.Option.{option_map}
 use Rattle.std.proofs.Math.Seq.{drop-append-add}
-use Rattle.desk_edge.specs.Shelf.{Contents, file_at, bytes_at, files_of, begun, passed, put_back, Took, IsFront, Reads, Leaves}
+use Rattle.desk_edge.specs.Shelf.{Contents, most_bytes, file_at, bytes_at, files_of, begun, passed, put_back, Took, IsFront, Reads, Leaves}
 use Rattle.desk_edge.specs.declared.reading.ReadFault.{ReadFault}
 use Rattle.desk_edge.specs.declared.reading.ReadFault.TheVariants.{Failed, TooLong, NoMemory}
 
@@ -42,20 +42,20 @@ file_from_bytes (Some file) most bytes long is = ap (λ (l : List ℕ). Some l) 
 -- what a fault says of the files, from what it says of the file begun
 pub reads_fault : (fault : ReadFault) (path out : List ℕ) (told mid new : Option Contents) → mid ≡ option_map (begun path) told
     → IfSome mid (λ c. IsFront out c.rest)
-    → (fault ≡ TooLong → IfSome mid (λ c. (8388608 < length c.rest) × (new ≡ Some (passed 8388609 c))))
+    → (fault ≡ TooLong → IfSome mid (λ c. (most_bytes < length c.rest) × (new ≡ Some (passed (most_bytes + 1) c))))
     → IfSome (files_of told) (λ files. Reads files path (Err fault) out)
 reads_fault fault path out None mid new is front long = tt
 reads_fault Failed path out (Some c) mid new is front long = let f = subst (λ (o : Option Contents). IfSome o (λ d. IsFront out d.rest)) is front in f
 reads_fault NoMemory path out (Some c) mid new is front long = let f = subst (λ (o : Option Contents). IfSome o (λ d. IsFront out d.rest)) is front in f
 reads_fault TooLong path out (Some c) mid new is front long =
     let f = subst (λ (o : Option Contents). IfSome o (λ d. IsFront out d.rest)) is front in
-    let l = subst (λ (o : Option Contents). IfSome o (λ d. (8388608 < length d.rest) × (new ≡ Some (passed 8388609 d)))) is (long refl) in
-    (bytes_at c.files path, file_from_bytes (file_at c.files path) 8388608 (bytes_at c.files path) l.0 refl, l.0, f)
+    let l = subst (λ (o : Option Contents). IfSome o (λ d. (most_bytes < length d.rest) × (new ≡ Some (passed (most_bytes + 1) d)))) is (long refl) in
+    (bytes_at c.files path, file_from_bytes (file_at c.files path) most_bytes (bytes_at c.files path) l.0 refl, l.0, f)
 
 -- what a fault leaves of the file, likewise
 pub leaves_fault : (fault : ReadFault) (path : List ℕ) (told mid new : Option Contents) → mid ≡ option_map (begun path) told
     → files_of new ≡ files_of mid
-    → (fault ≡ TooLong → IfSome mid (λ c. (8388608 < length c.rest) × (new ≡ Some (passed 8388609 c))))
+    → (fault ≡ TooLong → IfSome mid (λ c. (most_bytes < length c.rest) × (new ≡ Some (passed (most_bytes + 1) c))))
     → IfSome new (Leaves path (Err fault))
 leaves_fault Failed path told mid None is files long = tt
 leaves_fault Failed path told mid (Some c) is files long = tt
@@ -64,8 +64,8 @@ leaves_fault NoMemory path told mid (Some c) is files long = tt
 leaves_fault TooLong path told mid None is files long = tt
 leaves_fault TooLong path None mid (Some d) is files long = absurd (cc)
 leaves_fault TooLong path (Some c) mid (Some d) is files long =
-    let l = subst (λ (o : Option Contents). IfSome o (λ e. (8388608 < length e.rest) × (Some d ≡ Some (passed 8388609 e)))) is (long refl) in
-    let same : d ≡ passed 8388609 (begun path c) = cc in
+    let l = subst (λ (o : Option Contents). IfSome o (λ e. (most_bytes < length e.rest) × (Some d ≡ Some (passed (most_bytes + 1) e)))) is (long refl) in
+    let same : d ≡ passed (most_bytes + 1) (begun path c) = cc in
     subst (Leaves path (Err TooLong)) (sym same) refl
 
 -- no byte was taken

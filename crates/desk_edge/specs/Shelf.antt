@@ -5,6 +5,7 @@ use Rattle.std.specs.Str.{bytes_eq}
 use Rattle.desk_edge.specs.Count.{raised}
 use Rattle.desk_edge.specs.declared.reading.ReadFault.{ReadFault}
 use Rattle.desk_edge.specs.declared.reading.ReadFault.TheVariants.{Failed, TooLong, NoMemory}
+use Rattle.text_limits.specs.declared.limit.TheConstants.{MOST_BYTES}
 
 -- the files of a shelf, as pairs of a path and its bytes, and what is left of the file begun: nothing where none was (this project's profile)
 pub record Contents : Type 0 where
@@ -46,7 +47,7 @@ IsFront front whole = take (length front) whole ≡ front
 
 -- the most bytes of a file that is read whole: 8 MiB (this project's profile)
 abbrev pub most_bytes : ℕ
-most_bytes = 8388608
+most_bytes = MOST_BYTES
 
 -- what the answer of a whole read of a path, and the bytes that it gives, say of the files (this project's profile)
 abbrev pub Reads : List (List ℕ × List ℕ) → List ℕ → Result Bool ReadFault → List ℕ → Type 0

@@ -1,7 +1,7 @@
 //! The edge of the program: files that are read whole, from a shelf, and bytes that are written in
 //! order, to a sink. A shelf or a sink in memory tells its bytes to contracts; those over real files
 //! and writers tell none.
-//! It offers `Shelf`, `Sink`, `Failed`, `read_whole`, `ReadFault`, `MOST`, `write_whole`,
+//! It offers `Shelf`, `Sink`, `Failed`, `read_whole`, `ReadFault`, `write_whole`,
 //! `MemoryFile`, `FileList`, `CallList`, `MemoryShelf`, `MemorySink`, `EndlessShelf`, `FileShelf` and `OutSink`.
 #![tactic(auto)]
 
@@ -24,7 +24,7 @@ pub use lists::{CallList, FileList, MemoryFile};
 pub use memory_shelf::MemoryShelf;
 pub use memory_sink::MemorySink;
 pub use out_sink::OutSink;
-pub use reading::{MOST, ReadFault, read_whole};
+pub use reading::{ReadFault, read_whole};
 pub use shelf::{Failed, Shelf};
 pub use sink::Sink;
 pub use writing::write_whole;

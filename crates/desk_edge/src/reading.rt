@@ -4,13 +4,12 @@ ghost use Rattle.std.specs.Option.{option_map};
 ghost use Rattle.desk_edge.specs.Count.{Rose};
 ghost use Rattle.desk_edge.specs.declared.reading.ReadFault.TheVariants.{Failed as ReadFailed, NoMemory};
 ghost use Rattle.desk_edge.specs.Shelf.{file_at, bytes_at, files_of, faults_after, passed, put_back, Took, IsFront, Reads, Leaves};
+ghost use Rattle.text_limits.specs.declared.limit.TheConstants.{MOST_BYTES};
 
 use crate::{Failed, Shelf};
 use std::alloc::AllocError;
+use text_limits::MOST_BYTES;
 use thiserror::Error;
-
-/// The most bytes of a file that is read whole: 8 MiB (this project's profile).
-pub const MOST: usize = 8_388_608;
 
 // How many bytes are asked for at once.
 const PIECE: usize = 4096;
@@ -21,7 +20,7 @@ pub enum ReadFault {
     /// A call of the shelf failed.
     #[error("the read failed")]
     Failed,
-    /// The file has more than `MOST` bytes.
+    /// The file has more than `MOST_BYTES` bytes.
     #[error("the file is too long")]
     TooLong,
     #[error("out of memory")]
@@ -44,9 +43,9 @@ impl From<AllocError> for ReadFault {
     }
 }
 
-/// Reads the file with this path to its end into out. Ok(false): there is none. A file of `MOST`
-/// bytes is read, and of a longer one `MOST` + 1 bytes are taken. After a fault out holds the front
-/// of the file. However it ends, at most `MOST` + 1 bytes are taken of the file that `find` began, and
+/// Reads the file with this path to its end into out. Ok(false): there is none. A file of `MOST_BYTES`
+/// bytes is read, and of a longer one `MOST_BYTES` + 1 bytes are taken. After a fault out holds the front
+/// of the file. However it ends, at most `MOST_BYTES` + 1 bytes are taken of the file that `find` began, and
 /// each `take` but the last gave a byte of out.
 pub fn read_whole<H: Shelf>(shelf: &mut H, path: &str, out: &mut Vec<u8>) -> Result<bool, ReadFault>
     requires { out.old.items ≡ [] }
@@ -56,7 +55,7 @@ pub fn read_whole<H: Shelf>(shelf: &mut H, path: &str, out: &mut Vec<u8>) -> Res
     ensures taken { IfSome (H.contents shelf.new) (Leaves path.now result) }
     // On every exit: find failed and was the one call, or it began the file and so many bytes of it were taken.
     ensures few { ((H.contents shelf.new ≡ H.contents shelf.old) × (H.calls shelf.new ≤ H.calls shelf.old + 1))
-        ⊎ ((count : ℕ) × (count ≤ MOST + 1) × Took count path.now (H.contents shelf.old) (H.contents shelf.new)) }
+        ⊎ ((count : ℕ) × (count ≤ MOST_BYTES + 1) × Took count path.now (H.contents shelf.old) (H.contents shelf.new)) }
     // On every exit: beside find and the last call each call took a byte that stands in out.
     ensures calls { H.calls shelf.new ≤ H.calls shelf.old + length out.new.items + 2 }
     ensures once { result ≡ Ok false → H.calls shelf.new ≤ H.calls shelf.old + 1 }
@@ -65,12 +64,12 @@ pub fn read_whole<H: Shelf>(shelf: &mut H, path: &str, out: &mut Vec<u8>) -> Res
         → H.calls shelf.new ≤ H.calls shelf.old + 1) }
     ensures stops { IsErrOf result ReadFault.Failed → (H.contents shelf.new ≡ H.contents shelf.old)
         ⊎ Took (length out.new.items) path.now (H.contents shelf.old) (H.contents shelf.new) }
-    // Want of memory is answered only where bytes were taken that found no room, at most MOST in all.
+    // Want of memory is answered only where bytes were taken that found no room, at most MOST_BYTES in all.
     ensures halts { IsErrOf result ReadFault.NoMemory → (count : ℕ) × (0 < count) × (count ≤ PIECE)
-        × (length out.new.items + count ≤ MOST)
+        × (length out.new.items + count ≤ MOST_BYTES)
         × IfSome (H.contents shelf.old) (λ c. length out.new.items + count ≤ length (bytes_at c.files path.now))
         × Took (length out.new.items + count) path.now (H.contents shelf.old) (H.contents shelf.new) }
-    ensures most { length out.new.items ≤ MOST }
+    ensures most { length out.new.items ≤ MOST_BYTES }
     ensures nothing { result ≡ Ok false → out.new.items ≡ [] }
     ensures missed { result ≡ Ok false → Rose (H.misses shelf.old) (H.misses shelf.new) }
     ensures failed { IsErrOf result ReadFault.Failed → Rose (H.faults shelf.old) (H.faults shelf.new) }
@@ -86,25 +85,25 @@ pub fn read_whole<H: Shelf>(shelf: &mut H, path: &str, out: &mut Vec<u8>) -> Res
     Ok(true)
 }
 
-// Reads the file begun to its end into out. It takes at most `MOST` + 1 bytes, however it ends.
+// Reads the file begun to its end into out. It takes at most `MOST_BYTES` + 1 bytes, however it ends.
 fn read_begun<H: Shelf>(shelf: &mut H, out: &mut Vec<u8>) -> Result<(), ReadFault>
     requires { out.old.items ≡ [] }
     ensures whole { OnOk result (IfSome (H.contents shelf.old) (λ c. out.new.items ≡ c.rest)) }
     ensures end { OnOk result (IfSome (H.contents shelf.new) (λ c. c.rest ≡ [])) }
     ensures front { IfSome (H.contents shelf.old) (λ c. IsFront out.new.items c.rest) }
     ensures long { IsErrOf result ReadFault.TooLong → IfSome (H.contents shelf.old)
-        (λ c. (MOST < length c.rest) × (H.contents shelf.new ≡ Some (passed (MOST + 1) c))) }
+        (λ c. (MOST_BYTES < length c.rest) × (H.contents shelf.new ≡ Some (passed (MOST_BYTES + 1) c))) }
     ensures files { files_of (H.contents shelf.new) ≡ files_of (H.contents shelf.old) }
-    ensures few { (count : ℕ) × (count ≤ MOST + 1)
+    ensures few { (count : ℕ) × (count ≤ MOST_BYTES + 1)
         × (H.contents shelf.new ≡ option_map (passed count) (H.contents shelf.old)) }
     ensures stops { IsErrOf result ReadFault.Failed
         → H.contents shelf.new ≡ option_map (passed (length out.new.items)) (H.contents shelf.old) }
-    // Bytes were taken that found no room, at most MOST in all.
+    // Bytes were taken that found no room, at most MOST_BYTES in all.
     ensures halts { IsErrOf result ReadFault.NoMemory → (count : ℕ) × (0 < count) × (count ≤ PIECE)
-        × (length out.new.items + count ≤ MOST)
+        × (length out.new.items + count ≤ MOST_BYTES)
         × IfSome (H.contents shelf.old) (λ c. length out.new.items + count ≤ length c.rest)
         × (H.contents shelf.new ≡ option_map (passed (length out.new.items + count)) (H.contents shelf.old)) }
-    ensures most { length out.new.items ≤ MOST }
+    ensures most { length out.new.items ≤ MOST_BYTES }
     ensures calls { H.calls shelf.new ≤ H.calls shelf.old + length out.new.items + 1 }
     ensures failed { IsErrOf result ReadFault.Failed → Rose (H.faults shelf.old) (H.faults shelf.new) }
     // A call that failed was the last, and only then Failed is the answer.
@@ -120,7 +119,7 @@ fn read_begun<H: Shelf>(shelf: &mut H, out: &mut Vec<u8>) -> Result<(), ReadFaul
 // Takes the next bytes of the file begun into out, by way of buf. Ok(false): there are none.
 fn take_more<H: Shelf>(shelf: &mut H, buf: &mut [u8], out: &mut Vec<u8>) -> Result<bool, ReadFault>
     requires some { 0 < length buf.old }
-    requires most { length out.old.items ≤ MOST }
+    requires most { length out.old.items ≤ MOST_BYTES }
     // What out has and what is left make one file.
     ensures kept { OnOk result (put_back out.new.items (H.contents shelf.new)
         ≡ put_back out.old.items (H.contents shelf.old)) }
@@ -128,18 +127,18 @@ fn take_more<H: Shelf>(shelf: &mut H, buf: &mut [u8], out: &mut Vec<u8>) -> Resu
     ensures end { IfOk result (λ more. more ≡ false → IfSome (H.contents shelf.new) (λ c. c.rest ≡ [])) }
     ensures same { OnErr result (out.new.items ≡ out.old.items) }
     ensures long { IsErrOf result ReadFault.TooLong → IfSome (H.contents shelf.old)
-        (λ c. (MOST < length out.old.items + length c.rest)
-        × (H.contents shelf.new ≡ Some (passed (MOST + 1 - length out.old.items) c))) }
+        (λ c. (MOST_BYTES < length out.old.items + length c.rest)
+        × (H.contents shelf.new ≡ Some (passed (MOST_BYTES + 1 - length out.old.items) c))) }
     ensures files { files_of (H.contents shelf.new) ≡ files_of (H.contents shelf.old) }
-    ensures few { (count : ℕ) × (count ≤ length buf.old) × (length out.old.items + count ≤ MOST + 1)
+    ensures few { (count : ℕ) × (count ≤ length buf.old) × (length out.old.items + count ≤ MOST_BYTES + 1)
         × (H.contents shelf.new ≡ option_map (passed count) (H.contents shelf.old)) }
     ensures stops { IsErrOf result ReadFault.Failed → H.contents shelf.new ≡ H.contents shelf.old }
-    // Bytes were taken that found no room, at most MOST in all.
+    // Bytes were taken that found no room, at most MOST_BYTES in all.
     ensures halts { IsErrOf result ReadFault.NoMemory → (count : ℕ) × (0 < count) × (count ≤ length buf.old)
-        × (length out.old.items + count ≤ MOST)
+        × (length out.old.items + count ≤ MOST_BYTES)
         × IfSome (H.contents shelf.old) (λ c. count ≤ length c.rest)
         × (H.contents shelf.new ≡ option_map (passed count) (H.contents shelf.old)) }
-    ensures most { length out.new.items ≤ MOST }
+    ensures most { length out.new.items ≤ MOST_BYTES }
     ensures grows { length out.old.items ≤ length out.new.items }
     ensures calls { H.calls shelf.new ≤ H.calls shelf.old + 1 }
     ensures failed { IsErrOf result ReadFault.Failed → Rose (H.faults shelf.old) (H.faults shelf.new) }
@@ -148,10 +147,10 @@ fn take_more<H: Shelf>(shelf: &mut H, buf: &mut [u8], out: &mut Vec<u8>) -> Resu
     ensures faults { H.faults shelf.old ≤ H.faults shelf.new }
     ensures misses { H.misses shelf.old ≤ H.misses shelf.new }
 {
-    let room = (MOST + 1 - out.len()).min(buf.len());
+    let room = (MOST_BYTES + 1 - out.len()).min(buf.len());
     let piece = &mut buf[..room];
     let count = shelf.take(piece)?;
-    if count > MOST - out.len() {
+    if count > MOST_BYTES - out.len() {
         return Err(ReadFault::TooLong);
     }
     out.extend_from_slice(&piece[..count])?;

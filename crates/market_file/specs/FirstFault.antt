@@ -21,10 +21,11 @@ use Rattle.market_file.specs.declared.top.TopTable.{TopTable}
 use Rattle.market_file.specs.Document.{document_of}
 use Rattle.market_file.specs.Top.{top_of}
 use Rattle.market_file.specs.Market.{tables_at}
+use Rattle.text_limits.specs.declared.limit.TheConstants.{MOST_BYTES}
 
 -- a file is over 8 MiB
 abbrev pub is_long : List ℕ → Bool
-is_long file = nat_lt 8_388_608 (length file)
+is_long file = nat_lt MOST_BYTES (length file)
 
 abbrev pub rows_of : List ℕ → List (List (List ℕ))
 rows_of text = records default_config (strip_bom text)

@@ -19,6 +19,7 @@ use Rattle.market_file.specs.declared.top.TopTable.{TopTable}
 use Rattle.market_file.specs.Fault.{Fault, at_entry, in_section}
 use Rattle.market_file.specs.Document.{document_of}
 use Rattle.market_file.specs.Top.{top_of}
+use Rattle.text_limits.specs.declared.limit.TheConstants.{MOST_BYTES}
 
 abbrev pub items_or_none : Option Items → Items
 items_or_none None = no_items
@@ -34,7 +35,7 @@ tables_at word document = items_of (get_member word document)
 
 -- a file of a section, up to 8 MiB
 abbrev pub sized : Section → List ℕ → Result (List ℕ) Fault
-sized s file = if nat_lt 8_388_608 (length file) then Err (s, 0, fault.TooLong) else Ok file
+sized s file = if nat_lt MOST_BYTES (length file) then Err (s, 0, fault.TooLong) else Ok file
 
 -- the same of a table beside the market, where the market names it
 abbrev pub table_sized : Section → Bool → List ℕ → Result (List ℕ) Fault

@@ -24,10 +24,8 @@ use market_fields::Version;
 use market_objects::{Board, MadeList, read_fixings, read_objects, read_quotes};
 use market_tables::{MarketKind, value_at};
 use std::alloc::Global;
+use text_limits::MOST_BYTES;
 use toml::{Table, Value};
-
-/// The most bytes of a file.
-const MOST_BYTES: usize = 8_388_608;
 
 /// A market: the evaluation date, and the objects in order of creation, each with its name and its terms. The first
 /// object has the number 1, since `today` has 0.

@@ -17,10 +17,11 @@ use Rattle.session_lang.specs.declared.steps.Step.{Step}
 use Rattle.session_commands.specs.declared.script.Script.{Script}
 use Rattle.script_words.specs.Given.{◌>>=◌}
 use Rattle.session_lang.specs.Statement.{Known, line_meaning}
+use Rattle.text_limits.specs.declared.limit.TheConstants.{MOST_BYTES}
 
 -- the most bytes of a script (this project's profile)
 abbrev pub most_bytes : ℕ
-most_bytes = 8_388_608
+most_bytes = MOST_BYTES
 
 -- a fault at its line
 abbrev pub at_line : {A : Type 0} → ℕ → Result A ScriptKind → Result A (ℕ × ScriptKind)

@@ -10,6 +10,7 @@ ghost use Rattle.session_lang.specs.declared.fault.ScriptFault.TheVariants.{At};
 ghost use Rattle.session_lang.specs.FirstFault.{ToldFirst, FaultKeeps, names_after};
 ghost use Rattle.session_lang.specs.Reading.{Leaves, AreLeft, lines_meaning, names_left, script_meaning, script_left};
 ghost use Rattle.session_lang.specs.Held.{held_behind, Takes, together_held};
+ghost use Rattle.text_limits.specs.declared.limit.TheConstants.{MOST_BYTES};
 
 use crate::ScriptFault;
 use crate::statement::read_line;
@@ -18,9 +19,7 @@ use desk_names::Names;
 use script_words::{LineFault, next_line};
 use session_commands::{CommandList, Script, ScriptKind};
 use std::alloc::Global;
-
-/// The most bytes of a script.
-const MOST_BYTES: usize = 8_388_608;
+use text_limits::MOST_BYTES;
 
 // What is held of the lines of a text: the commands outside of blocks, each watch with the number of its action's name; the
 // statements that are asked for after all lines; and the line of a block that stands open behind them.

@@ -1,7 +1,7 @@
 // The worklist and its calls.
-ghost use Rattle.std.specs.Prelude.{◌≡◌, ◌<◌, ◌≤◌, ◌+◌, ◌-◌, ◌++◌, ℕ, [], ◌∷◌, true, false, length, not, replicate, slice_set, vec_len, vec_capacity, None, IfNone, IfSome, MatchOption, OnOk, OnErr, if◌then◌else◌};
+ghost use Rattle.std.specs.Prelude.{◌≡◌, ◌<◌, ◌≤◌, ◌+◌, ◌-◌, ◌++◌, ℕ, [], ◌∷◌, true, false, length, not, replicate, slice_index_or, slice_set, vec_len, vec_capacity, IfNone, IfSome, MatchOption, OnOk, OnErr, if◌then◌else◌};
 ghost use Rattle.walks.specs.Walk.{Among};
-ghost use Rattle.wave_queue.specs.Thread.{is_marked, or_node, threaded, MarksThread};
+ghost use Rattle.wave_queue.specs.Thread.{is_marked};
 
 use desk_names::ObjId;
 use std::alloc::{AllocError, Global};
@@ -11,27 +11,28 @@ use std::marker::Model;
 /// `WaveView`.
 #[derive(Drop)]
 pub struct Wave {
-    marks: Vec<bool>,
-    // The node that was put in after a node.
-    nexts: Vec<Option<ObjId>>,
-    // The first and the last that were put in, and the first that waits.
-    first: Option<ObjId>,
-    last: Option<ObjId>,
-    head: Option<ObjId>,
+    // The marked nodes are those with this stamp.
+    stamp: u32,
+    stamps: Vec<u32>,
+    // Which node was put in after none, at place 0, and after each node, at the place behind its number.
+    nexts: Vec<ObjId>,
+    // The places of the node that was handed out last and of the one that was put in last, or of none.
+    done: usize,
+    last: usize,
 }
 
 impl Model for Wave {
     ghost use Rattle.std.specs.Prelude.{length};
-    ghost use Rattle.wave_queue.specs.Thread.{WaveView, Stands, nodes_from};
+    ghost use Rattle.wave_queue.specs.Thread.{WaveView, Stands, marks_by, nodes_between};
 
     ghost Value = { WaveView };
 
     ghost view = { λ w. record {
-      marks = w.marks.items;
-      waiting = nodes_from w.nexts.items (length w.nexts.items) w.head;
+      marks = marks_by w.stamp w.stamps.items;
+      waiting = nodes_between w.nexts.items (length w.nexts.items) w.done w.last;
     } };
 
-    ghost invariant = { λ w. Stands w.marks.items w.nexts.items w.first w.head w.last };
+    ghost invariant = { λ w. Stands w.stamp w.stamps.items w.nexts.items w.done w.last };
 }
 
 impl Wave {
@@ -40,11 +41,11 @@ impl Wave {
         ensures { result ≡ record { marks = []; waiting = [] } }
     {
         Wave {
-            marks: Vec::new(alloc),
+            stamp: 1,
+            stamps: Vec::new(alloc),
             nexts: Vec::new(alloc),
-            first: None,
-            last: None,
-            head: None,
+            done: 0,
+            last: 0,
         }
     }
 
@@ -55,10 +56,12 @@ impl Wave {
         }) }
         ensures err { OnErr result (self.new ≡ self.old) }
     {
-        let more = (nodes as usize).saturating_sub(self.marks.len());
-        self.marks.reserve(more)?;
-        self.nexts.reserve(more)?;
-        widen(&mut self.marks, &mut self.nexts, more);
+        let more = (nodes as usize).saturating_sub(self.stamps.len());
+        let places = (nodes as usize + 1).saturating_sub(self.nexts.len());
+        self.stamps.reserve(more)?;
+        self.nexts.reserve(places)?;
+        widen_stamps(&mut self.stamps, more);
+        widen_nexts(&mut self.nexts, places);
         Ok(())
     }
 
@@ -69,14 +72,12 @@ impl Wave {
         ensures marks { self.new.marks ≡ slice_set self.old.marks node true }
         ensures waiting { self.new.waiting ≡ (if result then self.old.waiting ++ node ∷ [] else self.old.waiting) }
     {
-        if self.marks[node.place()] {
+        if self.stamps[node.place()] == self.stamp {
             return false;
         }
-        self.marks[node.place()] = true;
-        thread_on(&mut self.nexts, self.last, node);
-        self.first = or_node(self.first, node);
-        self.head = or_node(self.head, node);
-        self.last = Some(node);
+        self.stamps[node.place()] = self.stamp;
+        self.nexts[self.last] = node;
+        self.last = node.place() + 1;
         true
     }
 
@@ -89,13 +90,12 @@ impl Wave {
         ensures once { IfSome result (λ node. Among node self.new.waiting → ⊥) }
         ensures marks { self.new.marks ≡ self.old.marks }
     {
-        match self.head {
-            None => None,
-            Some(node) => {
-                self.head = self.nexts[node.place()];
-                Some(node)
-            }
+        if self.done == self.last {
+            return None;
         }
+        let node = self.nexts[self.done];
+        self.done = node.place() + 1;
+        Some(node)
     }
 
     /// Whether a node is marked.
@@ -103,65 +103,60 @@ impl Wave {
         requires { node < length self.now.marks }
         ensures { result ≡ is_marked self.now.marks node }
     {
-        self.marks[node.place()]
+        self.stamps[node.place()] == self.stamp
     }
 
-    /// No node waits and none is marked. Takes time in proportion to the marked ones, and no memory.
+    /// No node waits and none is marked. Takes no memory, and time in proportion to the nodes once in 2^32 calls, else none.
     pub fn reset(&mut self)
         ensures marks { (o : ℕ) → is_marked self.new.marks o ≡ false }
         ensures len { length self.new.marks ≡ length self.old.marks }
         ensures waiting { self.new.waiting ≡ [] }
     {
-        unmark(&mut self.marks, &self.nexts, self.first);
-        self.first = None;
-        self.last = None;
-        self.head = None;
+        self.stamp = next_stamp(&mut self.stamps, self.stamp);
+        self.done = 0;
+        self.last = 0;
     }
 }
 
-// The nodes of a thread are not marked.
-fn unmark(marks: &mut [bool], nexts: &[Option<ObjId>], first: Option<ObjId>)
-    requires { MarksThread marks.old nexts.now first }
-    ensures { (o : ℕ) → is_marked marks.new o ≡ false }
+// A stamp that is greater than each. Where there is none, each is 0 from then on.
+fn next_stamp(stamps: &mut Vec<u32>, stamp: u32) -> u32
+    requires { (o : ℕ) → slice_index_or stamps.old.items o 0 ≤ stamp }
+    ensures later { (o : ℕ) → slice_index_or stamps.new.items o 0 < result }
+    ensures len { length stamps.new.items ≡ length stamps.old.items }
 {
-    let mut at = first;
-    while let Some(node) = at {
-        marks[node.place()] = false;
-        at = nexts[node.place()];
+    if stamp == u32::MAX {
+        wipe(stamps);
+        return 1;
+    }
+    stamp + 1
+}
+
+// Each stamp is 0.
+fn wipe(stamps: &mut Vec<u32>)
+    ensures zero { (o : ℕ) → slice_index_or stamps.new.items o 0 ≡ 0 }
+    ensures len { length stamps.new.items ≡ length stamps.old.items }
+{
+    for at in 0..stamps.len() {
+        stamps[at] = 0;
     }
 }
 
 // So many nodes more, none of them marked.
-fn widen(marks: &mut Vec<bool>, nexts: &mut Vec<Option<ObjId>>, more: usize)
-    requires marks { vec_len marks.old + more ≤ vec_capacity marks.old }
-    requires nexts { vec_len nexts.old + more ≤ vec_capacity nexts.old }
-    ensures marks { marks.new.items ≡ marks.old.items ++ replicate more false }
-    ensures nexts { nexts.new.items ≡ nexts.old.items ++ replicate more None }
+fn widen_stamps(stamps: &mut Vec<u32>, more: usize)
+    requires { vec_len stamps.old + more ≤ vec_capacity stamps.old }
+    ensures { stamps.new.items ≡ stamps.old.items ++ replicate more 0 }
 {
     for _ in 0..more {
-        marks.push_reserved(false);
-        nexts.push_reserved(None);
+        stamps.push_reserved(0);
     }
 }
 
-// The last node leads to this one, and this one to none.
-fn thread_on(nexts: &mut [Option<ObjId>], last: Option<ObjId>, node: ObjId)
-    requires node { node < length nexts.old }
-    requires last { IfSome last (λ o. o < length nexts.old) }
-    ensures { nexts.new ≡ threaded last node nexts.old }
+// So many places more.
+fn widen_nexts(nexts: &mut Vec<ObjId>, more: usize)
+    requires { vec_len nexts.old + more ≤ vec_capacity nexts.old }
+    ensures { nexts.new.items ≡ nexts.old.items ++ replicate more 0 }
 {
-    nexts[node.place()] = None;
-    if let Some(last) = last {
-        nexts[last.place()] = Some(node);
-    }
-}
-
-// A node, or this one where there is none.
-fn or_node(found: Option<ObjId>, node: ObjId) -> Option<ObjId>
-    ensures { result ≡ or_node found node }
-{
-    match found {
-        None => Some(node),
-        Some(_) => found,
+    for _ in 0..more {
+        nexts.push_reserved(ObjId(0));
     }
 }

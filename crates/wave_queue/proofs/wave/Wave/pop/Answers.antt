@@ -1,62 +1,58 @@
-use Rattle.std.proofs.Common.{◌<◌, ◌∷◌, ◌∙◌, ap, sym, subst, arith, List, ℕ, length, None}
-use Rattle.std.proofs.lemmas.List.{get_or_read}
-use Rattle.wave_queue.specs.Thread.{next_at, nodes_from}
+use Rattle.std.proofs.Common.{◌+◌, ◌∷◌, ◌∙◌, ap, sym, subst, arith, List, ℕ, length}
 use Rattle.walks.specs.Walk.{Among, IsOnce}
-use Rattle.wave_queue.proofs.Threads.{head_marked, once_right, stands_taken, waiting_is, read_none}
+use Rattle.wave_queue.specs.Thread.{nodes_between}
+use Rattle.wave_queue.proofs.Threads.{first_low, first_marked, first_within, stands_taken, waiting_is, read_none}
 use Rattle.wave_queue.proofs.wave.Wave.pop.Goals as goal
 
-pub index-requires : goal.index-requires
-index-requires c =
-    let low = (head_marked c.self.inside.marks.items c.self.inside.nexts.items c.self.inside.first c.self.inside.head
-    c.self.inside.last c.self.invariant c.in-Some.node c.in-Some.is).1 in
-    let p = c.place.ensures in
+pub returns-then-self-clause-waiting : goal.returns-then-self-clause-waiting
+returns-then-self-clause-waiting c = rw (← c.self.view_is)
+    (ap (λ (at : ℕ). nodes_between c.self.inside.nexts.items (length c.self.inside.nexts.items) at c.self.inside.last)
+    c.if-self.true
+    ∙ read_none c.self.inside.nexts.items (length c.self.inside.nexts.items) c.self.inside.last)
+
+pub index-node-requires : goal.index-node-requires
+index-node-requires c =
+    let low = first_low c.self.inside.stamp c.self.inside.stamps.items c.self.inside.nexts.items c.self.inside.done c.self.inside.last c.self.invariant c.if-self.false in
     let v = c.self.inside.nexts.ok.0 in omega arith
+
+pub overflow_add-self : goal.overflow_add-self
+overflow_add-self c =
+    let low = first_low c.self.inside.stamp c.self.inside.stamps.items c.self.inside.nexts.items c.self.inside.done c.self.inside.last c.self.invariant c.if-self.false in
+    let taken = stands_taken c.self.inside.stamp c.self.inside.stamps.items c.self.inside.nexts.items c.self.inside.done c.self.inside.last c.self.invariant
+    c.if-self.false low c.index-node.result.now c.place.result c.index-node.ensures c.place.ensures in
+    let within = first_within c.self.inside.stamp c.self.inside.stamps.items c.self.inside.nexts.items c.self.inside.done c.self.inside.last c.self.invariant c.index-node.result.now taken.0.waiting taken.1 in
+    let p = c.place.ensures in let v = c.self.inside.stamps.ok in omega arith
 
 pub invariant_of-self : goal.invariant_of-self
 invariant_of-self c =
-    let low = (head_marked c.self.inside.marks.items c.self.inside.nexts.items c.self.inside.first c.self.inside.head
-    c.self.inside.last c.self.invariant c.in-Some.node c.in-Some.is).1 in
-    let within : c.place.result < length c.self.inside.nexts.items = let p = c.place.ensures in omega arith in
-    let leads = get_or_read c.self.inside.nexts.items c.place.result c.index.result.now within c.index.ensures None
-    ∙ ap (next_at c.self.inside.nexts.items) c.place.ensures in
-    (stands_taken c.self.inside.marks.items c.self.inside.nexts.items c.self.inside.first c.self.inside.head
-    c.self.inside.last c.self.invariant c.in-Some.node c.index.result.now c.in-Some.is leads).0
+    let low = first_low c.self.inside.stamp c.self.inside.stamps.items c.self.inside.nexts.items c.self.inside.done c.self.inside.last c.self.invariant c.if-self.false in
+    (stands_taken c.self.inside.stamp c.self.inside.stamps.items c.self.inside.nexts.items c.self.inside.done c.self.inside.last c.self.invariant c.if-self.false low c.index-node.result.now c.place.result c.index-node.ensures
+    c.place.ensures).0
 
-pub returns-in-None-clause-waiting : goal.returns-in-None-clause-waiting
-returns-in-None-clause-waiting c = rw (← c.self.view_is)
-    (ap (nodes_from c.self.inside.nexts.items (length c.self.inside.nexts.items)) c.in-None.is
-    ∙ read_none c.self.inside.nexts.items (length c.self.inside.nexts.items))
-
-pub returns-in-Some-clause-waiting : goal.returns-in-Some-clause-waiting
-returns-in-Some-clause-waiting c =
-    let low = (head_marked c.self.inside.marks.items c.self.inside.nexts.items c.self.inside.first c.self.inside.head
-    c.self.inside.last c.self.invariant c.in-Some.node c.in-Some.is).1 in
-    let within : c.place.result < length c.self.inside.nexts.items = let p = c.place.ensures in omega arith in
-    let leads = get_or_read c.self.inside.nexts.items c.place.result c.index.result.now within c.index.ensures None
-    ∙ ap (next_at c.self.inside.nexts.items) c.place.ensures in
-    let taken = stands_taken c.self.inside.marks.items c.self.inside.nexts.items c.self.inside.first
-    c.self.inside.head c.self.inside.last c.self.invariant c.in-Some.node c.index.result.now c.in-Some.is leads in
+pub returns-clause-waiting : goal.returns-clause-waiting
+returns-clause-waiting c =
+    let low = first_low c.self.inside.stamp c.self.inside.stamps.items c.self.inside.nexts.items c.self.inside.done c.self.inside.last c.self.invariant c.if-self.false in
+    let taken = stands_taken c.self.inside.stamp c.self.inside.stamps.items c.self.inside.nexts.items c.self.inside.done c.self.inside.last c.self.invariant
+    c.if-self.false low c.index-node.result.now c.place.result c.index-node.ensures c.place.ensures in
     rw (← c.self.view_is)
-    (waiting_is c.self.inside.marks.items c.self.inside.nexts.items c.self.inside.first c.self.inside.head
-    c.self.inside.last c.self.invariant ∙ taken.1
-    ∙ ap (λ (xs : List ℕ). c.in-Some.node ∷ xs) (sym (waiting_is c.self.inside.marks.items c.self.inside.nexts.items
-    c.self.inside.first c.index.result.now c.self.inside.last taken.0)))
+    (waiting_is c.self.inside.stamp c.self.inside.stamps.items c.self.inside.nexts.items c.self.inside.done c.self.inside.last c.self.invariant ∙ taken.1
+    ∙ ap (λ (xs : List ℕ). c.index-node.result.now ∷ xs) (sym (waiting_is c.self.inside.stamp
+    c.self.inside.stamps.items c.self.inside.nexts.items (c.place.result + 1) c.self.inside.last taken.0)))
 
-pub returns-in-Some-clause-marked : goal.returns-in-Some-clause-marked
-returns-in-Some-clause-marked c = rw (← c.self.view_is)
-    (head_marked c.self.inside.marks.items c.self.inside.nexts.items c.self.inside.first c.self.inside.head
-    c.self.inside.last c.self.invariant c.in-Some.node c.in-Some.is).0
+pub returns-clause-marked : goal.returns-clause-marked
+returns-clause-marked c =
+    let low = first_low c.self.inside.stamp c.self.inside.stamps.items c.self.inside.nexts.items c.self.inside.done c.self.inside.last c.self.invariant c.if-self.false in
+    let taken = stands_taken c.self.inside.stamp c.self.inside.stamps.items c.self.inside.nexts.items c.self.inside.done c.self.inside.last c.self.invariant
+    c.if-self.false low c.index-node.result.now c.place.result c.index-node.ensures c.place.ensures in
+    rw (← c.self.view_is)
+    (first_marked c.self.inside.stamp c.self.inside.stamps.items c.self.inside.nexts.items c.self.inside.done c.self.inside.last c.self.invariant c.index-node.result.now taken.0.waiting taken.1)
 
 -- the nodes that wait are each there once
-pub returns-in-Some-clause-once : goal.returns-in-Some-clause-once
-returns-in-Some-clause-once c = λ a.
-    let low = (head_marked c.self.inside.marks.items c.self.inside.nexts.items c.self.inside.first c.self.inside.head
-    c.self.inside.last c.self.invariant c.in-Some.node c.in-Some.is).1 in
-    let within : c.place.result < length c.self.inside.nexts.items = let p = c.place.ensures in omega arith in
-    let leads = get_or_read c.self.inside.nexts.items c.place.result c.index.result.now within c.index.ensures None
-    ∙ ap (next_at c.self.inside.nexts.items) c.place.ensures in
-    let taken = stands_taken c.self.inside.marks.items c.self.inside.nexts.items c.self.inside.first
-    c.self.inside.head c.self.inside.last c.self.invariant c.in-Some.node c.index.result.now c.in-Some.is leads in
-    (subst IsOnce taken.1 (once_right c.self.invariant.done c.self.invariant.waiting c.self.invariant.once)).0
-    (subst (Among c.in-Some.node) (waiting_is c.self.inside.marks.items c.self.inside.nexts.items
-    c.self.inside.first c.index.result.now c.self.inside.last taken.0) a)
+pub returns-clause-once : goal.returns-clause-once
+returns-clause-once c = λ a.
+    let low = first_low c.self.inside.stamp c.self.inside.stamps.items c.self.inside.nexts.items c.self.inside.done c.self.inside.last c.self.invariant c.if-self.false in
+    let taken = stands_taken c.self.inside.stamp c.self.inside.stamps.items c.self.inside.nexts.items c.self.inside.done c.self.inside.last c.self.invariant
+    c.if-self.false low c.index-node.result.now c.place.result c.index-node.ensures c.place.ensures in
+    (subst IsOnce taken.1 c.self.invariant.once).0
+    (subst (λ (xs : List ℕ). Among c.index-node.result.now xs) (waiting_is c.self.inside.stamp
+    c.self.inside.stamps.items c.self.inside.nexts.items (c.place.result + 1) c.self.inside.last taken.0) a)

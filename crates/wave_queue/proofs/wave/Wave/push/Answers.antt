@@ -1,51 +1,80 @@
-use Rattle.std.proofs.Common.{◌<◌, [], ◌∷◌, ◌++◌, ◌∙◌, ap, sym, arith, subst, false, List, ℕ, length}
-use Rattle.std.specs.Prelude.{vec_len}
-use Rattle.std.proofs.lemmas.List.{get_or_read}
-use Rattle.wave_queue.specs.Thread.{WaveView, is_marked}
-use Rattle.wave_queue.proofs.Threads.{last_within, stands_put, waiting_is, whole_back}
+use Rattle.std.proofs.Common.{◌<◌, ◌+◌, [], ◌∷◌, ◌++◌, ◌∙◌, ap, sym, arith, subst, Bool, false, List, ℕ, length}
+use Rattle.std.specs.Prelude.{not, slice_set}
+use Rattle.std.proofs.lemmas.List.{set-get_or}
+use Rattle.wave_queue.specs.Thread.{WaveView, marks_by}
+use Rattle.wave_queue.proofs.Threads.{last_low, marks_long, marks_set, off_read, on_read, stands_put, waiting_is}
 use Rattle.wave_queue.proofs.wave.Wave.push.Goals as goal
 
-pub thread_on-requires-clause-last : goal.thread_on-requires-clause-last
-thread_on-requires-clause-last c = rw c.deref_mut.ensures.value
-    (last_within c.self.inside.marks.items c.self.inside.nexts.items c.self.inside.first c.self.inside.head
-    c.self.inside.last c.self.invariant)
+pub index-requires : goal.index-requires
+index-requires c =
+    let low : c.args.node < length (marks_by c.self.inside.stamp c.self.inside.stamps.items) =
+    subst (λ (v : WaveView). c.args.node < length v.marks) (sym c.self.view_is) c.requires in
+    let long = marks_long c.self.inside.stamp c.self.inside.stamps.items in
+    let p = c.place.ensures in let v = c.self.inside.stamps.ok.0 in omega arith
+
+pub returns-then-index-self-clause-was : goal.returns-then-index-self-clause-was
+returns-then-index-self-clause-was c =
+    let low : c.args.node < length (marks_by c.self.inside.stamp c.self.inside.stamps.items) =
+    subst (λ (v : WaveView). c.args.node < length v.marks) (sym c.self.view_is) c.requires in
+    let on = on_read c.self.inside.stamp c.self.inside.stamps.items c.place.result c.args.node
+    c.index.result.now c.place.ensures c.index.ensures low c.if-index-self.true in
+    rw (← c.self.view_is) (sym (ap (λ (b : Bool). not b) on))
+
+pub returns-then-index-self-clause-marks : goal.returns-then-index-self-clause-marks
+returns-then-index-self-clause-marks c =
+    let low : c.args.node < length (marks_by c.self.inside.stamp c.self.inside.stamps.items) =
+    subst (λ (v : WaveView). c.args.node < length v.marks) (sym c.self.view_is) c.requires in
+    let on = on_read c.self.inside.stamp c.self.inside.stamps.items c.place.result c.args.node
+    c.index.result.now c.place.ensures c.index.ensures low c.if-index-self.true in
+    rw (← c.self.view_is)
+    (sym (ap (λ (b : Bool). slice_set (marks_by c.self.inside.stamp c.self.inside.stamps.items) c.args.node b) (sym on)
+    ∙ set-get_or (marks_by c.self.inside.stamp c.self.inside.stamps.items) c.args.node false))
+
+pub index_mut-requires : goal.index_mut-requires
+index_mut-requires c =
+    let low : c.args.node < length (marks_by c.self.inside.stamp c.self.inside.stamps.items) =
+    subst (λ (v : WaveView). c.args.node < length v.marks) (sym c.self.view_is) c.requires in
+    let long = marks_long c.self.inside.stamp c.self.inside.stamps.items in
+    let p = c.place-2.ensures in let v = c.self.inside.stamps.ok.0 in omega arith
+
+pub index_mut-requires-2 : goal.index_mut-requires-2
+index_mut-requires-2 c =
+    let low : c.args.node < length (marks_by c.self.inside.stamp c.self.inside.stamps.items) =
+    subst (λ (v : WaveView). c.args.node < length v.marks) (sym c.self.view_is) c.requires in
+    let long = marks_long c.self.inside.stamp c.self.inside.stamps.items in
+    let within = last_low c.self.inside.stamp c.self.inside.stamps.items c.self.inside.nexts.items c.self.inside.done c.self.inside.last c.self.invariant (omega arith) in
+    let v = c.self.inside.nexts.ok.0 in omega arith
 
 pub invariant_of-self : goal.invariant_of-self
 invariant_of-self c =
-    let low : c.args.node < length c.self.inside.marks.items = subst (λ (v : WaveView). c.args.node < length v.marks)
-    (sym c.self.view_is) c.requires in
-    let within : c.place.result < length c.self.inside.marks.items = let p = c.place.ensures in omega arith in
-    let unmarked = ap (is_marked c.self.inside.marks.items) (sym c.place.ensures)
-    ∙ sym (get_or_read c.self.inside.marks.items c.place.result c.index.result.now within c.index.ensures false)
-    ∙ c.if-index.false in
-    rw (
-      whole_back (vec_len c.self.inside.nexts) c.thread_on.new.nexts c.self.inside.nexts.items
-          (c.thread_on.auto.nexts ∙ c.deref_mut.ensures.len),
-      c.place-2.ensures,
-      c.thread_on.ensures,
-      c.deref_mut.ensures.value,
-      c.or_node-self-inside.ensures,
-      c.or_node-self-inside-2.ensures,
-    ) (stands_put c.self.inside.marks.items c.self.inside.nexts.items c.self.inside.first c.self.inside.head
-    c.self.inside.last c.self.invariant c.args.node low unmarked).0
+    let low : c.args.node < length (marks_by c.self.inside.stamp c.self.inside.stamps.items) =
+    subst (λ (v : WaveView). c.args.node < length v.marks) (sym c.self.view_is) c.requires in
+    let off = off_read c.self.inside.stamp c.self.inside.stamps.items c.place.result c.args.node
+    c.index.result.now c.place.ensures c.index.ensures low c.if-index-self.false in
+    rw c.place-2.ensures
+    (stands_put c.self.inside.stamp c.self.inside.stamps.items c.self.inside.nexts.items c.self.inside.done c.self.inside.last c.self.invariant c.args.node c.place-3.result c.place-3.ensures low off).0
+
+pub returns-clause-was : goal.returns-clause-was
+returns-clause-was c =
+    let low : c.args.node < length (marks_by c.self.inside.stamp c.self.inside.stamps.items) =
+    subst (λ (v : WaveView). c.args.node < length v.marks) (sym c.self.view_is) c.requires in
+    let off = off_read c.self.inside.stamp c.self.inside.stamps.items c.place.result c.args.node
+    c.index.result.now c.place.ensures c.index.ensures low c.if-index-self.false in
+    rw (← c.self.view_is) (sym (ap (λ (b : Bool). not b) off))
+
+pub returns-clause-marks : goal.returns-clause-marks
+returns-clause-marks c = rw (← c.self.view_is, c.place-2.ensures)
+    (marks_set c.self.inside.stamp c.self.inside.stamps.items c.args.node)
 
 pub returns-clause-waiting : goal.returns-clause-waiting
 returns-clause-waiting c =
-    let low : c.args.node < length c.self.inside.marks.items = subst (λ (v : WaveView). c.args.node < length v.marks)
-    (sym c.self.view_is) c.requires in
-    let within : c.place.result < length c.self.inside.marks.items = let p = c.place.ensures in omega arith in
-    let unmarked = ap (is_marked c.self.inside.marks.items) (sym c.place.ensures)
-    ∙ sym (get_or_read c.self.inside.marks.items c.place.result c.index.result.now within c.index.ensures false)
-    ∙ c.if-index.false in
-    let put = stands_put c.self.inside.marks.items c.self.inside.nexts.items c.self.inside.first c.self.inside.head
-    c.self.inside.last c.self.invariant c.args.node low unmarked in
-    rw (
-      ← c.self.view_is,
-      whole_back (vec_len c.self.inside.nexts) c.thread_on.new.nexts c.self.inside.nexts.items
-          (c.thread_on.auto.nexts ∙ c.deref_mut.ensures.len),
-      c.thread_on.ensures,
-      c.deref_mut.ensures.value,
-      c.or_node-self-inside-2.ensures,
-    ) (waiting_is _ _ _ _ _ put.0 ∙ put.1 ∙ ap (λ (xs : List ℕ). xs ++ c.args.node ∷ [])
-    (sym (waiting_is c.self.inside.marks.items c.self.inside.nexts.items c.self.inside.first c.self.inside.head
-    c.self.inside.last c.self.invariant)))
+    let low : c.args.node < length (marks_by c.self.inside.stamp c.self.inside.stamps.items) =
+    subst (λ (v : WaveView). c.args.node < length v.marks) (sym c.self.view_is) c.requires in
+    let off = off_read c.self.inside.stamp c.self.inside.stamps.items c.place.result c.args.node
+    c.index.result.now c.place.ensures c.index.ensures low c.if-index-self.false in
+    let put = stands_put c.self.inside.stamp c.self.inside.stamps.items c.self.inside.nexts.items c.self.inside.done c.self.inside.last c.self.invariant c.args.node c.place-3.result c.place-3.ensures low off in
+    rw (← c.self.view_is)
+    (waiting_is c.self.inside.stamp (slice_set c.self.inside.stamps.items c.args.node c.self.inside.stamp)
+    (slice_set c.self.inside.nexts.items c.self.inside.last c.args.node) c.self.inside.done (c.place-3.result + 1)
+    put.0 ∙ put.1
+    ∙ ap (λ (xs : List ℕ). xs ++ c.args.node ∷ []) (sym (waiting_is c.self.inside.stamp c.self.inside.stamps.items c.self.inside.nexts.items c.self.inside.done c.self.inside.last c.self.invariant)))

@@ -206,6 +206,37 @@ last_low stamp stamps nexts done last s some = place_low stamp stamps nexts last
     (thread_ends_by (λ (o : ℕ). is_marked (marks_by stamp stamps) o ≡ true) nexts done s.waiting last s.thread s.out
     s.marked)
 
+-- a node is marked
+pub stands_marked : (stamp : ℕ) (stamps nexts : List ℕ) (done last : ℕ) (s : Stands stamp stamps nexts done last)
+    (node : ℕ) → node < length (marks_by stamp stamps) → Stands stamp (slice_set stamps node stamp) nexts done last
+stands_marked stamp stamps nexts done last s node within = record {
+  waiting = s.waiting;
+  thread = s.thread;
+  once = s.once;
+  past = s.past;
+  marked = λ o a. now o (inl (s.marked o a));
+  out = λ o is. now o (inl (s.out o is));
+  came = came;
+  some = s.some;
+  long = λ some. let a = length-set stamps node stamp in let l = s.long (omega arith) in omega arith;
+}
+  where
+    low : node < length stamps
+    low = let l = marks_long stamp stamps in omega arith
+
+    now : (o : ℕ) → (is_marked (marks_by stamp stamps) o ≡ true) ⊎ (o ≡ node)
+        → is_marked (marks_by stamp (slice_set stamps node stamp)) o ≡ true
+    now o on = ap (λ (marks : List Bool). is_marked marks o) (marks_set stamp stamps node)
+        ∙ (marked_more (marks_by stamp stamps) node o within).1 on
+
+    came : (o : ℕ) → slice_index_or (slice_set stamps node stamp) o 0 ≤ stamp
+    came o = elim (cases_eq o node) [
+      | inl here ↦
+          let e = ap (λ (z : ℕ). slice_index_or (slice_set stamps node stamp) z 0) here
+          ∙ get_or-set_same stamps node stamp 0 low in omega arith
+      | inr other ↦ let e = get_or-set_other stamps node o stamp 0 other in let l = s.came o in omega arith
+    ]
+
 -- a node is put last
 pub stands_put : (stamp : ℕ) (stamps nexts : List ℕ) (done last : ℕ) (s : Stands stamp stamps nexts done last)
     (node place : ℕ) → place ≡ node → node < length (marks_by stamp stamps)
@@ -378,7 +409,8 @@ stands_wider stamp stamps nexts done last s n m long = (
     came = λ o. let e = zeros_wider stamps n o in let l = s.came o in omega arith;
     some = s.some;
     long = λ some. let a = length-append stamps (replicate n 0) in let b = length-append nexts (replicate m 0) in
-        let c = length-replicate {A = ℕ} n 0 in let d = length-replicate {A = ℕ} m 0 in let l = long (omega arith) in omega arith;
+        let c = length-replicate {A = ℕ} n 0 in let d = length-replicate {A = ℕ} m 0 in let l = long (omega arith) in
+        omega arith;
   },
   refl,
 )

@@ -81,6 +81,20 @@ impl Wave {
         true
     }
 
+    /// Marks a node and puts it nowhere; whether it was not marked. Takes no memory.
+    pub fn mark(&mut self, node: ObjId) -> bool
+        requires { node < length self.old.marks }
+        ensures was { result ≡ not (is_marked self.old.marks node) }
+        ensures marks { self.new.marks ≡ slice_set self.old.marks node true }
+        ensures waiting { self.new.waiting ≡ self.old.waiting }
+    {
+        if self.stamps[node.place()] == self.stamp {
+            return false;
+        }
+        self.stamps[node.place()] = self.stamp;
+        true
+    }
+
     /// Hands out the first node that waits; it stays marked. Takes no memory.
     pub fn pop(&mut self) -> Option<ObjId>
         ensures waiting { MatchOption result (self.old.waiting ≡ [])

@@ -42,7 +42,8 @@ index_mut-requires-2 c =
     let low : c.args.node < length (marks_by c.self.inside.stamp c.self.inside.stamps.items) =
     subst (λ (v : WaveView). c.args.node < length v.marks) (sym c.self.view_is) c.requires in
     let long = marks_long c.self.inside.stamp c.self.inside.stamps.items in
-    let within = last_low c.self.inside.stamp c.self.inside.stamps.items c.self.inside.nexts.items c.self.inside.done c.self.inside.last c.self.invariant (omega arith) in
+    let within = last_low c.self.inside.stamp c.self.inside.stamps.items c.self.inside.nexts.items c.self.inside.done
+    c.self.inside.last c.self.invariant (omega arith) in
     let v = c.self.inside.nexts.ok.0 in omega arith
 
 pub invariant_of-self : goal.invariant_of-self
@@ -52,7 +53,8 @@ invariant_of-self c =
     let off = off_read c.self.inside.stamp c.self.inside.stamps.items c.place.result c.args.node
     c.index.result.now c.place.ensures c.index.ensures low c.if-index-self.false in
     rw c.place-2.ensures
-    (stands_put c.self.inside.stamp c.self.inside.stamps.items c.self.inside.nexts.items c.self.inside.done c.self.inside.last c.self.invariant c.args.node c.place-3.result c.place-3.ensures low off).0
+    (stands_put c.self.inside.stamp c.self.inside.stamps.items c.self.inside.nexts.items c.self.inside.done
+    c.self.inside.last c.self.invariant c.args.node c.place-3.result c.place-3.ensures low off).0
 
 pub returns-clause-was : goal.returns-clause-was
 returns-clause-was c =
@@ -72,9 +74,11 @@ returns-clause-waiting c =
     subst (λ (v : WaveView). c.args.node < length v.marks) (sym c.self.view_is) c.requires in
     let off = off_read c.self.inside.stamp c.self.inside.stamps.items c.place.result c.args.node
     c.index.result.now c.place.ensures c.index.ensures low c.if-index-self.false in
-    let put = stands_put c.self.inside.stamp c.self.inside.stamps.items c.self.inside.nexts.items c.self.inside.done c.self.inside.last c.self.invariant c.args.node c.place-3.result c.place-3.ensures low off in
+    let put = stands_put c.self.inside.stamp c.self.inside.stamps.items c.self.inside.nexts.items c.self.inside.done
+    c.self.inside.last c.self.invariant c.args.node c.place-3.result c.place-3.ensures low off in
     rw (← c.self.view_is)
     (waiting_is c.self.inside.stamp (slice_set c.self.inside.stamps.items c.args.node c.self.inside.stamp)
     (slice_set c.self.inside.nexts.items c.self.inside.last c.args.node) c.self.inside.done (c.place-3.result + 1)
     put.0 ∙ put.1
-    ∙ ap (λ (xs : List ℕ). xs ++ c.args.node ∷ []) (sym (waiting_is c.self.inside.stamp c.self.inside.stamps.items c.self.inside.nexts.items c.self.inside.done c.self.inside.last c.self.invariant)))
+    ∙ ap (λ (xs : List ℕ). xs ++ c.args.node ∷ []) (sym (waiting_is c.self.inside.stamp c.self.inside.stamps.items
+    c.self.inside.nexts.items c.self.inside.done c.self.inside.last c.self.invariant)))

@@ -1,13 +1,76 @@
 -- A worklist that is filled until no node waits.
-use Rattle.std.proofs.Common.{◌≡◌, ◌⊎◌, inl, inr, ℕ, ◌+◌, ◌<◌, Bool, true, false, List, [], ◌∷◌, ◌++◌, length, refl, sym, ap, ◌∙◌, subst, arith, cond}
-use Rattle.std.specs.Prelude.{not, slice_set}
+use Rattle.std.proofs.Common.{◌≡◌, ◌⊎◌, inl, inr, ℕ, ◌+◌, ◌<◌, Bool, true, false, List, [], ◌∷◌, ◌++◌, length, refl, sym, ap, ◌∙◌, subst, arith, cond, Option, Some, None}
+use Rattle.std.specs.Prelude.{IfNone, IfSome, MatchOption, not, slice_set}
 use Rattle.std.proofs.lemmas.Bool.{false≢true}
 use Rattle.std.proofs.lemmas.List.{length-set, length-append}
 use Rattle.walks.specs.Walk.{Among}
 use Rattle.wave_queue.specs.Thread.{WaveView, is_marked, open_count}
 use Rattle.wave_queue.proofs.Threads.{marked_more, among_last, open_less, open_same}
-use Rattle.observer_graph.specs.Puts.{Puts}
+use Rattle.observer_graph.specs.Puts.{Puts, carrying}
 use Rattle.observer_graph.specs.Turns.{IsFree, IsMarkedBelow}
+
+-- a node is carried only where no pair is left, so that none is before one is looked at
+pub none_carried : (carried at : Option ℕ) (edge : ℕ) (C : ℕ → Type 0) → IfSome carried (λ o. C o × (at ≡ None))
+    → at ≡ Some edge → carried ≡ None
+none_carried None at edge C only is = refl
+none_carried (Some node) at edge C only is = let e = only.1 in absurd (cc)
+
+pub last_alone : (carried : Option ℕ) (is_last carries : Bool) (next : Option ℕ) → IfSome carried (λ o. is_last ≡ true)
+    → (is_last ≡ true → (carries ≡ true) × (next ≡ None))
+    → IfSome carried (λ o. (carries ≡ true) × (next ≡ None))
+last_alone None is_last carries next only ends = tt
+last_alone (Some node) is_last carries next only ends = ends only
+
+-- nor where none may be
+pub never_carried : (carried : Option ℕ) (carries : Bool) → IfSome carried (λ o. carries ≡ true) → carries ≡ false
+    → carried ≡ None
+never_carried None carries only off = refl
+never_carried (Some node) carries only off = absurd (false≢true (sym off ∙ only))
+
+pub if_some_of : (found : Option ℕ) (P : Type 0) → P → IfSome found (λ o. P)
+if_some_of None P is = tt
+if_some_of (Some node) P is = is
+
+-- what is so of a worklist from which one was popped, if one waited
+pub popped_end : (found : Option ℕ) (w1 w2 : WaveView)
+    → MatchOption found (w1.waiting ≡ []) (λ o. w1.waiting ≡ o ∷ w2.waiting) → IfNone found (w2 ≡ w1)
+    → IfNone found ((w1 ≡ w2) × (w2.waiting ≡ []))
+popped_end None w1 w2 waiting same = (sym same, ap (λ (w : WaveView). w.waiting) same ∙ waiting)
+popped_end (Some node) w1 w2 waiting same = tt
+
+pub popped_marked : (found : Option ℕ) (w1 w2 : WaveView) → w2.marks ≡ w1.marks
+    → IfSome found (λ o. is_marked w1.marks o ≡ true) → IfSome found (λ o. is_marked w2.marks o ≡ true)
+popped_marked None w1 w2 same on = tt
+popped_marked (Some node) w1 w2 same on = ap (λ (m : List Bool). is_marked m node) same ∙ on
+
+pub popped_taken : (found : Option ℕ) (w1 w2 : WaveView)
+    → MatchOption found (w1.waiting ≡ []) (λ o. w1.waiting ≡ o ∷ w2.waiting)
+    → IfSome found (λ o. (x : ℕ) → Among x w1.waiting → (x ≡ o) ⊎ Among x w2.waiting)
+popped_taken None w1 w2 waiting = tt
+popped_taken (Some node) w1 w2 waiting = λ x a. subst (λ (xs : List ℕ). Among x xs) waiting a
+
+pub popped_load : (found : Option ℕ) (w1 w2 : WaveView)
+    → MatchOption found (w1.waiting ≡ []) (λ o. w1.waiting ≡ o ∷ w2.waiting)
+    → IfSome found (λ o. length w1.waiting ≡ length w2.waiting + 1)
+popped_load None w1 w2 waiting = tt
+popped_load (Some node) w1 w2 waiting = let e = ap (λ (xs : List ℕ). length xs) waiting in omega arith
+
+abbrev pub one_or_none : Option ℕ → ℕ
+one_or_none None = 0
+one_or_none (Some node) = 1
+
+-- the next node to go on from leaves one less
+pub carrying_load : (n : ℕ) (next : Option ℕ) (w1 w2 : WaveView) → w2.marks ≡ w1.marks
+    → IfNone next ((w1 ≡ w2) × (w2.waiting ≡ []))
+    → IfSome next (λ o. length w1.waiting ≡ length w2.waiting + 1) → open_count w1.marks + length w1.waiting ≡ n
+    → open_count w2.marks + length w2.waiting + one_or_none next ≡ n
+carrying_load n None w1 w2 same end load is =
+    let a = ap (λ (w : WaveView). open_count w.marks + length w.waiting) end.0 in omega arith
+carrying_load n (Some node) w1 w2 same end load is =
+    let a = ap (λ (m : List Bool). open_count m) same in omega arith
+
+pub carrying_none : (carried : Option ℕ) (w : WaveView) → carried ≡ None → carrying carried w ≡ w
+carrying_none carried w none = ap (λ (c : Option ℕ). carrying c w) none
 
 pub puts_none : (w : WaveView) (P : ℕ → Type 0) → Puts w w P
 puts_none w P = record {

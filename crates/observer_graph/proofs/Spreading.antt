@@ -1,6 +1,6 @@
 -- A notice on its way, until no node waits.
 use Rattle.std.proofs.Common.{◌≡◌, ◌⊎◌, inl, inr, ℕ, ◌<◌, Bool, true, false, List, [], ◌∷◌, length, refl, sym, ap, ◌∙◌, subst, Option, Some, None}
-use Rattle.std.specs.Prelude.{◌↔◌, ◌&&◌, ◌||◌, not, is_some, slice_set, slice_index_or}
+use Rattle.std.specs.Prelude.{◌↔◌, IfNone, IfSome, ◌&&◌, ◌||◌, not, is_some, slice_set, slice_index_or}
 use Rattle.std.proofs.lemmas.Bool.{cases_eq, false≢true}
 use Rattle.std.proofs.lemmas.List.{get_or-set_same, get_or-set_other}
 use Rattle.walks.specs.Walk.{Among}
@@ -115,9 +115,9 @@ module _ (v : EdgesView) (sources : List Bool) (first : List (Option Node)) (not
     ];
   }
 
-  -- one that waits is handed out: its observers are ahead
+  -- one of those that wait is gone on from: its observers are ahead
   pub spreads_taken : (nodes : List (Option Node)) (w1 w2 : WaveView) (node : ℕ) (noticed : List ℕ)
-      → w1.waiting ≡ node ∷ w2.waiting → w2.marks ≡ w1.marks
+      → ((x : ℕ) → Among x w1.waiting → (x ≡ node) ⊎ Among x w2.waiting) → w2.marks ≡ w1.marks
       → Spreads v sources first noted (λ x o. ⊥) nodes w1 noticed
       → Spreads v sources first noted (λ x o. x ≡ node) nodes w2 noticed
   spreads_taken nodes w1 w2 node noticed popped same s = record {
@@ -128,7 +128,7 @@ module _ (v : EdgesView) (sources : List Bool) (first : List (Option Node)) (not
     closed = λ x o on pair. elim (s.closed x o (back x on) pair) [
       | inl is ↦ inl (done_popped v first nodes w1 w2 noticed same o is)
       | inr later ↦ elim later [
-        | inl waits ↦ elim (subst (λ (xs : List ℕ). Among x xs) popped waits) [
+        | inl waits ↦ elim (popped x waits) [
           | inl is ↦ inr (inr is)
           | inr rest ↦ inr (inl rest)
         ]
@@ -139,6 +139,19 @@ module _ (v : EdgesView) (sources : List Bool) (first : List (Option Node)) (not
     where
       back : (o : ℕ) → is_marked w2.marks o ≡ true → is_marked w1.marks o ≡ true
       back o on = ap (λ (m : List Bool). is_marked m o) (sym same) ∙ on
+
+  -- the same, where there is such a node
+  pub spreads_next : (nodes : List (Option Node)) (w1 w2 : WaveView) (next : Option ℕ) (noticed : List ℕ)
+      → IfNone next ((w1 ≡ w2) × (w2.waiting ≡ []))
+      → IfSome next (λ node. (x : ℕ) → Among x w1.waiting → (x ≡ node) ⊎ Among x w2.waiting) → w2.marks ≡ w1.marks
+      → Spreads v sources first noted (λ x o. ⊥) nodes w1 noticed
+      → Spreads v sources first noted (λ x o. next ≡ Some x) nodes w2 noticed
+  spreads_next nodes w1 w2 None noticed end taken same s =
+      spreads_as (λ x o. ⊥) (λ x o. None ≡ Some x) nodes w2 noticed (λ x o pair never. absurd never)
+      (subst (λ (w : WaveView). Spreads v sources first noted (λ x o. ⊥) nodes w noticed) end.0 s)
+  spreads_next nodes w1 w2 (Some node) noticed end taken same s =
+      spreads_as (λ x o. x ≡ node) (λ x o. Some node ≡ Some x) nodes w2 noticed
+      (λ x o pair is. inr (ap Some (sym is))) (spreads_taken nodes w1 w2 node noticed taken same s)
 
 -- a node is remembered, if it is a watcher
 abbrev pub Remembers : List (Option Node) → ℕ → List ℕ → List ℕ → Type 0

@@ -1,7 +1,6 @@
 // The graph of observers and its calls.
 ghost use Rattle.std.specs.Prelude.{◌≡◌, ◌↔◌, ◌<◌, ◌≤◌, ◌+◌, ℕ, [], ◌∷◌, length, max, true, IsTrue, IfOk, IfSome, IfNone, OnOk, OnErr, is_some, if◌then◌else◌};
 ghost use Rattle.walks.specs.Walk.{Among};
-ghost use Rattle.observer_graph.specs.declared.node.Role.TheVariants.{Lazy};
 ghost use Rattle.observer_graph.specs.GraphView.{IsLive, IsLazy, IsPair, IsWhole, node_at, flags_of, flags_at, is_source};
 ghost use Rattle.observer_graph.specs.Notice.{IsLeast, IsUser, Reaches, Tells, with_stale};
 ghost use Rattle.observer_graph.specs.Late.{IsClear, IsLateOf};
@@ -9,7 +8,7 @@ ghost use Rattle.observer_graph.specs.Noticed.{IsRising};
 ghost use Rattle.observer_graph.specs.Change.{AddsNode, AddsPair, TakesPair, TakesNode, flagged, with_node, with_flags, with_source, without_source};
 
 use crate::beneath::{is_frozen, recounted};
-use crate::node::{Flags, Node, Role};
+use crate::node::{Flags, Node, Role, takes_flags};
 use crate::node_set::NodeSet;
 use crate::pairs::Pairs;
 use crate::rising::{first_out, reserve_for, take_out};
@@ -362,18 +361,6 @@ impl Graph {
         self.pairs
             .tell(&mut self.nodes, &self.sources, &mut self.noticed);
         self.sources.clear();
-    }
-}
-
-// Whether a node in this role has flags.
-fn takes_flags(role: Role) -> bool
-    ensures { IsTrue result ↔ (role ≡ Lazy) }
-{
-    match role {
-        Role::Source => false,
-        Role::Forwarder => false,
-        Role::Lazy => true,
-        Role::Watcher => false,
     }
 }
 

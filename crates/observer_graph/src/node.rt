@@ -1,5 +1,6 @@
 // What a graph knows of one node.
-ghost use Rattle.std.specs.Prelude.{◌↔◌, IsTrue};
+ghost use Rattle.std.specs.Prelude.{◌≡◌, ◌↔◌, IsTrue};
+ghost use Rattle.observer_graph.specs.declared.node.Role.TheVariants.{Lazy, Watcher};
 ghost use Rattle.observer_graph.specs.GraphView.{IsWatcher};
 
 /// How a node takes a notice: a source gets none, a forwarder passes each on, a lazy node is no longer current, and
@@ -38,11 +39,30 @@ pub fn is_watcher(node: &Option<Node>) -> bool
 {
     match node {
         None => false,
-        Some(live) => match live.role {
-            Role::Source => false,
-            Role::Forwarder => false,
-            Role::Lazy => false,
-            Role::Watcher => true,
-        },
+        Some(live) => watches(live.role),
+    }
+}
+
+/// Whether a node in this role is a watcher.
+pub fn watches(role: Role) -> bool
+    ensures { IsTrue result ↔ (role ≡ Watcher) }
+{
+    match role {
+        Role::Source => false,
+        Role::Forwarder => false,
+        Role::Lazy => false,
+        Role::Watcher => true,
+    }
+}
+
+/// Whether a node in this role has flags.
+pub fn takes_flags(role: Role) -> bool
+    ensures { IsTrue result ↔ (role ≡ Lazy) }
+{
+    match role {
+        Role::Source => false,
+        Role::Forwarder => false,
+        Role::Lazy => true,
+        Role::Watcher => false,
     }
 }

@@ -1,22 +1,23 @@
 // Whom a notice reaches: a worklist that is filled until no node waits, and what becomes of them.
-ghost use Rattle.std.specs.Prelude.{◌≡◌, ◌↔◌, ◌⊎◌, ◌<◌, ◌≤◌, ℕ, Bool, List, [], Option, vec_capacity, length, true, false, None, slice_index_or};
+ghost use Rattle.std.specs.Prelude.{◌≡◌, ◌↔◌, ◌⊎◌, ◌<◌, ◌≤◌, ◌+◌, ℕ, Bool, List, [], Option, IfNone, IfSome, vec_capacity, length, true, false, None, Some, slice_index_or};
 ghost use Rattle.walks.specs.Walk.{Among};
 ghost use Rattle.edge_lists.specs.EdgesView.{IsPair, IsWhole, subject_lists};
 ghost use Rattle.wave_queue.specs.Thread.{is_marked};
 ghost use Rattle.observer_graph.specs.declared.node.Node.{Node};
-ghost use Rattle.observer_graph.specs.Notice.{IsTold, passes_of, unsettled};
+ghost use Rattle.observer_graph.specs.declared.node.Role.TheVariants.{Lazy, Watcher};
+ghost use Rattle.observer_graph.specs.Notice.{IsTold, passes_as, passes_of, unsettled};
 ghost use Rattle.observer_graph.specs.GraphView.{IsWatcher};
 ghost use Rattle.observer_graph.specs.Noticed.{AreNoticed, IsRising, with_number};
-ghost use Rattle.observer_graph.specs.Puts.{Puts};
+ghost use Rattle.observer_graph.specs.Puts.{Puts, carrying};
 ghost use Rattle.observer_graph.specs.Telling.{IsDone, Spreads};
 ghost use Rattle.observer_graph.specs.Turns.{IsFree, IsMarkedBelow};
 ghost use Rattle.observer_graph.specs.Walks.{graph_of};
 
-use crate::node::{Node, Role, is_watcher};
+use crate::node::{Flags, Node, Role, takes_flags, watches};
 use crate::node_set::NodeSet;
 use crate::rising::put_in;
 use desk_names::ObjId;
-use edge_lists::Edges;
+use edge_lists::{EdgeId, Edges};
 use wave_queue::Wave;
 
 /// A notice from the sources: those whom it reaches are no longer current, and the watchers among them are remembered. The
@@ -74,7 +75,7 @@ fn tell_first(
     ensures len { length wave.new.marks ≡ length wave.old.marks }
 {
     for at in 0..sources.len() {
-        tell_observers(edges, sources.get(at), nodes, wave, noticed);
+        tell_observers(edges, sources.get(at), false, nodes, wave, noticed);
     }
 }
 
@@ -102,20 +103,39 @@ fn pass_on(
     ensures capacity { vec_capacity noticed.old ≤ vec_capacity noticed.new }
     ensures len { length wave.new.marks ≡ length wave.old.marks }
 {
-    while let Some(told) = wave.pop() {
-        tell_observers(edges, told, nodes, wave, noticed);
+    let mut next = next_of(None, wave);
+    while let Some(told) = next {
+        let carried = tell_observers(edges, told, true, nodes, wave, noticed);
+        next = next_of(carried, wave);
     }
 }
 
-// The observers of a node are told.
+// The node that is carried, or else the first that waits.
+fn next_of(carried: Option<ObjId>, wave: &mut Wave) -> Option<ObjId>
+    requires { IfSome carried (λ o. is_marked (carrying carried wave.old).marks o ≡ true) }
+    ensures end { IfNone result ((carrying carried wave.old ≡ wave.new) × (wave.new.waiting ≡ [])) }
+    ensures marks { wave.new.marks ≡ (carrying carried wave.old).marks }
+    ensures marked { IfSome result (λ o. is_marked wave.new.marks o ≡ true) }
+    ensures taken { IfSome result (λ o. (x : ℕ) → Among x (carrying carried wave.old).waiting
+        → (x ≡ o) ⊎ Among x wave.new.waiting) }
+    ensures load { IfSome result (λ o. length (carrying carried wave.old).waiting ≡ length wave.new.waiting + 1) }
+{
+    match carried {
+        Some(node) => Some(node),
+        None => wave.pop(),
+    }
+}
+
+// The observers of a node are told. The last of them may be carried, which then does not wait: it is the one to go on from.
 #[inline(always)]
 fn tell_observers(
     edges: &Edges,
     from: ObjId,
+    carries: bool,
     nodes: &mut [Option<Node>],
     wave: &mut Wave,
     noticed: &mut Vec<ObjId>,
-)
+) -> Option<ObjId>
     requires whole { IsWhole edges.now }
     requires nodes { length nodes.old ≡ length edges.now.nodes }
     requires from { from < length edges.now.nodes }
@@ -125,32 +145,46 @@ fn tell_observers(
     ensures spreads { (sources : List Bool) (first : List (Option Node)) (noted : List ℕ)
         → Spreads edges.now sources first noted (λ x o. x ≡ from) nodes.old wave.old noticed.old.items
         → ((o : ℕ) → IsPair edges.now from o → IsTold (graph_of first (subject_lists edges.now) sources) o)
-        → Spreads edges.now sources first noted (λ x o. ⊥) nodes.new wave.new noticed.new.items
-        × ((o : ℕ) → IsPair edges.now from o → IsDone edges.now first nodes.new wave.new noticed.new.items o) }
+        → Spreads edges.now sources first noted (λ x o. ⊥) nodes.new (carrying result wave.new) noticed.new.items
+        × ((o : ℕ) → IsPair edges.now from o
+        → IsDone edges.now first nodes.new (carrying result wave.new) noticed.new.items o) }
     ensures stays { (first : List (Option Node)) (o : ℕ) → IsDone edges.now first nodes.old wave.old noticed.old.items o
-        → IsDone edges.now first nodes.new wave.new noticed.new.items o }
-    ensures puts { Puts wave.old wave.new (λ o. IsPair edges.now from o) }
+        → IsDone edges.now first nodes.new (carrying result wave.new) noticed.new.items o }
+    ensures puts { Puts wave.old (carrying result wave.new) (λ o. IsPair edges.now from o) }
+    ensures carried { IfSome result (λ o. carries ≡ true) }
+    ensures marked { IfSome result (λ o. is_marked (carrying result wave.new).marks o ≡ true) }
     ensures noticed { AreNoticed noticed.new.items (length nodes.old) }
     ensures capacity { vec_capacity noticed.old ≤ vec_capacity noticed.new }
 {
+    let mut carried: Option<ObjId> = None;
     let mut at = edges.first_observer(from);
     while let Some(edge) = at {
         let (observer, next) = edges.observer_and_next(edge);
-        tell_one(edges, observer, nodes, wave, noticed);
+        let is_last = ends_walk(carries, &next);
+        carried = tell_one(edges, observer, is_last, nodes, wave, noticed);
         at = next;
     }
+    carried
+}
+
+// Whether a node may be carried: no pair is left behind it.
+fn ends_walk(carries: bool, next: &Option<EdgeId>) -> bool
+    ensures { result ≡ true → (carries ≡ true) × (next.now ≡ None) }
+{
+    carries && next.is_none()
 }
 
 // A node is told: it is remembered if it is a watcher, is no longer current, and waits if it passes the notice on to
-// someone, and was not marked.
+// someone, and was not marked; the last one is carried in place of that.
 #[inline(always)]
 fn tell_one(
     edges: &Edges,
     told: ObjId,
+    is_last: bool,
     nodes: &mut [Option<Node>],
     wave: &mut Wave,
     noticed: &mut Vec<ObjId>,
-)
+) -> Option<ObjId>
     requires whole { IsWhole edges.now }
     requires nodes { length nodes.old ≡ length edges.now.nodes }
     requires told { told < length edges.now.nodes }
@@ -160,31 +194,68 @@ fn tell_one(
     ensures spreads { (sources : List Bool) (first : List (Option Node)) (noted : List ℕ) (from : ℕ) (ahead : List ℕ)
         → Spreads edges.now sources first noted (λ x o. (x ≡ from) × Among o ahead) nodes.old wave.old noticed.old.items
         → IsTold (graph_of first (subject_lists edges.now) sources) told
-        → Spreads edges.now sources first noted (λ x o. (x ≡ from) × Among o ahead) nodes.new wave.new noticed.new.items
-        × IsDone edges.now first nodes.new wave.new noticed.new.items told }
+        → Spreads edges.now sources first noted (λ x o. (x ≡ from) × Among o ahead) nodes.new (carrying result wave.new)
+        noticed.new.items
+        × IsDone edges.now first nodes.new (carrying result wave.new) noticed.new.items told }
     ensures stays { (first : List (Option Node)) (o : ℕ) → IsDone edges.now first nodes.old wave.old noticed.old.items o
-        → IsDone edges.now first nodes.new wave.new noticed.new.items o }
-    ensures puts { Puts wave.old wave.new (λ o. o ≡ told) }
+        → IsDone edges.now first nodes.new (carrying result wave.new) noticed.new.items o }
+    ensures puts { Puts wave.old (carrying result wave.new) (λ o. o ≡ told) }
+    ensures carried { IfSome result (λ o. is_last ≡ true) }
+    ensures marked { IfSome result (λ o. is_marked (carrying result wave.new).marks o ≡ true) }
     ensures noticed { AreNoticed noticed.new.items (length nodes.old) }
     ensures capacity { vec_capacity noticed.old ≤ vec_capacity noticed.new }
 {
-    let node = &mut nodes[told.place()];
-    let goes_on = passes(node);
-    remember(node, told, noticed);
-    unsettle_one(node);
-    put_passing(edges, goes_on, told, wave);
+    let goes_on = take_notice(&mut nodes[told.place()], told, noticed);
+    put_passing(edges, goes_on, told, is_last, wave)
 }
 
-// A node that passes the notice on to someone waits, unless it is marked.
-fn put_passing(edges: &Edges, goes_on: bool, told: ObjId, wave: &mut Wave)
+// A node that passes the notice on to someone, and is not marked, is carried if it is the last one, and else waits.
+fn put_passing(
+    edges: &Edges,
+    goes_on: bool,
+    told: ObjId,
+    is_last: bool,
+    wave: &mut Wave,
+) -> Option<ObjId>
     requires told { told < length edges.now.nodes }
     requires room { told < length wave.old.marks }
-    ensures puts { Puts wave.old wave.new (λ o. (o ≡ told) × (goes_on ≡ true)) }
-    ensures done { goes_on ≡ true → (is_marked wave.new.marks told ≡ true) ⊎ ((p : ℕ) → IsPair edges.now told p → ⊥) }
+    ensures puts { Puts wave.old (carrying result wave.new) (λ o. (o ≡ told) × (goes_on ≡ true)) }
+    ensures done { goes_on ≡ true
+        → (is_marked (carrying result wave.new).marks told ≡ true) ⊎ ((p : ℕ) → IsPair edges.now told p → ⊥) }
+    ensures carried { IfSome result (λ o. is_last ≡ true) }
+    ensures marked { IfSome result (λ o. is_marked (carrying result wave.new).marks o ≡ true) }
 {
     if passes_to_some(edges, goes_on, told) {
-        wave.push(told);
+        carry_or_put(told, is_last, wave)
+    } else {
+        None
     }
+}
+
+// A node that is not marked is carried if it is the last one, and else waits.
+fn carry_or_put(told: ObjId, is_last: bool, wave: &mut Wave) -> Option<ObjId>
+    requires { told < length wave.old.marks }
+    ensures puts { Puts wave.old (carrying result wave.new) (λ o. o ≡ told) }
+    ensures done { is_marked (carrying result wave.new).marks told ≡ true }
+    ensures carried { IfSome result (λ o. is_last ≡ true) }
+    ensures marked { IfSome result (λ o. is_marked (carrying result wave.new).marks o ≡ true) }
+{
+    if is_last {
+        carry(told, wave)
+    } else {
+        wave.push(told);
+        None
+    }
+}
+
+// A node is marked; it is carried, if it was not.
+fn carry(told: ObjId, wave: &mut Wave) -> Option<ObjId>
+    requires { told < length wave.old.marks }
+    ensures puts { Puts wave.old (carrying result wave.new) (λ o. o ≡ told) }
+    ensures done { is_marked (carrying result wave.new).marks told ≡ true }
+    ensures marked { IfSome result (λ o. is_marked (carrying result wave.new).marks o ≡ true) }
+{
+    if wave.mark(told) { Some(told) } else { None }
 }
 
 // Whether a node that is told passes the notice on, and someone observes it.
@@ -200,32 +271,67 @@ fn passes_to_some(edges: &Edges, goes_on: bool, told: ObjId) -> bool
     }
 }
 
-// A node that is told is remembered, if it is a watcher.
-fn remember(node: &Option<Node>, told: ObjId, noticed: &mut Vec<ObjId>)
+// A node that is told is no longer current, and is remembered if it is a watcher; whether it passes the notice on.
+#[inline(always)]
+fn take_notice(node: &mut Option<Node>, told: ObjId, noticed: &mut Vec<ObjId>) -> bool
     requires rising { IsRising noticed.old.items }
     requires room { length (with_number told noticed.old.items) ≤ vec_capacity noticed.old }
-    ensures watcher { (IsWatcher node.now × (noticed.new.items ≡ with_number told noticed.old.items))
-        ⊎ ((IsWatcher node.now → ⊥) × (noticed.new.items ≡ noticed.old.items)) }
+    ensures passes { result ≡ passes_of node.old }
+    ensures node { node.new ≡ unsettled node.old }
+    ensures watcher { (IsWatcher node.old × (noticed.new.items ≡ with_number told noticed.old.items))
+        ⊎ ((IsWatcher node.old → ⊥) × (noticed.new.items ≡ noticed.old.items)) }
     ensures room { vec_capacity noticed.old ≤ vec_capacity noticed.new }
-{
-    if is_watcher(node) {
-        put_in(noticed, told);
-    }
-}
-
-// Whether a node that is told passes the notice on.
-fn passes(node: &Option<Node>) -> bool
-    ensures { result ≡ passes_of node.now }
 {
     match node {
         None => false,
-        Some(live) => match live.role {
-            Role::Source => false,
-            Role::Forwarder => true,
-            Role::Lazy => !live.flags.frozen && (live.flags.current || live.flags.forward),
-            Role::Watcher => false,
-        },
+        Some(live) => {
+            if takes_flags(live.role) {
+                let goes_on = passes_lazy(live.flags);
+                live.flags.current = false;
+                goes_on
+            } else {
+                take_live(live, told, noticed)
+            }
+        }
     }
+}
+
+// The same of a live node. It stays apart, since most that are told are lazy.
+#[inline(never)]
+fn take_live(live: &mut Node, told: ObjId, noticed: &mut Vec<ObjId>) -> bool
+    requires rising { IsRising noticed.old.items }
+    requires room { length (with_number told noticed.old.items) ≤ vec_capacity noticed.old }
+    ensures passes { result ≡ passes_as live.old.role live.old.flags }
+    ensures node { Some live.new ≡ unsettled (Some live.old) }
+    ensures watcher { ((live.old.role ≡ Watcher) × (noticed.new.items ≡ with_number told noticed.old.items))
+        ⊎ ((live.old.role ≡ Watcher → ⊥) × (noticed.new.items ≡ noticed.old.items)) }
+    ensures room { vec_capacity noticed.old ≤ vec_capacity noticed.new }
+{
+    let goes_on = passes(live);
+    live.flags.current = false;
+    if watches(live.role) {
+        put_in(noticed, told);
+    }
+    goes_on
+}
+
+// Whether a node that is told passes the notice on.
+fn passes(live: &Node) -> bool
+    ensures { result ≡ passes_as live.now.role live.now.flags }
+{
+    match live.role {
+        Role::Source => false,
+        Role::Forwarder => true,
+        Role::Lazy => passes_lazy(live.flags),
+        Role::Watcher => false,
+    }
+}
+
+// Whether a lazy node that is told passes the notice on.
+fn passes_lazy(flags: Flags) -> bool
+    ensures { result ≡ passes_as Lazy flags }
+{
+    !flags.frozen && (flags.current || flags.forward)
 }
 
 /// A node is no longer current.

@@ -1,78 +1,110 @@
-use Rattle.std.proofs.Common.{◌≡◌, ◌∙◌, ℕ, List, Bool, inl, inr, ap, refl, sym, subst, length, arith}
+use Rattle.std.proofs.Common.{◌≡◌, ◌∙◌, ◌+◌, ℕ, List, [], Bool, true, Option, Some, None, inl, inr, ap, sym, subst, length, arith}
+use Rattle.std.specs.Prelude.{IfNone, IfSome}
 use Rattle.edge_lists.proofs.Linking.{live_within}
 use Rattle.wave_queue.specs.Thread.{WaveView, is_marked, open_count}
 use Rattle.observer_graph.specs.Noticed.{AreNoticed}
-use Rattle.observer_graph.specs.Telling.{Spreads}
-use Rattle.observer_graph.proofs.Spreading.{done_popped, spreads_taken, told_on}
+use Rattle.observer_graph.specs.Puts.{carrying}
+use Rattle.observer_graph.proofs.Filling.{carrying_load, one_or_none}
+use Rattle.observer_graph.proofs.Spreading.{done_popped, spreads_as, spreads_next, told_on}
 use Rattle.observer_graph.proofs.walk.pass_on.Goals as goal
 
-pub loop-told-init : goal.loop-told-init
-loop-told-init c = record {
-  len = refl;
-  below = c.requires.below;
-  stays = λ first o d. d;
-  spreads = λ first noted s. s;
+if_none : (next : Option ℕ) (w1 w2 : WaveView) → IfNone next ((w1 ≡ w2) × (w2.waiting ≡ []))
+    → IfNone next (w2.waiting ≡ [])
+if_none None w1 w2 end = end.1
+if_none (Some node) w1 w2 end = tt
+
+pub loop-next-init : goal.loop-next-init
+loop-next-init c = record {
+  len = ap (λ (m : List Bool). length m) c.next_of-next.ensures.marks;
+  below = λ o on. c.requires.below o (ap (λ (m : List Bool). is_marked m o) (sym c.next_of-next.ensures.marks) ∙ on);
+  stays = λ first o d. done_popped c.args.edges.now first c.args.nodes.now c.args.wave.now c.next_of-next.new.wave
+      c.args.noticed.now.items c.next_of-next.ensures.marks o d;
+  spreads = λ first noted s. spreads_next c.args.edges.now c.args.sources.now.marks first noted c.args.nodes.now
+      c.args.wave.now c.next_of-next.new.wave c.next_of-next.result c.args.noticed.now.items c.next_of-next.ensures.end
+      c.next_of-next.ensures.taken c.next_of-next.ensures.marks s;
+  marked = c.next_of-next.ensures.marked;
+  end = if_none c.next_of-next.result c.args.wave.now c.next_of-next.new.wave c.next_of-next.ensures.end;
   noticed = c.requires.noticed;
   capacity = omega arith;
 }
 
-pub tell_observers-requires-clause-nodes : goal.tell_observers-requires-clause-nodes
-tell_observers-requires-clause-nodes c = let long = c.loop-told.auto.nodes in let n = c.requires.nodes in omega arith
+pub tell_observers-carried-requires-clause-nodes : goal.tell_observers-carried-requires-clause-nodes
+tell_observers-carried-requires-clause-nodes c = let long = c.loop-next.auto.nodes in let n = c.requires.nodes in omega arith
 
-pub tell_observers-requires-clause-from : goal.tell_observers-requires-clause-from
-tell_observers-requires-clause-from c = c.loop-told.invariant.below c.in-Some.told c.in-Some.ensures.marked
+pub tell_observers-carried-requires-clause-from : goal.tell_observers-carried-requires-clause-from
+tell_observers-carried-requires-clause-from c = c.loop-next.invariant.below c.in-Some.told
+    (subst (λ (n : Option ℕ). IfSome n (λ o. is_marked c.loop-next.wave.marks o ≡ true)) c.in-Some.is c.loop-next.invariant.marked)
 
-pub tell_observers-requires-clause-wave : goal.tell_observers-requires-clause-wave
-tell_observers-requires-clause-wave c = let long = c.loop-told.auto.nodes in let w = c.requires.wave in
-    let l = c.loop-told.invariant.len in let m = ap (λ (m : List Bool). length m) c.in-Some.ensures.marks in omega arith
+pub tell_observers-carried-requires-clause-wave : goal.tell_observers-carried-requires-clause-wave
+tell_observers-carried-requires-clause-wave c = let long = c.loop-next.auto.nodes in let w = c.requires.wave in
+    let l = c.loop-next.invariant.len in omega arith
 
-pub tell_observers-requires-clause-noticed : goal.tell_observers-requires-clause-noticed
-tell_observers-requires-clause-noticed c =
-    let same : length c.args.nodes.now ≡ length c.loop-told.nodes = let long = c.loop-told.auto.nodes in omega arith in
-    subst (λ (n : ℕ). AreNoticed c.loop-told.noticed.items n) same c.loop-told.invariant.noticed
+pub tell_observers-carried-requires-clause-noticed : goal.tell_observers-carried-requires-clause-noticed
+tell_observers-carried-requires-clause-noticed c =
+    let same : length c.args.nodes.now ≡ length c.loop-next.nodes = let long = c.loop-next.auto.nodes in omega arith in
+    subst (λ (n : ℕ). AreNoticed c.loop-next.noticed.items n) same c.loop-next.invariant.noticed
 
-pub tell_observers-requires-clause-room : goal.tell_observers-requires-clause-room
-tell_observers-requires-clause-room c = let long = c.loop-told.auto.nodes in let r = c.requires.room in
-    let m = c.loop-told.invariant.capacity in omega arith
+pub tell_observers-carried-requires-clause-room : goal.tell_observers-carried-requires-clause-room
+tell_observers-carried-requires-clause-room c = let long = c.loop-next.auto.nodes in let r = c.requires.room in
+    let m = c.loop-next.invariant.capacity in omega arith
 
-pub loop-told-preserved : goal.loop-told-preserved
-loop-told-preserved c =
+pub next_of-next-requires-in-Some : goal.next_of-next-requires-in-Some
+next_of-next-requires-in-Some c = c.tell_observers-carried.ensures.marked
+
+pub loop-next-preserved : goal.loop-next-preserved
+loop-next-preserved c =
     let v = c.args.edges.now in
-    let puts = c.tell_observers.ensures.puts in
-    let marks = c.in-Some.ensures.marks in
-    let same : length c.loop-told.nodes ≡ length c.args.nodes.now = let long = c.loop-told.auto.nodes in omega arith in
+    let puts = c.tell_observers-carried.ensures.puts in
+    let behind : WaveView = carrying c.tell_observers-carried.result c.tell_observers-carried.new.wave in
+    let marks = c.next_of-next-in-Some.ensures.marks in
+    let on = subst (λ (n : Option ℕ). IfSome n (λ o. is_marked c.loop-next.wave.marks o ≡ true)) c.in-Some.is
+    c.loop-next.invariant.marked in
+    let same : length c.loop-next.nodes ≡ length c.args.nodes.now = let long = c.loop-next.auto.nodes in omega arith in
     record {
-      len = puts.len ∙ ap (λ (m : List Bool). length m) marks ∙ c.loop-told.invariant.len;
-      below = λ o on. elim (puts.from o on) [
-        | inl was ↦ c.loop-told.invariant.below o (ap (λ (m : List Bool). is_marked m o) (sym marks) ∙ was)
+      len = ap (λ (m : List Bool). length m) marks ∙ puts.len ∙ c.loop-next.invariant.len;
+      below = λ o is. elim (puts.from o (ap (λ (m : List Bool). is_marked m o) (sym marks) ∙ is)) [
+        | inl was ↦ c.loop-next.invariant.below o was
         | inr pair ↦ live_within v.nodes o (c.requires.whole.ends c.in-Some.told o pair).1
       ];
-      stays = λ first o d. c.tell_observers.ensures.stays first o (done_popped v first c.loop-told.nodes c.loop-told.wave c.pop.new.self
-          c.loop-told.noticed.items marks o (c.loop-told.invariant.stays first o d));
+      stays = λ first o d. done_popped v first c.tell_observers-carried.new.nodes behind c.next_of-next-in-Some.new.wave
+          c.tell_observers-carried.new.noticed.items marks o
+          (c.tell_observers-carried.ensures.stays first o (c.loop-next.invariant.stays first o d));
       spreads = λ first noted s0.
-          let s = c.loop-told.invariant.spreads first noted s0 in
-          (c.tell_observers.ensures.spreads c.args.sources.now.marks first noted
-          (spreads_taken v c.args.sources.now.marks first noted c.loop-told.nodes c.loop-told.wave c.pop.new.self c.in-Some.told
-          c.loop-told.noticed.items c.in-Some.ensures.waiting marks s)
+          let s = c.loop-next.invariant.spreads first noted s0 in
+          spreads_next v c.args.sources.now.marks first noted c.tell_observers-carried.new.nodes behind c.next_of-next-in-Some.new.wave
+          c.next_of-next-in-Some.result c.tell_observers-carried.new.noticed.items c.next_of-next-in-Some.ensures.end c.next_of-next-in-Some.ensures.taken marks
+          (c.tell_observers-carried.ensures.spreads c.args.sources.now.marks first noted
+          (spreads_as v c.args.sources.now.marks first noted (λ x o. c.loop-next.next ≡ Some x) (λ x o. x ≡ c.in-Some.told)
+          c.loop-next.nodes c.loop-next.wave c.loop-next.noticed.items
+          (λ x o pair is. inr (some_same (sym is ∙ c.in-Some.is))) s)
           (λ o pair. told_on v c.requires.whole first c.args.sources.now.marks c.in-Some.told o pair
-          (s.told c.in-Some.told c.in-Some.ensures.marked).1 (s.told c.in-Some.told c.in-Some.ensures.marked).0)).0;
-      noticed = subst (λ (n : ℕ). AreNoticed c.tell_observers.new.noticed.items n) same c.tell_observers.ensures.noticed;
-      capacity = let a = c.loop-told.invariant.capacity in let b = c.tell_observers.ensures.capacity in omega arith;
+          (s.told c.in-Some.told on).1 (s.told c.in-Some.told on).0)).0;
+      marked = c.next_of-next-in-Some.ensures.marked;
+      end = if_none c.next_of-next-in-Some.result behind c.next_of-next-in-Some.new.wave c.next_of-next-in-Some.ensures.end;
+      noticed = subst (λ (n : ℕ). AreNoticed c.tell_observers-carried.new.noticed.items n) same
+          c.tell_observers-carried.ensures.noticed;
+      capacity = let a = c.loop-next.invariant.capacity in let b = c.tell_observers-carried.ensures.capacity in omega arith;
     }
+  where
+    some_same : {x y : ℕ} → Some x ≡ Some y → x ≡ y
+    some_same e = cc
 
-pub loop-told-smaller : goal.loop-told-smaller
-loop-told-smaller c =
-    let l = c.tell_observers.ensures.puts.load in let w = ap (λ (xs : List ℕ). length xs) c.in-Some.ensures.waiting in
-    let m = ap (λ (m : List Bool). open_count m) c.in-Some.ensures.marks in omega arith
+pub loop-next-smaller : goal.loop-next-smaller
+loop-next-smaller c =
+    let l = carrying_load (open_count c.loop-next.wave.marks + length c.loop-next.wave.waiting) c.next_of-next-in-Some.result
+    (carrying c.tell_observers-carried.result c.tell_observers-carried.new.wave) c.next_of-next-in-Some.new.wave c.next_of-next-in-Some.ensures.marks
+    c.next_of-next-in-Some.ensures.end c.next_of-next-in-Some.ensures.load c.tell_observers-carried.ensures.puts.load in
+    let e = ap one_or_none c.in-Some.is in omega arith
 
 pub returns-clause-spreads : goal.returns-clause-spreads
-returns-clause-spreads c = λ first noted s. subst (λ (w : WaveView). Spreads c.args.edges.now c.args.sources.now.marks first noted
-    (λ x o. ⊥) c.loop-told.nodes w c.loop-told.noticed.items) (sym c.in_default.ensures.same)
-    (c.loop-told.invariant.spreads first noted s)
-
-pub returns-clause-stays : goal.returns-clause-stays
-returns-clause-stays c = λ first o d. done_popped c.args.edges.now first c.loop-told.nodes c.loop-told.wave c.pop.new.self
-    c.loop-told.noticed.items c.in_default.ensures.marks o (c.loop-told.invariant.stays first o d)
+returns-clause-spreads c = λ first noted s.
+    spreads_as c.args.edges.now c.args.sources.now.marks first noted (λ x o. c.loop-next.next ≡ Some x) (λ x o. ⊥)
+    c.loop-next.nodes c.loop-next.wave c.loop-next.noticed.items
+    (λ x o pair is. absurd (none_some (sym c.in_default.is ∙ is))) (c.loop-next.invariant.spreads first noted s)
+  where
+    none_some : {x : ℕ} → None ≡ Some x → ⊥
+    none_some e = cc
 
 pub returns-clause-end : goal.returns-clause-end
-returns-clause-end c = ap (λ (w : WaveView). w.waiting) c.in_default.ensures.same ∙ c.in_default.ensures.waiting
+returns-clause-end c = subst (λ (n : Option ℕ). IfNone n (c.loop-next.wave.waiting ≡ [])) c.in_default.is
+    c.loop-next.invariant.end

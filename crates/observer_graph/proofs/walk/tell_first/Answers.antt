@@ -1,10 +1,14 @@
-use Rattle.std.proofs.Common.{◌≡◌, ◌∙◌, ◌++◌, ◌∷◌, [], ℕ, List, inl, inr, ap, refl, sym, subst, take, length, arith}
+use Rattle.std.proofs.Common.{◌≡◌, ◌∙◌, ◌++◌, ◌∷◌, [], ℕ, List, false, inl, inr, ap, refl, sym, subst, take, length, arith}
 use Rattle.std.proofs.lemmas.List.{take_more, take_all}
 use Rattle.std.proofs.lemmas.Option.{get_or_from_slice_get, slice_get_within}
 use Rattle.walks.specs.Walk.{Among}
 use Rattle.edge_lists.specs.EdgesView.{IsPair}
+use Rattle.wave_queue.specs.Thread.{WaveView}
 use Rattle.edge_lists.proofs.Linking.{live_within}
 use Rattle.observer_graph.specs.Noticed.{AreNoticed}
+use Rattle.observer_graph.specs.Puts.{Puts}
+use Rattle.observer_graph.specs.Telling.{IsDone, Spreads}
+use Rattle.observer_graph.proofs.Filling.{carrying_none, never_carried}
 use Rattle.observer_graph.proofs.Members.{among_item, among_last}
 use Rattle.observer_graph.proofs.Marks.{marked_within}
 use Rattle.observer_graph.proofs.Spreading.{spreads_as, spreads_none, told_first}
@@ -59,21 +63,27 @@ loop-at-preserved c =
     let here = c.len-at-end.ensures.set.marked c.get.result (among_item items c.loop-at.at c.get.result low is) in
     let taken = take_more items c.loop-at.at c.get.result low ∙ ap (λ (z : ℕ). take c.loop-at.at items ++ z ∷ []) (sym is) in
     let same : length c.loop-at.nodes ≡ length c.args.nodes.now = let long = c.loop-at.auto.nodes in omega arith in
+    let plain = carrying_none c.tell_observers.result c.tell_observers.new.wave
+    (never_carried c.tell_observers.result false c.tell_observers.ensures.carried refl) in
+    let puts = subst (λ (w : WaveView). Puts c.loop-at.wave w (λ o. IsPair v c.get.result o)) plain
+    c.tell_observers.ensures.puts in
     let told = c.tell_observers.ensures.spreads c.args.sources.now.marks c.args.nodes.now c.args.noticed.now.items
     (spreads_as v c.args.sources.now.marks c.args.nodes.now c.args.noticed.now.items (λ x o. ⊥) (λ x o. x ≡ c.get.result)
     c.loop-at.nodes c.loop-at.wave c.loop-at.noticed.items (λ x o pair never. absurd never) c.loop-at.invariant.spreads)
     (λ o pair. told_first v c.requires.whole c.args.nodes.now c.args.sources.now.marks c.get.result o pair here) in
     record {
-      len = c.tell_observers.ensures.puts.len ∙ c.loop-at.invariant.len;
-      below = λ o on. elim (c.tell_observers.ensures.puts.from o on) [
+      len = puts.len ∙ c.loop-at.invariant.len;
+      below = λ o on. elim (puts.from o on) [
         | inl was ↦ c.loop-at.invariant.below o was
         | inr pair ↦ live_within v.nodes o (c.requires.whole.ends c.get.result o pair).1
       ];
-      spreads = told.0;
-      starts = λ x o a pair. elim ((among_last x (take c.loop-at.at items) c.get.result).0 (subst (Among x) taken a)) [
-        | inl was ↦ c.tell_observers.ensures.stays c.args.nodes.now o (c.loop-at.invariant.starts x o was pair)
-        | inr is ↦ told.1 o (subst (λ (z : ℕ). IsPair v z o) is pair)
-      ];
+      spreads = subst (λ (w : WaveView). Spreads v c.args.sources.now.marks c.args.nodes.now c.args.noticed.now.items
+          (λ x o. ⊥) c.tell_observers.new.nodes w c.tell_observers.new.noticed.items) plain told.0;
+      starts = λ x o a pair. subst (λ (w : WaveView). IsDone v c.args.nodes.now c.tell_observers.new.nodes w
+          c.tell_observers.new.noticed.items o) plain (elim ((among_last x (take c.loop-at.at items) c.get.result).0 (subst (Among x) taken a)) [
+            | inl was ↦ c.tell_observers.ensures.stays c.args.nodes.now o (c.loop-at.invariant.starts x o was pair)
+            | inr is ↦ told.1 o (subst (λ (z : ℕ). IsPair v z o) is pair)
+          ]);
       noticed = subst (λ (n : ℕ). AreNoticed c.tell_observers.new.noticed.items n) same c.tell_observers.ensures.noticed;
       capacity = let a = c.loop-at.invariant.capacity in let b = c.tell_observers.ensures.capacity in omega arith;
     }

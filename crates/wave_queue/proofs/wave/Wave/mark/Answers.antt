@@ -1,4 +1,4 @@
-use Rattle.std.proofs.Common.{◌<◌, ◌+◌, [], ◌∷◌, ◌++◌, ◌∙◌, ap, sym, arith, subst, Bool, false, List, ℕ, length}
+use Rattle.std.proofs.Common.{◌<◌, ◌∙◌, ap, sym, arith, subst, Bool, false, length}
 use Rattle.std.specs.Prelude.{not, slice_set}
 use Rattle.std.proofs.lemmas.List.{set-get_or}
 use Rattle.wave_queue.specs.Thread.{WaveView, marks_by}

@@ -17,6 +17,10 @@ use Rattle.desk_model.specs.Visit.{Visit, log_of, is_idle, stored, runs, asked}
 use Rattle.desk_model.proofs.Shown.{free_held, seen_held, shows_last}
 use Rattle.desk_model.proofs.Steps.{idle_visit}
 use Rattle.desk_model.proofs.Clear.{shows_seen}
+use Rattle.object_store.specs.declared.market.Market as parts
+use Rattle.object_store.specs.Market.{state_in, state_after}
+use Rattle.object_store.specs.Slots.{Registry, state_of}
+use Rattle.object_store.specs.Store.{StoreView, registry_of}
 use Rattle.ask_walk.specs.Asks.{Asks, Walks, MayAsk, lacking, walk_mark, held_answer, AnswersIdly}
 use Rattle.ask_walk.proofs.Loop.{each_id, fit_of, current_last}
 
@@ -201,3 +205,7 @@ walks_ask calc s o new mark count0 log0 count log links marks answer w = record 
   count = w.count;
   log = w.log;
 }
+
+-- what an ask changes of a state is what is kept
+pub state_left : (market : parts.Market) (old new : StoreView) → registry_of new ≡ registry_of old → state_after market old new ≡ state_in market new
+state_left market old new same = ap (λ (r : Registry). state_of market.today market.objects new.kept r) (sym same)

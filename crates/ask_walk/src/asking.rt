@@ -1,17 +1,18 @@
 // An ask: what it uses and has no current value is computed, by an explicit stack.
-ghost use Rattle.std.specs.Prelude.{◌≡◌, ◌≢◌, ◌⊎◌, ◌<◌, ◌^◌, ℤ, true, false, List, length, None, Some, Ok, Err, IsOk, IfOk, IfSome, OnErr, slice_index_or, is_some};
+ghost use Rattle.std.specs.Prelude.{◌≡◌, ◌≢◌, ◌⊎◌, ◌<◌, ◌^◌, true, false, length, None, Some, Ok, Err, IsOk, IfOk, IfSome, OnErr, slice_index_or, is_some};
 ghost use Rattle.std.specs.Option.{option_copied};
 ghost use Rattle.desk_terms.specs.declared.terms.Terms.{Terms};
 ghost use Rattle.desk_terms.specs.Bench.{counted};
 ghost use Rattle.desk_terms.specs.Reading.{IsWellFormed};
 ghost use Rattle.desk_model.specs.Market.{terms_at};
-ghost use Rattle.desk_model.specs.declared.slot.Slot.{Slot};
 ghost use Rattle.desk_model.specs.Links.{IsLinked, is_lazy_at, IsWhole};
 ghost use Rattle.desk_model.specs.Uses.{reading_at};
 ghost use Rattle.desk_model.specs.State.{unpriced, held};
-ghost use Rattle.object_store.specs.Slots.{market_of, state_of, is_now, is_at_hand};
+ghost use Rattle.object_store.specs.declared.market.Market.{Market};
+ghost use Rattle.object_store.specs.Market.{market_in, state_in, state_after};
+ghost use Rattle.object_store.specs.Slots.{is_now, is_at_hand};
 ghost use Rattle.object_store.specs.Store.{registry_of};
-ghost use Rattle.object_store.specs.Scratch.{AreClear, IsEmpty};
+ghost use Rattle.object_store.specs.Scratch.{IsEmpty};
 ghost use Rattle.object_store.specs.Shape.{IsJoined, role_at};
 ghost use Rattle.observer_graph.specs.declared.node.Role.TheVariants as role;
 ghost use Rattle.ask_walk.specs.Reads.{Remembers};
@@ -19,67 +20,125 @@ ghost use Rattle.ask_walk.specs.Begun.{Begun};
 ghost use Rattle.ask_walk.specs.Steps.{NeedsFirst, Descends};
 ghost use Rattle.ask_walk.specs.Asks.{Asks, Walks, Stops, MayAsk, Stays, Computes, lacking, walk_mark, held_answer};
 
+use crate::books::Books;
 use crate::steps::{Step, next};
 use crate::uses::index_named;
-use day_number::Day;
 use desk_names::ObjId;
 use desk_terms::{Asked, Bench, Cause, InputList, Job, Mark, Terms, Value};
-use object_store::{Objects, Scratch, Store};
+use object_store::{Market, Store};
 use std::alloc::{AllocError, Global};
 
-/// Asks a lazy object. It computes only what it uses and has no current value, and works each derived quote out at most once.
-pub fn ask<B: Bench>(
-    alloc: Global,
-    today: Day,
-    objects: &Objects,
-    store: &mut Store,
-    scratch: &mut Scratch,
-    object: ObjId,
-    bench: &mut B,
-) -> Result<Asked, AllocError>
-    requires may { MayAsk (B.calc bench.old) (state_of today objects.now store.old.kept (registry_of store.old)) object }
-    requires empty { IsEmpty (length objects.now) scratch.old }
-    requires joined { IsJoined (market_of today objects.now) store.old.shape }
-    ensures same { B.calc bench.new ≡ B.calc bench.old }
-    ensures asks { IfOk result (λ answer. Asks (B.calc bench.old) object (state_of today objects.now store.old.kept (registry_of store.old)) (state_of today objects.now store.new.kept (registry_of store.old)) answer
-        (B.count bench.old) (B.count bench.new) (B.log bench.old) (B.log bench.new)) }
-    ensures stops { OnErr result (Stops (B.calc bench.old) object (state_of today objects.now store.old.kept (registry_of store.old)) (state_of today objects.now store.new.kept (registry_of store.old))
-        (B.count bench.old) (B.count bench.new) (B.log bench.old) (B.log bench.new)) }
-    ensures stays { Stays (B.calc bench.old) (state_of today objects.now store.new.kept (registry_of store.old)) }
-    ensures ready { (held (state_of today objects.now store.old.kept (registry_of store.old)) object ≢ None) ⊎ (is_now store.old.kept object ≡ true) → IsOk result }
-    ensures empty { IsEmpty (length objects.now) scratch.new }
-    ensures shape { store.new.shape ≡ store.old.shape }
-    ensures registry { registry_of store.new ≡ registry_of store.old }
-{
-    if let Some(answer) = ask_held(store, object) {
-        return Ok(answer);
+impl Books {
+    /// Asks a lazy object. It computes only what it uses and has no current value, and works each derived quote out at most
+    /// once.
+    pub fn ask<B: Bench>(
+        &mut self,
+        market: &Market,
+        object: ObjId,
+        bench: &mut B,
+    ) -> Result<Asked, AllocError>
+        requires may { MayAsk (B.calc bench.old) (state_in market.now self.old.store) object }
+        requires empty { IsEmpty (length market.now.objects) self.old.scratch }
+        requires joined { IsJoined (market_in market.now) self.old.store.shape }
+        ensures same { B.calc bench.new ≡ B.calc bench.old }
+        ensures asks { IfOk result (λ answer. Asks (B.calc bench.old) object (state_in market.now self.old.store) (state_in market.now self.new.store) answer
+            (B.count bench.old) (B.count bench.new) (B.log bench.old) (B.log bench.new)) }
+        ensures stops { OnErr result (Stops (B.calc bench.old) object (state_in market.now self.old.store) (state_in market.now self.new.store)
+            (B.count bench.old) (B.count bench.new) (B.log bench.old) (B.log bench.new)) }
+        ensures stays { Stays (B.calc bench.old) (state_in market.now self.new.store) }
+        ensures ready { (held (state_in market.now self.old.store) object ≢ None) ⊎ (is_now self.old.store.kept object ≡ true) → IsOk result }
+        ensures empty { IsEmpty (length market.now.objects) self.new.scratch }
+        ensures shape { self.new.store.shape ≡ self.old.store.shape }
+        ensures registry { registry_of self.new.store ≡ registry_of self.old.store }
+    {
+        if let Some(answer) = self.ask_held(object) {
+            return Ok(answer);
+        }
+        let mark = walk_mark(self.store.clear(object));
+        let answer = self.walk(market, object, mark, bench);
+        self.clear();
+        answer
     }
-    let mark = walk_mark(store.clear(object));
-    let answer = compute_all(alloc, today, objects, store, scratch, object, mark, bench);
-    scratch.clear();
-    answer
-}
 
-/// What an ask answers of an object without a computation. None exactly where the object is neither frozen nor late nor
-/// current. It takes no memory.
-pub fn ask_held(store: &mut Store, object: ObjId) -> Option<Asked>
-    requires there { is_some (role_at store.old.shape object) ≡ true }
-    ensures answer { (today : ℤ) (slots : List Slot) → IsWhole (state_of today slots store.old.kept (registry_of store.old))
-        → IsJoined (market_of today slots) store.old.shape
-        → result ≡ held_answer (state_of today slots store.old.kept (registry_of store.old)) object }
-    ensures same { store.new ≡ store.old }
-{
-    if store.is_frozen(object) {
-        return Some(last_answer(store, object, Mark::Frozen));
+    /// What an ask answers of an object without a computation. None exactly where the object is neither frozen nor late nor
+    /// current. It takes no memory.
+    pub fn ask_held(&mut self, object: ObjId) -> Option<Asked>
+        requires there { is_some (role_at self.old.store.shape object) ≡ true }
+        ensures answer { (market : Market) → IsWhole (state_in market self.old.store)
+            → IsJoined (market_in market) self.old.store.shape
+            → result ≡ held_answer (state_in market self.old.store) object }
+        ensures same { self.new ≡ self.old }
+    {
+        if self.store.is_frozen(object) {
+            return Some(last_answer(&self.store, object, Mark::Frozen));
+        }
+        if self.store.late(object).is_some() {
+            return Some(last_answer(&self.store, object, Mark::Late));
+        }
+        if self.store.is_current(object) {
+            let clear = self.store.clear(object);
+            return Some(answered(None, walk_mark(clear), 0));
+        }
+        None
     }
-    if store.late(object).is_some() {
-        return Some(last_answer(store, object, Mark::Late));
+
+    // The walk of an ask, of an object that is neither held nor current.
+    pub(crate) fn walk<B: Bench>(
+        &mut self,
+        market: &Market,
+        object: ObjId,
+        mark: Mark,
+        bench: &mut B,
+    ) -> Result<Asked, AllocError>
+        requires may { MayAsk (B.calc bench.old) (state_in market.now self.old.store) object }
+        requires free { held (state_in market.now self.old.store) object ≡ None }
+        requires stale { is_now self.old.store.kept object ≡ false }
+        requires remembers { Remembers (market_in market.now) self.old.scratch.entries }
+        requires begun { Begun market.now.objects self.old.store.kept self.old.scratch.positions }
+        requires joined { IsJoined (market_in market.now) self.old.store.shape }
+        ensures same { B.calc bench.new ≡ B.calc bench.old }
+        ensures walks { IfOk result (λ answer. Walks (B.calc bench.old) object (state_in market.now self.old.store) (state_after market.now self.old.store self.new.store) mark answer
+            (B.count bench.old) (B.count bench.new) (B.log bench.old) (B.log bench.new)) }
+        ensures few { IfOk result (λ answer. answer.runs < 2 ^ 17) }
+        ensures stops { OnErr result (Stops (B.calc bench.old) object (state_in market.now self.old.store) (state_after market.now self.old.store self.new.store)
+            (B.count bench.old) (B.count bench.new) (B.log bench.old) (B.log bench.new)) }
+        ensures stays { Stays (B.calc bench.old) (state_after market.now self.old.store self.new.store) }
+        ensures shape { self.new.store.shape ≡ self.old.store.shape }
+        ensures registry { registry_of self.new.store ≡ registry_of self.old.store }
+        ensures remembers { Remembers (market_in market.now) self.new.scratch.entries }
+        ensures begun { Begun market.now.objects self.new.store.kept self.new.scratch.positions }
+    {
+        let alloc = self.scratch.alloc();
+        let mut waiting: Vec<ObjId> = Vec::new(alloc);
+        let mut top = descend(market, &self.store, object, &mut waiting)?;
+        let mut runs: u64 = 0;
+        loop {
+            match next(
+                market,
+                &self.store,
+                &mut self.scratch,
+                top,
+                &mut self.inputs,
+            )? {
+                Step::Stops(cause) => return Ok(answered(Some(cause), mark, runs)),
+                Step::First(needed) => {
+                    waiting.push(top)?;
+                    top = descend(market, &self.store, needed, &mut waiting)?;
+                }
+                Step::Ready => {
+                    let cause = compute(alloc, market, &mut self.store, top, &self.inputs, bench)?;
+                    runs += 1;
+                    if cause.is_some() {
+                        return Ok(answered(cause, mark, runs));
+                    }
+                    match waiting.pop() {
+                        Some(under) => top = under,
+                        None => return Ok(answered(None, mark, runs)),
+                    }
+                }
+            }
+        }
     }
-    if store.is_current(object) {
-        let clear = store.clear(object);
-        return Some(answered(None, walk_mark(clear), 0));
-    }
-    None
 }
 
 // The mark of an object that is neither frozen nor late.
@@ -99,120 +158,19 @@ fn last_answer(store: &Store, object: ObjId, mark: Mark) -> Asked
     }
 }
 
-/// The walk of an ask, of an object that is neither held nor current.
-pub fn compute_all<B: Bench>(
-    alloc: Global,
-    today: Day,
-    objects: &Objects,
-    store: &mut Store,
-    scratch: &mut Scratch,
-    object: ObjId,
-    mark: Mark,
-    bench: &mut B,
-) -> Result<Asked, AllocError>
-    requires may { MayAsk (B.calc bench.old) (state_of today objects.now store.old.kept (registry_of store.old)) object }
-    requires free { held (state_of today objects.now store.old.kept (registry_of store.old)) object ≡ None }
-    requires stale { is_now store.old.kept object ≡ false }
-    requires remembers { Remembers (market_of today objects.now) scratch.old.entries }
-    requires begun { Begun objects.now store.old.kept scratch.old.positions }
-    requires joined { IsJoined (market_of today objects.now) store.old.shape }
-    ensures same { B.calc bench.new ≡ B.calc bench.old }
-    ensures walks { IfOk result (λ answer. Walks (B.calc bench.old) object (state_of today objects.now store.old.kept (registry_of store.old)) (state_of today objects.now store.new.kept (registry_of store.old)) mark answer
-        (B.count bench.old) (B.count bench.new) (B.log bench.old) (B.log bench.new)) }
-    ensures few { IfOk result (λ answer. answer.runs < 2 ^ 17) }
-    ensures stops { OnErr result (Stops (B.calc bench.old) object (state_of today objects.now store.old.kept (registry_of store.old)) (state_of today objects.now store.new.kept (registry_of store.old))
-        (B.count bench.old) (B.count bench.new) (B.log bench.old) (B.log bench.new)) }
-    ensures stays { Stays (B.calc bench.old) (state_of today objects.now store.new.kept (registry_of store.old)) }
-    ensures shape { store.new.shape ≡ store.old.shape }
-    ensures registry { registry_of store.new ≡ registry_of store.old }
-    ensures remembers { Remembers (market_of today objects.now) scratch.new.entries }
-    ensures begun { Begun objects.now store.new.kept scratch.new.positions }
-{
-    let mut inputs = scratch.take_inputs(alloc);
-    let answer = walk(
-        alloc,
-        today,
-        objects,
-        store,
-        scratch,
-        object,
-        mark,
-        &mut inputs,
-        bench,
-    );
-    scratch.keep_inputs(inputs);
-    answer
-}
-
-// The same; `inputs` is room for those of each price.
-fn walk<B: Bench>(
-    alloc: Global,
-    today: Day,
-    objects: &Objects,
-    store: &mut Store,
-    scratch: &mut Scratch,
-    object: ObjId,
-    mark: Mark,
-    inputs: &mut InputList,
-    bench: &mut B,
-) -> Result<Asked, AllocError>
-    requires may { MayAsk (B.calc bench.old) (state_of today objects.now store.old.kept (registry_of store.old)) object }
-    requires free { held (state_of today objects.now store.old.kept (registry_of store.old)) object ≡ None }
-    requires stale { is_now store.old.kept object ≡ false }
-    requires remembers { Remembers (market_of today objects.now) scratch.old.entries }
-    requires begun { Begun objects.now store.old.kept scratch.old.positions }
-    requires joined { IsJoined (market_of today objects.now) store.old.shape }
-    ensures same { B.calc bench.new ≡ B.calc bench.old }
-    ensures walks { IfOk result (λ answer. Walks (B.calc bench.old) object (state_of today objects.now store.old.kept (registry_of store.old)) (state_of today objects.now store.new.kept (registry_of store.old)) mark answer
-        (B.count bench.old) (B.count bench.new) (B.log bench.old) (B.log bench.new)) }
-    ensures few { IfOk result (λ answer. answer.runs < 2 ^ 17) }
-    ensures stops { OnErr result (Stops (B.calc bench.old) object (state_of today objects.now store.old.kept (registry_of store.old)) (state_of today objects.now store.new.kept (registry_of store.old))
-        (B.count bench.old) (B.count bench.new) (B.log bench.old) (B.log bench.new)) }
-    ensures stays { Stays (B.calc bench.old) (state_of today objects.now store.new.kept (registry_of store.old)) }
-    ensures shape { store.new.shape ≡ store.old.shape }
-    ensures registry { registry_of store.new ≡ registry_of store.old }
-    ensures remembers { Remembers (market_of today objects.now) scratch.new.entries }
-    ensures begun { Begun objects.now store.new.kept scratch.new.positions }
-{
-    let mut waiting: Vec<ObjId> = Vec::new(alloc);
-    let mut top = descend(today, objects, store, object, &mut waiting)?;
-    let mut runs: u64 = 0;
-    loop {
-        match next(alloc, today, objects, store, scratch, top, inputs)? {
-            Step::Stops(cause) => return Ok(answered(Some(cause), mark, runs)),
-            Step::First(needed) => {
-                waiting.push(top)?;
-                top = descend(today, objects, store, needed, &mut waiting)?;
-            }
-            Step::Ready => {
-                let cause = compute(alloc, today, objects, store, top, inputs, bench)?;
-                runs += 1;
-                if cause.is_some() {
-                    return Ok(answered(cause, mark, runs));
-                }
-                match waiting.pop() {
-                    Some(under) => top = under,
-                    None => return Ok(answered(None, mark, runs)),
-                }
-            }
-        }
-    }
-}
-
 // Goes down from an object by first members that have to be computed, each of which waits for the next; the last of them.
 #[inline(always)]
 fn descend(
-    today: Day,
-    objects: &Objects,
+    market: &Market,
     store: &Store,
     object: ObjId,
     waiting: &mut Vec<ObjId>,
 ) -> Result<ObjId, AllocError>
-    requires linked { IsLinked (market_of today objects.now) }
-    ensures descends { IfOk result (λ low. Descends (market_of today objects.now) store.now.kept waiting.old.items object waiting.new.items low) }
+    requires linked { IsLinked (market_in market.now) }
+    ensures descends { IfOk result (λ low. Descends (market_in market.now) store.now.kept waiting.old.items object waiting.new.items low) }
 {
     let mut top = object;
-    while let Some(needed) = first_needed(objects, store, top) {
+    while let Some(needed) = first_needed(market, store, top) {
         waiting.push(top)?;
         top = needed;
     }
@@ -221,10 +179,10 @@ fn descend(
 
 // The first member of a composite, where it has to be computed.
 #[inline(always)]
-fn first_needed(objects: &Objects, store: &Store, object: ObjId) -> Option<ObjId>
-    ensures { IfSome result (λ y. (today : ℤ) → NeedsFirst (market_of today objects.now) store.now.kept object y) }
+fn first_needed(market: &Market, store: &Store, object: ObjId) -> Option<ObjId>
+    ensures { IfSome result (λ y. NeedsFirst (market_in market.now) store.now.kept object y) }
 {
-    match objects.terms(object) {
+    match market.objects.terms(object) {
         Some(Terms::Composite(parts)) => match parts.items() {
             [part, ..] => unless_at_hand(store, part.member),
             [] => None,
@@ -248,30 +206,29 @@ fn unless_at_hand(store: &Store, object: ObjId) -> Option<ObjId>
 #[inline(always)]
 pub fn compute<'a, B: Bench>(
     alloc: Global,
-    today: Day,
-    objects: &'a Objects,
+    market: &'a Market,
     store: &mut Store,
     object: ObjId,
     inputs: &'a InputList,
     bench: &mut B,
 ) -> Result<Option<Cause>, AllocError>
-    requires lazy { is_lazy_at (market_of today objects.now) object ≡ true }
+    requires lazy { is_lazy_at (market_in market.now) object ≡ true }
     requires role { role_at store.old.shape object ≡ Some role.Lazy }
-    requires fits { (terms : Terms) → terms_at (market_of today objects.now) object ≡ Some terms → IsWellFormed (reading_at (market_of today objects.now) object terms inputs.now) }
+    requires fits { (terms : Terms) → terms_at (market_in market.now) object ≡ Some terms → IsWellFormed (reading_at (market_in market.now) object terms inputs.now) }
     ensures same { B.calc bench.new ≡ B.calc bench.old }
-    ensures computes { IfOk result (λ cause. Computes (B.calc bench.old) (market_of today objects.now) object inputs.now store.old.kept store.new.kept cause
+    ensures computes { IfOk result (λ cause. Computes (B.calc bench.old) (market_in market.now) object inputs.now store.old.kept store.new.kept cause
         (B.count bench.old) (B.count bench.new) (B.log bench.old) (B.log bench.new)) }
     ensures err { OnErr result ((store.new.kept ≡ store.old.kept) × (B.count bench.new ≡ counted (B.count bench.old) 1) × (B.log bench.new ≡ B.log bench.old)) }
     ensures shape { store.new.shape ≡ store.old.shape }
     ensures registry { registry_of store.new ≡ registry_of store.old }
 {
-    let terms = objects.own_terms(object);
+    let terms = market.objects.own_terms(object);
     let job = Job {
         object,
         terms,
         inputs,
-        today,
-        index: index_named(today, objects, terms),
+        today: market.today,
+        index: index_named(market, terms),
     };
     match bench.price(alloc, &job) {
         Ok(value) => {

@@ -5,17 +5,16 @@ ghost use Rattle.desk_model.specs.declared.slot.Slot.TheVariants.{Free};
 ghost use Rattle.desk_model.specs.Uses.{input_at, derived_entry, rate_entry};
 ghost use Rattle.desk_model.specs.Links.{IsLinked};
 ghost use Rattle.std.specs.Prelude.{ℤ, ◌-ℤ◌, ◌+ℤ◌, if◌then◌else◌};
-ghost use Rattle.object_store.specs.Slots.{market_of};
+ghost use Rattle.object_store.specs.Market.{market_in};
 ghost use Rattle.object_store.specs.Objects.{quoted};
 ghost use Rattle.ask_walk.specs.Reads.{recalled, Remembers, given_by, passed_to, quote_entry, and_sum, and_is};
 
-use day_number::Day;
 use desk_model::Entry;
 use desk_names::ObjId;
 use desk_terms::{Cause, Terms};
 use fixed_amount::Rate;
-use object_store::{Objects, Scratch};
-use std::alloc::{AllocError, Global};
+use object_store::{Market, Objects, Scratch};
+use std::alloc::AllocError;
 
 /// What one look at an object tells.
 #[derive(Clone, Copy, Debug, PartialEq, Eq)]
@@ -27,28 +26,22 @@ pub enum Look {
 }
 
 /// What an object gives where another names it. What one look tells is answered at once; what took more is remembered.
-pub fn read(
-    alloc: Global,
-    today: Day,
-    objects: &Objects,
-    scratch: &mut Scratch,
-    object: ObjId,
-) -> Result<Entry, AllocError>
-    requires linked { IsLinked (market_of today objects.now) }
-    requires within { object < length objects.now }
-    requires remembers { Remembers (market_of today objects.now) scratch.old.entries }
-    ensures entry { IfOk result (λ entry. entry ≡ input_at (market_of today objects.now) object) }
-    ensures remembers { Remembers (market_of today objects.now) scratch.new.entries }
+pub fn read(market: &Market, scratch: &mut Scratch, object: ObjId) -> Result<Entry, AllocError>
+    requires linked { IsLinked (market_in market.now) }
+    requires within { object < length market.now.objects }
+    requires remembers { Remembers (market_in market.now) scratch.old.entries }
+    ensures entry { IfOk result (λ entry. entry ≡ input_at (market_in market.now) object) }
+    ensures remembers { Remembers (market_in market.now) scratch.new.entries }
     ensures positions { scratch.new.positions ≡ scratch.old.positions }
 {
-    let object = passed_to(objects, object);
+    let object = passed_to(&market.objects, object);
     match scratch.entry(object) {
         Some(entry) => return Ok(entry),
         None => {}
     }
-    match look_at(objects, scratch, object) {
+    match look_at(&market.objects, scratch, object) {
         Look::Is(entry) => Ok(entry),
-        Look::First(_) => read_through(alloc, today, objects, scratch, object),
+        Look::First(_) => read_through(market, scratch, object),
     }
 }
 
@@ -77,25 +70,19 @@ fn passed_to(objects: &Objects, object: ObjId) -> ObjId
 }
 
 // What an object gives that is not remembered. What is read for it is, and so is this.
-fn read_through(
-    alloc: Global,
-    today: Day,
-    objects: &Objects,
-    scratch: &mut Scratch,
-    object: ObjId,
-) -> Result<Entry, AllocError>
-    requires linked { IsLinked (market_of today objects.now) }
-    requires within { object < length objects.now }
-    requires remembers { Remembers (market_of today objects.now) scratch.old.entries }
+fn read_through(market: &Market, scratch: &mut Scratch, object: ObjId) -> Result<Entry, AllocError>
+    requires linked { IsLinked (market_in market.now) }
+    requires within { object < length market.now.objects }
+    requires remembers { Remembers (market_in market.now) scratch.old.entries }
     requires unread { recalled scratch.old.entries object ≡ None }
-    ensures entry { IfOk result (λ entry. entry ≡ input_at (market_of today objects.now) object) }
-    ensures remembers { Remembers (market_of today objects.now) scratch.new.entries }
+    ensures entry { IfOk result (λ entry. entry ≡ input_at (market_in market.now) object) }
+    ensures remembers { Remembers (market_in market.now) scratch.new.entries }
     ensures positions { scratch.new.positions ≡ scratch.old.positions }
 {
-    let mut stack: Vec<ObjId> = Vec::new(alloc);
+    let mut stack: Vec<ObjId> = Vec::new(scratch.alloc());
     stack.push(object)?;
     while let Some(top) = stack.pop() {
-        match look_at(objects, scratch, top) {
+        match look_at(&market.objects, scratch, top) {
             Look::First(needed) => {
                 stack.push(top)?;
                 stack.push(needed)?;

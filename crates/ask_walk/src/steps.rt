@@ -8,16 +8,16 @@ ghost use Rattle.desk_model.specs.Links.{IsLinked, IsKinded, is_lazy_at};
 ghost use Rattle.ask_walk.specs.Reads.{Remembers};
 ghost use Rattle.ask_walk.specs.Begun.{AreSettled, Begun};
 ghost use Rattle.ask_walk.specs.Steps.{next_with};
-ghost use Rattle.object_store.specs.Slots.{market_of, answer_of, answered, answered_of, is_at_hand};
+ghost use Rattle.object_store.specs.Market.{market_in};
+ghost use Rattle.object_store.specs.Slots.{answer_of, answered, answered_of, is_at_hand};
 
 use crate::reader::read;
 use crate::uses::{flow_entries, helper_entries};
 use curve_points::copy_curve;
-use day_number::Day;
 use desk_model::Entry;
 use desk_names::ObjId;
 use desk_terms::{Cause, Input, InputList, Part, Terms, Value};
-use object_store::{Objects, Scratch, Store};
+use object_store::{Market, Scratch, Store};
 use std::alloc::{AllocError, Global};
 
 /// What an ask does next at an object.
@@ -69,6 +69,7 @@ fn next_member(
     begun: &mut usize,
     inputs: &mut InputList,
 ) -> Result<Step, AllocError>
+    requires empty { inputs.old ≡ [] }
     requires low { begun.old ≤ length parts.now }
     requires settled { AreSettled store.now.kept (take begun.old parts.now) }
     ensures next { IfOk result (λ step. next_with inputs.new step ≡ next_of (is_at_hand store.now.kept) (answer_of store.now.kept) (member_entries parts.now)) }
@@ -100,13 +101,13 @@ fn all_members(
     begun: &mut usize,
     inputs: &mut InputList,
 ) -> Result<Step, AllocError>
+    requires empty { inputs.old ≡ [] }
     requires low { begun.old ≤ length parts.now }
     requires settled { AreSettled store.now.kept (take begun.old parts.now) }
     ensures next { IfOk result (λ step. next_with inputs.new step ≡ next_of (is_at_hand store.now.kept) (answer_of store.now.kept) (member_entries parts.now)) }
     ensures low { begun.new ≤ length parts.now }
     ensures settled { AreSettled store.now.kept (take begun.new parts.now) }
 {
-    inputs.truncate(0);
     for at in 0..parts.len() {
         let part = &parts[at];
         match answer(store, part.member) {
@@ -130,9 +131,9 @@ fn next_entries(
     entries: &[Entry],
     inputs: &mut InputList,
 ) -> Result<Step, AllocError>
+    requires empty { inputs.old ≡ [] }
     ensures { IfOk result (λ step. next_with inputs.new step ≡ next_of (is_at_hand store.now.kept) (answer_of store.now.kept) entries.now) }
 {
-    inputs.truncate(0);
     for at in 0..entries.len() {
         match entries[at] {
             Entry::Gives(rate) => inputs.push(Input::Rate(rate))?,
@@ -152,26 +153,26 @@ fn next_entries(
 /// What an ask does next at a lazy object. The inputs are those that its price takes, where it is ready.
 #[inline(always)]
 pub fn next(
-    alloc: Global,
-    today: Day,
-    objects: &Objects,
+    market: &Market,
     store: &Store,
     scratch: &mut Scratch,
     object: ObjId,
     inputs: &mut InputList,
 ) -> Result<Step, AllocError>
-    requires lazy { is_lazy_at (market_of today objects.now) object ≡ true }
-    requires kinds { IsKinded (market_of today objects.now) }
-    requires linked { IsLinked (market_of today objects.now) }
-    requires remembers { Remembers (market_of today objects.now) scratch.old.entries }
-    requires begun { Begun objects.now store.now.kept scratch.old.positions }
-    ensures remembers { Remembers (market_of today objects.now) scratch.new.entries }
-    ensures begun { Begun objects.now store.now.kept scratch.new.positions }
-    ensures next { IfOk result (λ step. next_with inputs.new step ≡ next_of (is_at_hand store.now.kept) (answer_of store.now.kept) (uses (market_of today objects.now) object)) }
+    requires lazy { is_lazy_at (market_in market.now) object ≡ true }
+    requires kinds { IsKinded (market_in market.now) }
+    requires linked { IsLinked (market_in market.now) }
+    requires remembers { Remembers (market_in market.now) scratch.old.entries }
+    requires begun { Begun market.now.objects store.now.kept scratch.old.positions }
+    ensures remembers { Remembers (market_in market.now) scratch.new.entries }
+    ensures begun { Begun market.now.objects store.now.kept scratch.new.positions }
+    ensures next { IfOk result (λ step. next_with inputs.new step ≡ next_of (is_at_hand store.now.kept) (answer_of store.now.kept) (uses (market_in market.now) object)) }
 {
-    match objects.own_terms(object) {
+    inputs.truncate(0);
+    let alloc = scratch.alloc();
+    match market.objects.own_terms(object) {
         Terms::Stock { quote } => {
-            let entry = read(alloc, today, objects, scratch, *quote)?;
+            let entry = read(market, scratch, *quote)?;
             next_entries(alloc, store, &[entry], inputs)
         }
         Terms::Composite(parts) => {
@@ -185,16 +186,16 @@ pub fn next(
             Ok(step)
         }
         Terms::Implied { curve, .. } => {
-            let entry = read(alloc, today, objects, scratch, *curve)?;
+            let entry = read(market, scratch, *curve)?;
             next_entries(alloc, store, &[entry], inputs)
         }
         Terms::Curve(curve) => {
             let helpers = curve.helpers.items();
-            let entries = helper_entries(alloc, today, objects, scratch, helpers)?;
+            let entries = helper_entries(market, scratch, helpers)?;
             next_entries(alloc, store, &entries, inputs)
         }
         Terms::Flows(flows, engine) => {
-            let entries = flow_entries(alloc, today, objects, scratch, object, flows, *engine)?;
+            let entries = flow_entries(market, scratch, object, flows, *engine)?;
             next_entries(alloc, store, &entries, inputs)
         }
         Terms::Quote(_)

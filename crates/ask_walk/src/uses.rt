@@ -9,36 +9,33 @@ ghost use Rattle.desk_model.specs.Market.{named, terms_in, terms_at};
 ghost use Rattle.desk_model.specs.declared.slot.Slot.TheVariants.{Free};
 ghost use Rattle.desk_model.specs.Links.{IsLinked, AreOfKind, Serve};
 ghost use Rattle.desk_model.specs.Uses.{input_at, helper_entries, index_in, index_at, uses};
-ghost use Rattle.object_store.specs.Slots.{market_of};
+ghost use Rattle.object_store.specs.Market.{market_in};
 ghost use Rattle.ask_walk.specs.Reads.{Remembers, forecast_index};
 
 use crate::reader::read;
-use day_number::Day;
 use desk_model::Entry;
 use desk_names::ObjId;
 use desk_terms::{Cause, FlowTerms, Helper, IndexUse, Terms, expired, needs_forecast};
-use object_store::{Objects, Scratch, index_of};
-use std::alloc::{AllocError, Global};
+use object_store::{Market, Scratch, index_of};
+use std::alloc::AllocError;
 
 /// What the price of a curve takes: what the quotes of its helpers give, in order.
 pub fn helper_entries(
-    alloc: Global,
-    today: Day,
-    objects: &Objects,
+    market: &Market,
     scratch: &mut Scratch,
     helpers: &[Helper],
 ) -> Result<Vec<Entry>, AllocError>
-    requires linked { IsLinked (market_of today objects.now) }
-    requires within { (x : ℕ) → Among x (named (helper_references helpers.now)) → x < length objects.now }
-    requires remembers { Remembers (market_of today objects.now) scratch.old.entries }
-    ensures entries { IfOk result (λ entries. entries.items ≡ helper_entries (input_at (market_of today objects.now)) helpers.now) }
-    ensures remembers { Remembers (market_of today objects.now) scratch.new.entries }
+    requires linked { IsLinked (market_in market.now) }
+    requires within { (x : ℕ) → Among x (named (helper_references helpers.now)) → x < length market.now.objects }
+    requires remembers { Remembers (market_in market.now) scratch.old.entries }
+    ensures entries { IfOk result (λ entries. entries.items ≡ helper_entries (input_at (market_in market.now)) helpers.now) }
+    ensures remembers { Remembers (market_in market.now) scratch.new.entries }
     ensures positions { scratch.new.positions ≡ scratch.old.positions }
 {
     let _cause: Option<Cause> = None;
-    let mut entries: Vec<Entry> = Vec::new(alloc);
+    let mut entries: Vec<Entry> = Vec::new(scratch.alloc());
     for at in 0..helpers.len() {
-        let entry = read(alloc, today, objects, scratch, helpers[at].quote)?;
+        let entry = read(market, scratch, helpers[at].quote)?;
         entries.push(entry)?;
     }
     Ok(entries)
@@ -47,33 +44,31 @@ pub fn helper_entries(
 /// What the price of an instrument takes: nothing where its flows are all paid, else its engine's curve, and its index's
 /// curve exactly where a rate has to be forecast.
 pub fn flow_entries(
-    alloc: Global,
-    today: Day,
-    objects: &Objects,
+    market: &Market,
     scratch: &mut Scratch,
     object: ObjId,
     flows: &FlowTerms,
     engine: Option<ObjId>,
 ) -> Result<Vec<Entry>, AllocError>
-    requires terms { terms_at (market_of today objects.now) object ≡ Some (Flows flows.now engine) }
-    requires linked { IsLinked (market_of today objects.now) }
-    requires kinds { AreOfKind (market_of today objects.now) (Some (Flows flows.now engine)) }
-    requires remembers { Remembers (market_of today objects.now) scratch.old.entries }
-    ensures entries { IfOk result (λ entries. entries.items ≡ uses (market_of today objects.now) object) }
-    ensures remembers { Remembers (market_of today objects.now) scratch.new.entries }
+    requires terms { terms_at (market_in market.now) object ≡ Some (Flows flows.now engine) }
+    requires linked { IsLinked (market_in market.now) }
+    requires kinds { AreOfKind (market_in market.now) (Some (Flows flows.now engine)) }
+    requires remembers { Remembers (market_in market.now) scratch.old.entries }
+    ensures entries { IfOk result (λ entries. entries.items ≡ uses (market_in market.now) object) }
+    ensures remembers { Remembers (market_in market.now) scratch.new.entries }
     ensures positions { scratch.new.positions ≡ scratch.old.positions }
 {
-    let mut entries: Vec<Entry> = Vec::new(alloc);
-    if expired(flows, today) {
+    let mut entries: Vec<Entry> = Vec::new(scratch.alloc());
+    if expired(flows, market.today) {
         return Ok(entries);
     }
     match engine {
         None => entries.push(Entry::Refuses(Cause::NoEngine(object)))?,
         Some(engine) => {
-            let discount = read(alloc, today, objects, scratch, engine)?;
+            let discount = read(market, scratch, engine)?;
             entries.push(discount)?;
-            if let Some(index) = forecast_index(today, objects, flows) {
-                let forecast = read(alloc, today, objects, scratch, index)?;
+            if let Some(index) = forecast_index(market, flows) {
+                let forecast = read(market, scratch, index)?;
                 entries.push(forecast)?;
             }
         }
@@ -82,16 +77,16 @@ pub fn flow_entries(
 }
 
 // The index of flows, where a rate has to be forecast.
-fn forecast_index(today: Day, objects: &Objects, flows: &FlowTerms) -> Option<ObjId>
-    requires { Serve (market_of today objects.now) (optional_reference Index flows.now.index) }
-    ensures { result ≡ forecast_index (market_of today objects.now) flows.now flows.now.index }
+fn forecast_index(market: &Market, flows: &FlowTerms) -> Option<ObjId>
+    requires { Serve (market_in market.now) (optional_reference Index flows.now.index) }
+    ensures { result ≡ forecast_index (market_in market.now) flows.now flows.now.index }
 {
     match flows.index {
         None => None,
-        Some(index) => match index_of(objects, index) {
+        Some(index) => match index_of(&market.objects, index) {
             None => unreachable!(),
             Some(used) => {
-                if needs_forecast(flows, used.fixings, today) {
+                if needs_forecast(flows, used.fixings, market.today) {
                     Some(index)
                 } else {
                     None
@@ -102,13 +97,13 @@ fn forecast_index(today: Day, objects: &Objects, flows: &FlowTerms) -> Option<Ob
 }
 
 /// The index that terms name, as their price sees it.
-pub fn index_named<'a>(today: Day, objects: &'a Objects, terms: &Terms) -> Option<IndexUse<'a>>
-    ensures { index_reading result ≡ index_at (market_of today objects.now) (named_index terms.now) }
+pub fn index_named<'a>(market: &'a Market, terms: &Terms) -> Option<IndexUse<'a>>
+    ensures { index_reading result ≡ index_at (market_in market.now) (named_index terms.now) }
 {
     match terms {
         Terms::Flows(flows, _) => match flows.index {
             None => None,
-            Some(index) => index_of(objects, index),
+            Some(index) => index_of(&market.objects, index),
         },
         Terms::Quote(_)
         | Terms::Derived { .. }

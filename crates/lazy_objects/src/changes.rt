@@ -7,44 +7,44 @@ ghost use Rattle.desk_model.specs.Market.{is_given};
 ghost use Rattle.desk_model.specs.Links.{CanTell};
 ghost use Rattle.desk_model.specs.Effect.{with_terms, revised, notified};
 ghost use Rattle.desk_model.specs.declared.slot.Slot.TheVariants.{Live, Free};
-ghost use Rattle.object_store.specs.Slots.{market_of, state_of, outdated};
+ghost use Rattle.object_store.specs.Market.{market_in, state_in};
+ghost use Rattle.object_store.specs.Slots.{outdated};
 ghost use Rattle.object_store.specs.Objects.{has_quote};
 ghost use Rattle.object_store.specs.Shape.{registrations_of, IsJoined};
-ghost use Rattle.object_store.specs.Store.{registry_of, HasNoMarkWhereOff};
+ghost use Rattle.object_store.specs.Store.{HasNoMarkWhereOff};
 
-use day_number::Day;
 use desk_names::ObjId;
 use desk_terms::Terms;
-use object_store::{Objects, Store};
+use object_store::{Market, Store};
 
 /// An object that is no quote has other terms and is not current. Its observers are told, or it holds its notice back.
 /// The graph is that of the new terms. It takes no memory, and costs what it tells.
-pub fn revise(today: Day, objects: &mut Objects, store: &mut Store, object: ObjId, terms: Terms)
-    requires within { object < length objects.old }
-    requires plain { has_quote (slice_index_or objects.old object Free) ≡ false }
+pub fn revise(market: &mut Market, store: &mut Store, object: ObjId, terms: Terms)
+    requires within { object < length market.old.objects }
+    requires plain { has_quote (slice_index_or market.old.objects object Free) ≡ false }
     requires new { has_quote (Live terms) ≡ false }
-    requires kept { length store.old.kept ≡ length objects.old }
-    requires joined { IsJoined (with_terms object terms (state_of today objects.old store.old.kept (registry_of store.old))).market store.old.shape }
+    requires kept { length store.old.kept ≡ length market.old.objects }
+    requires joined { IsJoined (with_terms object terms (state_in market.old store.old)).market store.old.shape }
     requires sources { HasNoMarkWhereOff store.old }
-    requires told { CanTell (with_terms object terms (state_of today objects.old store.old.kept (registry_of store.old))).market (registrations_of store.old.shape) store.old.noticed }
-    ensures state { state_of today objects.new store.new.kept (registry_of store.new) ≡ revised object terms (state_of today objects.old store.old.kept (registry_of store.old)) }
+    requires told { CanTell (with_terms object terms (state_in market.old store.old)).market (registrations_of store.old.shape) store.old.noticed }
+    ensures state { state_in market.new store.new ≡ revised object terms (state_in market.old store.old) }
     ensures shape { store.new.shape ≡ store.old.shape }
-    ensures long { length objects.new ≡ length objects.old }
+    ensures long { length market.new.objects ≡ length market.old.objects }
 {
-    objects.replace(object, terms);
-    tell_changed(today, objects, store, object);
+    market.objects.replace(object, terms);
+    tell_changed(market, store, object);
 }
 
 /// An object whose terms have changed is not current. Its observers are told, or it holds its notice back. The graph is
 /// that of the new terms. It takes no memory, and costs what it tells.
-pub fn tell_changed(today: Day, objects: &Objects, store: &mut Store, object: ObjId)
-    requires within { object < length objects.now }
-    requires live { is_given (slice_index_or objects.now object Free) ≡ true }
-    requires kept { length store.old.kept ≡ length objects.now }
-    requires joined { IsJoined (market_of today objects.now) store.old.shape }
+pub fn tell_changed(market: &Market, store: &mut Store, object: ObjId)
+    requires within { object < length market.now.objects }
+    requires live { is_given (slice_index_or market.now.objects object Free) ≡ true }
+    requires kept { length store.old.kept ≡ length market.now.objects }
+    requires joined { IsJoined (market_in market.now) store.old.shape }
     requires sources { HasNoMarkWhereOff store.old }
-    requires told { CanTell (market_of today objects.now) (registrations_of store.old.shape) store.old.noticed }
-    ensures state { state_of today objects.now store.new.kept (registry_of store.new) ≡ notified object (outdated object (state_of today objects.now store.old.kept (registry_of store.old))) }
+    requires told { CanTell (market_in market.now) (registrations_of store.old.shape) store.old.noticed }
+    ensures state { state_in market.now store.new ≡ notified object (outdated object (state_in market.now store.old)) }
     ensures shape { store.new.shape ≡ store.old.shape }
 {
     store.outdate(object);

@@ -31,12 +31,12 @@ use crate::changes::{revise, tell_changed};
 use crate::links::{link_of, watch_instead};
 use crate::room::make_room;
 use crate::weights::{has_weight, parts_of, rewatch, with_member};
-use ask_walk::{Recalced, ask, ask_held, recalc};
+use ask_walk::{Books, Recalced};
 use day_number::Day;
 use desk_names::ObjId;
-use desk_terms::{Asked, Bench, FixFault, Kind, Terms, Value};
+use desk_terms::{Asked, Bench, FixFault, InputList, Kind, Terms, Value};
 use fixed_amount::Rate;
-use object_store::{Objects, Scratch, Store, TODAY, engine_of, index_of, watched};
+use object_store::{Market, Objects, Scratch, Store, TODAY, engine_of, index_of, watched};
 use observer_graph::Role;
 use std::alloc::{AllocError, Global};
 use std::marker::Model;
@@ -46,25 +46,21 @@ use std::marker::Model;
 /// that was told is remembered until `next_told` hands it out.
 #[derive(Drop)]
 pub struct Desk {
-    alloc: Global,
-    today: Day,
-    pub(crate) objects: Objects,
-    store: Store,
-    scratch: Scratch,
+    pub(crate) market: Market,
+    books: Books,
 }
 
 impl Model for Desk {
     ghost use Rattle.desk_model.specs.State.{State};
-    ghost use Rattle.object_store.specs.Slots.{market_of, state_of};
+    ghost use Rattle.object_store.specs.Market.{market_in, state_in};
     ghost use Rattle.object_store.specs.Shape.{IsJoined};
-    ghost use Rattle.object_store.specs.Store.{registry_of};
     ghost use Rattle.lazy_objects.specs.Stands.{Stands};
 
     ghost Value = { State };
 
-    ghost view = { λ d. state_of d.today d.objects d.store.kept (registry_of d.store) };
+    ghost view = { λ d. state_in d.market d.books.store };
 
-    ghost invariant = { λ d. Stands (state_of d.today d.objects d.store.kept (registry_of d.store)) d.scratch × IsJoined (market_of d.today d.objects) d.store.shape };
+    ghost invariant = { λ d. Stands (state_in d.market d.books.store) d.books.scratch × IsJoined (market_in d.market) d.books.store.shape };
 }
 
 impl Desk {
@@ -80,11 +76,12 @@ impl Desk {
         scratch.reserve()?;
         scratch.grow();
         Ok(Desk {
-            alloc,
-            today,
-            objects,
-            store,
-            scratch,
+            market: Market { today, objects },
+            books: Books {
+                store,
+                scratch,
+                inputs: InputList::new(alloc),
+            },
         })
     }
 
@@ -101,12 +98,14 @@ impl Desk {
         ensures keeps { KeepsCurrent self.old self.new }
         ensures sound { (calc : Calc) → IsSound calc self.old → IsSound calc self.new }
     {
-        let object = ObjId(self.objects.len() as u32);
-        let watched = watched(self.alloc, &terms)?;
-        self.scratch.reserve()?;
-        make_room(&mut self.store, &terms, self.objects.len())?;
-        self.objects.add(terms, &mut self.store, &watched)?;
-        self.scratch.grow();
+        let object = ObjId(self.market.objects.len() as u32);
+        let watched = watched(self.books.scratch.alloc(), &terms)?;
+        self.books.scratch.reserve()?;
+        make_room(&mut self.books.store, &terms, self.market.objects.len())?;
+        self.market
+            .objects
+            .add(terms, &mut self.books.store, &watched)?;
+        self.books.scratch.grow();
         Ok(object)
     }
 
@@ -117,8 +116,8 @@ impl Desk {
         ensures keeps { KeepsCurrent self.old self.new }
         ensures sound { (calc : Calc) → IsSound calc self.old → IsSound calc self.new }
     {
-        if self.objects.set(quote, value) {
-            tell_changed(self.today, &self.objects, &mut self.store, quote);
+        if self.market.objects.set(quote, value) {
+            tell_changed(&self.market, &mut self.books.store, quote);
         }
     }
 
@@ -133,15 +132,14 @@ impl Desk {
         ensures keeps { KeepsCurrent self.old self.new }
         ensures sound { (calc : Calc) → IsSound calc self.old → IsSound calc self.new }
     {
-        let link = link_of(&self.objects, handle);
+        let link = link_of(&self.market.objects, handle);
         if link.target == target {
             return;
         }
-        watch_instead(&mut self.store, &link.target, &target, handle);
+        watch_instead(&mut self.books.store, &link.target, &target, handle);
         revise(
-            self.today,
-            &mut self.objects,
-            &mut self.store,
+            &mut self.market,
+            &mut self.books.store,
             handle,
             Terms::Handle {
                 target_kind: link.kind,
@@ -159,10 +157,10 @@ impl Desk {
         ensures keeps { KeepsCurrent self.old self.new }
         ensures sound { (calc : Calc) → IsSound calc self.old → IsSound calc self.new }
     {
-        let held = engine_of(&self.objects, instrument);
-        watch_instead(&mut self.store, &held, &engine, instrument);
-        self.objects.set_engine(instrument, engine);
-        tell_changed(self.today, &self.objects, &mut self.store, instrument);
+        let held = engine_of(&self.market.objects, instrument);
+        watch_instead(&mut self.books.store, &held, &engine, instrument);
+        self.market.objects.set_engine(instrument, engine);
+        tell_changed(&self.market, &mut self.books.store, instrument);
     }
 
     /// Stores the rate of an index for a day that has none, and tells its observers (QuantLib's `Index::addFixing`). The
@@ -177,8 +175,8 @@ impl Desk {
         ensures keeps { KeepsCurrent self.old self.new }
         ensures sound { (calc : Calc) → IsSound calc self.old → IsSound calc self.new }
     {
-        self.objects.store_fixing(index, day, rate)?;
-        tell_changed(self.today, &self.objects, &mut self.store, index);
+        self.market.objects.store_fixing(index, day, rate)?;
+        tell_changed(&self.market, &mut self.books.store, index);
         Ok(())
     }
 
@@ -188,11 +186,11 @@ impl Desk {
         ensures keeps { KeepsCurrent self.old self.new }
         ensures sound { (calc : Calc) → IsSound calc self.old → IsSound calc self.new }
     {
-        if self.today == day {
+        if self.market.today == day {
             return;
         }
-        self.today = day;
-        self.store.changed(TODAY);
+        self.market.today = day;
+        self.books.store.changed(TODAY);
     }
 
     /// Gives an instrument a weight in a composite: one that is no member joins at the end, a member keeps its place,
@@ -217,16 +215,15 @@ impl Desk {
         ensures keeps { KeepsCurrent self.old self.new }
         ensures sound { (calc : Calc) → IsSound calc self.old → IsSound calc self.new }
     {
-        let parts = parts_of(&self.objects, composite);
+        let parts = parts_of(&self.market.objects, composite);
         if has_weight(parts, member, weight) {
             return Ok(());
         }
-        let changed = with_member(self.alloc, parts, member, weight)?;
-        rewatch(&mut self.store, parts, composite, member, weight)?;
+        let changed = with_member(self.books.scratch.alloc(), parts, member, weight)?;
+        rewatch(&mut self.books.store, parts, composite, member, weight)?;
         revise(
-            self.today,
-            &mut self.objects,
-            &mut self.store,
+            &mut self.market,
+            &mut self.books.store,
             composite,
             Terms::Composite(changed),
         );
@@ -243,8 +240,8 @@ impl Desk {
         ensures keeps { KeepsCurrent self.old self.new }
         ensures sound { (calc : Calc) → IsSound calc self.old → IsSound calc self.new }
     {
-        self.objects.remove(object);
-        self.store.forget(object);
+        self.market.objects.remove(object);
+        self.books.store.forget(object);
     }
 
     /// Makes a watcher, which is registered with nothing, and answers its number: how many were given before. Where
@@ -257,10 +254,10 @@ impl Desk {
         ensures keeps { KeepsCurrent self.old self.new }
         ensures sound { (calc : Calc) → IsSound calc self.old → IsSound calc self.new }
     {
-        let watcher = ObjId(self.objects.len() as u32);
-        self.scratch.reserve()?;
-        self.objects.add_watcher(&mut self.store)?;
-        self.scratch.grow();
+        let watcher = ObjId(self.market.objects.len() as u32);
+        self.books.scratch.reserve()?;
+        self.market.objects.add_watcher(&mut self.books.store)?;
+        self.books.scratch.grow();
         Ok(watcher)
     }
 
@@ -276,10 +273,10 @@ impl Desk {
         ensures keeps { KeepsCurrent self.old self.new }
         ensures sound { (calc : Calc) → IsSound calc self.old → IsSound calc self.new }
     {
-        if self.store.has_pair(object, watcher) {
+        if self.books.store.has_pair(object, watcher) {
             return Ok(false);
         }
-        self.store.watch(object, watcher)?;
+        self.books.store.watch(object, watcher)?;
         Ok(true)
     }
 
@@ -293,7 +290,7 @@ impl Desk {
         ensures keeps { KeepsCurrent self.old self.new }
         ensures sound { (calc : Calc) → IsSound calc self.old → IsSound calc self.new }
     {
-        self.store.unwatch(object, watcher)
+        self.books.store.unwatch(object, watcher)
     }
 
     /// Whether a watcher is registered with an object. It takes no memory, and costs what the watcher is registered with.
@@ -302,14 +299,14 @@ impl Desk {
         requires subject { is_observable (slot_at self.now.market object) ≡ true }
         ensures { result ≡ is_registered self.now watcher object }
     {
-        self.store.has_pair(object, watcher)
+        self.books.store.has_pair(object, watcher)
     }
 
     /// Whether an object is a watcher that is registered with any object.
     pub fn is_watching(&self, object: ObjId) -> bool
         ensures { result ≡ is_watching self.now object }
     {
-        let _ = &self.alloc;
+        let _ = &self.books;
         self.is_watcher(object) && self.watching(object)
     }
 
@@ -325,7 +322,7 @@ impl Desk {
         requires { is_watcher (slot_at self.now.market watcher) ≡ true }
         ensures { result ≡ is_watching self.now watcher }
     {
-        self.store.has_subject(watcher)
+        self.books.store.has_subject(watcher)
     }
 
     /// The first by creation of the watchers that were told and not handed out since, each once however often it was
@@ -339,7 +336,7 @@ impl Desk {
         ensures keeps { KeepsCurrent self.old self.new }
         ensures sound { (calc : Calc) → IsSound calc self.old → IsSound calc self.new }
     {
-        self.store.next_told()
+        self.books.store.next_told()
     }
 
     /// Freezes a lazy object: it answers its last value until it is thawed, and takes notices without passing them on
@@ -350,7 +347,7 @@ impl Desk {
         ensures keeps { KeepsCurrent self.old self.new }
         ensures sound { (calc : Calc) → IsSound calc self.old → IsSound calc self.new }
     {
-        self.store.freeze(object);
+        self.books.store.freeze(object);
     }
 
     /// A lazy object is frozen no more, and its observers are told, or it holds its notice back (QuantLib's
@@ -361,8 +358,8 @@ impl Desk {
         ensures keeps { KeepsCurrent self.old self.new }
         ensures sound { (calc : Calc) → IsSound calc self.old → IsSound calc self.new }
     {
-        if self.store.thaw(object) {
-            self.store.changed(object);
+        if self.books.store.thaw(object) {
+            self.books.store.changed(object);
         }
     }
 
@@ -374,7 +371,7 @@ impl Desk {
         ensures keeps { KeepsCurrent self.old self.new }
         ensures sound { (calc : Calc) → IsSound calc self.old → IsSound calc self.new }
     {
-        self.store.forward(object, on);
+        self.books.store.forward(object, on);
     }
 
     /// From now on what changes holds its notice back and is a deferred source (QuantLib's
@@ -384,7 +381,7 @@ impl Desk {
         ensures keeps { KeepsCurrent self.old self.new }
         ensures sound { (calc : Calc) → IsSound calc self.old → IsSound calc self.new }
     {
-        self.store.defer();
+        self.books.store.defer();
     }
 
     /// Notices are held back no more: all deferred sources tell together (QuantLib's
@@ -394,7 +391,7 @@ impl Desk {
         ensures keeps { KeepsCurrent self.old self.new }
         ensures sound { (calc : Calc) → IsSound calc self.old → IsSound calc self.new }
     {
-        self.store.resume();
+        self.books.store.resume();
     }
 
     /// Asks a lazy object. It computes only what it uses and has no current value. Where memory is wanting, what was
@@ -411,15 +408,7 @@ impl Desk {
         ensures ready { (held self.old object ≢ None) ⊎ ((kept_at self.old object).current ≡ true) → IsOk result }
         ensures sound { IsSound (B.calc bench.old) self.new }
     {
-        ask(
-            self.alloc,
-            self.today,
-            &self.objects,
-            &mut self.store,
-            &mut self.scratch,
-            object,
-            bench,
-        )
+        self.books.ask(&self.market, object, bench)
     }
 
     /// What an ask answers of an object that is frozen, late or current: its last value, or that it has none. None exactly
@@ -432,7 +421,7 @@ impl Desk {
         ensures asks { (calc : Calc) → IsFitting calc → IsSound calc self.old → IfSome result (AnswersIdly calc object self.old) }
         ensures same { self.new ≡ self.old }
     {
-        ask_held(&mut self.store, object)
+        self.books.ask_held(object)
     }
 
     /// The least deferred source that makes an object late, if any does. It takes no memory.
@@ -441,7 +430,7 @@ impl Desk {
         ensures answer { result ≡ least_source self.old object }
         ensures same { self.new ≡ self.old }
     {
-        self.store.late(object)
+        self.books.store.late(object)
     }
 
     /// Recalculates a lazy object: it is priced over its inputs, whatever its flags say, and its observers are told, or it
@@ -460,15 +449,7 @@ impl Desk {
         ensures untold { OnErr result (TellsNobody self.old self.new) }
         ensures sound { IsSound (B.calc bench.old) self.new }
     {
-        recalc(
-            self.alloc,
-            self.today,
-            &self.objects,
-            &mut self.store,
-            &mut self.scratch,
-            object,
-            bench,
-        )
+        self.books.recalc(&self.market, object, bench)
     }
 
     /// Whether an object is another, or lies above it: it names it, or an object above it.
@@ -479,48 +460,48 @@ impl Desk {
         if from == to {
             return true;
         }
-        if !self.store.has(from) || !self.store.has(to) {
+        if !self.books.store.has(from) || !self.books.store.has(to) {
             return false;
         }
-        self.store.reaches(from, to)
+        self.books.store.reaches(from, to)
     }
 
     /// The least object that observes another, if any does: a watcher observes nothing.
     pub fn user_of(&self, object: ObjId) -> Option<ObjId>
         ensures { result ≡ least_user self.now.market object }
     {
-        if !self.store.has(object) {
+        if !self.books.store.has(object) {
             return None;
         }
-        self.store.least_observer(object)
+        self.books.store.least_observer(object)
     }
 
     /// The last value of an object, if it has one.
     pub fn last(&self, object: ObjId) -> Option<&Value>
         ensures { option_copied result ≡ (kept_at self.now object).last }
     {
-        self.store.last(object)
+        self.books.store.last(object)
     }
 
     /// Whether the last value of an object is current: nothing that it was computed from has changed since.
     pub fn is_current(&self, object: ObjId) -> bool
         ensures { result ≡ (kept_at self.now object).current }
     {
-        self.store.is_current(object)
+        self.books.store.is_current(object)
     }
 
     /// Whether an object is frozen.
     pub fn is_frozen(&self, object: ObjId) -> bool
         ensures { result ≡ (kept_at self.now object).frozen }
     {
-        self.store.is_frozen(object)
+        self.books.store.is_frozen(object)
     }
 
     /// Whether an object is a deferred source: it changed while notices are held back, and has told nobody yet.
     pub fn is_source(&self, object: ObjId) -> bool
         ensures { result ≡ (kept_at self.now object).source }
     {
-        self.store.is_source(object)
+        self.books.store.is_source(object)
     }
 
     /// Does nothing: what is known of the shape of every desk: each object names others of the right kinds, and its terms
@@ -530,14 +511,14 @@ impl Desk {
         ensures kinds { IsKinded self.now.market }
         ensures ranged { AreRanged self.now.market }
     {
-        let _ = &self.scratch;
+        let _ = &self.books;
     }
 
     /// The rate that an index has stored for a day; none where it has none, and where the object is no index.
     pub fn fixing(&self, index: ObjId, day: Day) -> Option<Rate>
         ensures { result ≡ fixing_on (fixings_in (index_at self.now.market (Some index))) day }
     {
-        match index_of(&self.objects, index) {
+        match index_of(&self.market.objects, index) {
             Some(index) => index.fixings.get(day),
             None => None,
         }
@@ -547,7 +528,7 @@ impl Desk {
     pub fn len(&self) -> usize
         ensures { result ≡ length self.now.market.objects }
     {
-        self.objects.len()
+        self.market.objects.len()
     }
 
     /// The same, as a number of 32 bits.
@@ -555,14 +536,14 @@ impl Desk {
         ensures number { result ≡ length self.now.market.objects }
         ensures limit { result ≤ 2 ^ 16 }
     {
-        self.objects.len() as u32
+        self.market.objects.len() as u32
     }
 
     /// What an object is; none where no live object has the number.
     pub fn kind(&self, object: ObjId) -> Option<Kind>
         ensures { result ≡ kind_at self.now.market object }
     {
-        self.objects.kind(object)
+        self.market.objects.kind(object)
     }
 
     /// The terms of an object as they stand, with its links, members and fixings: those of a quote without its value, which
@@ -570,6 +551,6 @@ impl Desk {
     pub fn terms(&self, object: ObjId) -> Option<&Terms>
         ensures { option_copied result ≡ bare (terms_at self.now.market object) }
     {
-        self.objects.terms(object)
+        self.market.objects.terms(object)
     }
 }

@@ -14,6 +14,6 @@ impl Desk {
         requires { kind_at self.now.market quote ≡ Some kind.Quote }
         ensures { terms_at self.now.market quote ≡ Some (terms.Quote result) }
     {
-        self.objects.value(quote)
+        self.market.objects.value(quote)
     }
 }

@@ -1,4 +1,5 @@
 pub mod Late
+pub mod Market
 pub mod Objects
 pub mod Parts
 pub mod Scratch

@@ -17,7 +17,7 @@ use Rattle.desk_model.specs.Market.{Market}
 use Rattle.desk_model.specs.State.{State, unpriced, kept_at, last_of}
 use Rattle.desk_model.specs.Effect.{with_kept}
 
--- THE MARKET of a desk
+-- the market of these parts
 abbrev pub market_of : ℤ → List Slot → Market
 market_of today slots = record { today = today; objects = slots }
 
@@ -27,7 +27,7 @@ pub record Registry : Type 0 where
   pub registrations : List (ℕ × ℕ)
   pub noticed : List ℕ
 
--- THE STATE of a desk
+-- the state of these parts
 abbrev pub state_of : ℤ → List Slot → List Kept → Registry → State
 state_of today slots kept registry = record {
   market = market_of today slots;

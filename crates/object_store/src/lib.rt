@@ -1,12 +1,14 @@
 //! What is stored of the objects of a session by number: their terms, their last values and flags in the graph of observers,
 //! and what one ask remembers of them.
 //!
-//! `Objects`, `Store`, `Scratch`. Words of `specs/`: `state_of`, `objects_of`, `IsJoined`, `StoreView`, `ScratchView`.
+//! `Market`, `Objects`, `Store`, `Scratch`. Words of `specs/`: `market_in`, `state_in`, `objects_of`, `IsJoined`, `StoreView`,
+//! `ScratchView`.
 #![tactic(auto)]
 
 mod edges;
 mod engines;
 mod fixings;
+mod market;
 mod objects;
 mod scratch;
 mod store;
@@ -14,6 +16,7 @@ mod store;
 pub use edges::{TODAY, watched};
 pub use engines::engine_of;
 pub use fixings::index_of;
+pub use market::Market;
 pub use objects::Objects;
 pub use scratch::Scratch;
 pub use store::Store;

@@ -5,11 +5,10 @@ ghost use Rattle.object_store.specs.Scratch.{AreTouched, AreClear};
 
 use desk_model::Entry;
 use desk_names::ObjId;
-use desk_terms::{Cause, InputList};
+use desk_terms::Cause;
 use fixed_amount::Rate;
 use std::alloc::{AllocError, Global};
 use std::marker::Model;
-use std::mem;
 
 /// What quotes give, as far as it was worked out, and how far the members of composites were read.
 #[derive(Drop)]
@@ -17,8 +16,7 @@ pub struct Scratch {
     entries: Vec<Option<Entry>>,
     positions: Vec<usize>,
     touched: Vec<ObjId>,
-    // Room for the inputs of a price.
-    inputs: InputList,
+    alloc: Global,
 }
 
 impl Model for Scratch {
@@ -48,8 +46,13 @@ impl Scratch {
             entries: Vec::new(alloc),
             positions: Vec::new(alloc),
             touched: Vec::new(alloc),
-            inputs: InputList::new(alloc),
+            alloc,
         }
+    }
+
+    /// What an ask takes memory from.
+    pub fn alloc(&self) -> Global {
+        self.alloc
     }
 
     /// Finds the room for one object more, where memory is not wanting.
@@ -120,24 +123,6 @@ impl Scratch {
         self.touched.push(object)?;
         self.positions[object.place()] = position;
         Ok(())
-    }
-
-    /// An empty list of inputs, with the room that the last one left.
-    pub fn take_inputs(&mut self, alloc: Global) -> InputList
-        ensures empty { result ≡ [] }
-        ensures same { self.new ≡ self.old }
-    {
-        let mut inputs = mem::replace(&mut self.inputs, InputList::new(alloc));
-        inputs.truncate(0);
-        inputs
-    }
-
-    /// Keeps the room of a list of inputs for the next one. The inputs are let go.
-    pub fn keep_inputs(&mut self, mut inputs: InputList)
-        ensures same { self.new ≡ self.old }
-    {
-        inputs.truncate(0);
-        self.inputs = inputs;
     }
 
     /// Nothing is remembered of any object. It costs what was touched.

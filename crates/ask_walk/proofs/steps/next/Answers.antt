@@ -3,14 +3,14 @@ use Rattle.walks.specs.Walk.{Among}
 use Rattle.curve_terms.specs.declared.terms.Helper.{Helper}
 use Rattle.desk_terms.specs.Terms.{helper_references}
 use Rattle.desk_model.specs.Market.{named}
-use Rattle.object_store.specs.Slots.{market_of}
 use Rattle.ask_walk.proofs.Inputs.{stock_within, helpers_within}
+use Rattle.object_store.specs.Market.{market_in}
 use Rattle.ask_walk.proofs.steps.next.Goals as goal
 
 pub read-requires-clause-within : goal.read-requires-clause-within
-read-requires-clause-within c = stock_within (market_of c.args.today c.args.objects.now) c.args.object c.in-Stock.quote c.own_terms.result.now c.requires.linked (sym c.own_terms.ensures) c.in-Stock.is
+read-requires-clause-within c = stock_within (market_in c.args.market.now) c.args.object c.in-Stock.quote c.own_terms.result.now c.requires.linked (sym c.own_terms.ensures) c.in-Stock.is
 
 pub helper_entries-requires-clause-within : goal.helper_entries-requires-clause-within
 helper_entries-requires-clause-within c =
-    subst (λ (l : List Helper). (x : ℕ) → Among x (named (helper_references l)) → x < length c.args.objects.now) (sym c.items-helpers.ensures)
-    (helpers_within (market_of c.args.today c.args.objects.now) c.args.object c.in-Curve.curve c.own_terms.result.now c.requires.linked (sym c.own_terms.ensures) c.in-Curve.is)
+    subst (λ (l : List Helper). (x : ℕ) → Among x (named (helper_references l)) → x < length c.args.market.now.objects) (sym c.items-helpers.ensures)
+    (helpers_within (market_in c.args.market.now) c.args.object c.in-Curve.curve c.own_terms.result.now c.requires.linked (sym c.own_terms.ensures) c.in-Curve.is)

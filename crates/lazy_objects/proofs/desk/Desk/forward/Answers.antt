@@ -3,8 +3,7 @@ use Rattle.desk_model.specs.State.{State}
 use Rattle.desk_model.specs.Links.{is_lazy_at}
 use Rattle.desk_model.specs.Sound.{IsSound, KeepsCurrent}
 use Rattle.desk_model.specs.Effect.{forward_set}
-use Rattle.object_store.specs.Slots.{market_of, state_of}
-use Rattle.object_store.specs.Store.{registry_of}
+use Rattle.object_store.specs.Market.{market_in, state_in}
 use Rattle.object_store.proofs.Joined.{lazy_there}
 use Rattle.lazy_objects.proofs.Flagged.{forward_left}
 use Rattle.lazy_objects.proofs.desk.Desk.forward.Goals as goal
@@ -12,28 +11,28 @@ use Rattle.lazy_objects.proofs.desk.Desk.forward.Goals as goal
 pub forward-requires : goal.forward-requires
 forward-requires c =
     let lazy = subst (λ (t : State). is_lazy_at t.market c.args.object ≡ true) (sym c.self.view_is) c.requires.lazy in
-    lazy_there (market_of c.self.inside.today c.self.inside.objects) c.self.inside.store.shape c.self.invariant.1 c.args.object lazy
+    lazy_there (market_in c.self.inside.market) c.self.inside.books.store.shape c.self.invariant.1 c.args.object lazy
 
 pub invariant_of-self : goal.invariant_of-self
 invariant_of-self c =
     let lazy = subst (λ (t : State). is_lazy_at t.market c.args.object ≡ true) (sym c.self.view_is) c.requires.lazy in
-    let d = forward_left c.self.inside.today c.self.inside.objects c.self.inside.store c.forward.new.self c.self.inside.scratch c.self.invariant.0 c.self.invariant.1 c.args.object c.args.on lazy c.forward.ensures in
+    let d = forward_left c.self.inside.market.today c.self.inside.market.objects c.self.inside.books.store c.forward.new.self c.self.inside.books.scratch c.self.invariant.0 c.self.invariant.1 c.args.object c.args.on lazy c.forward.ensures in
     (d.changed.stands, d.joined)
 
 pub returns-clause-set : goal.returns-clause-set
 returns-clause-set c =
     let lazy = subst (λ (t : State). is_lazy_at t.market c.args.object ≡ true) (sym c.self.view_is) c.requires.lazy in
-    let d = forward_left c.self.inside.today c.self.inside.objects c.self.inside.store c.forward.new.self c.self.inside.scratch c.self.invariant.0 c.self.invariant.1 c.args.object c.args.on lazy c.forward.ensures in
+    let d = forward_left c.self.inside.market.today c.self.inside.market.objects c.self.inside.books.store c.forward.new.self c.self.inside.books.scratch c.self.invariant.0 c.self.invariant.1 c.args.object c.args.on lazy c.forward.ensures in
     d.changed.state ∙ ap (forward_set c.args.object c.args.on) c.self.view_is
 
 pub returns-clause-keeps : goal.returns-clause-keeps
 returns-clause-keeps c =
     let lazy = subst (λ (t : State). is_lazy_at t.market c.args.object ≡ true) (sym c.self.view_is) c.requires.lazy in
-    let d = forward_left c.self.inside.today c.self.inside.objects c.self.inside.store c.forward.new.self c.self.inside.scratch c.self.invariant.0 c.self.invariant.1 c.args.object c.args.on lazy c.forward.ensures in
-    subst (λ (t : State). KeepsCurrent t (state_of c.self.inside.today c.self.inside.objects c.forward.new.self.kept (registry_of c.forward.new.self))) c.self.view_is d.changed.keeps
+    let d = forward_left c.self.inside.market.today c.self.inside.market.objects c.self.inside.books.store c.forward.new.self c.self.inside.books.scratch c.self.invariant.0 c.self.invariant.1 c.args.object c.args.on lazy c.forward.ensures in
+    subst (λ (t : State). KeepsCurrent t (state_in c.self.inside.market c.forward.new.self)) c.self.view_is d.changed.keeps
 
 pub returns-clause-sound : goal.returns-clause-sound
 returns-clause-sound c calc sound =
     let lazy = subst (λ (t : State). is_lazy_at t.market c.args.object ≡ true) (sym c.self.view_is) c.requires.lazy in
-    let d = forward_left c.self.inside.today c.self.inside.objects c.self.inside.store c.forward.new.self c.self.inside.scratch c.self.invariant.0 c.self.invariant.1 c.args.object c.args.on lazy c.forward.ensures in
+    let d = forward_left c.self.inside.market.today c.self.inside.market.objects c.self.inside.books.store c.forward.new.self c.self.inside.books.scratch c.self.invariant.0 c.self.invariant.1 c.args.object c.args.on lazy c.forward.ensures in
     d.changed.sound calc (subst (IsSound calc) (sym c.self.view_is) sound)

@@ -6,8 +6,7 @@ use Rattle.desk_model.specs.State.{State}
 use Rattle.desk_model.specs.Told.{is_registered}
 use Rattle.desk_model.specs.Sound.{IsSound, KeepsCurrent}
 use Rattle.desk_model.specs.Effect.{registered_with}
-use Rattle.object_store.specs.Slots.{market_of, state_of}
-use Rattle.object_store.specs.Store.{registry_of}
+use Rattle.object_store.specs.Market.{market_in, state_in}
 use Rattle.object_store.proofs.Joined.{there_seen}
 use Rattle.lazy_objects.proofs.Watched.{watcher_there, is_registered_is, registered_left}
 use Rattle.lazy_objects.proofs.desk.Desk.register.Goals as goal
@@ -15,27 +14,27 @@ use Rattle.lazy_objects.proofs.desk.Desk.register.Goals as goal
 pub has_pair-requires-clause-subject : goal.has_pair-requires-clause-subject
 has_pair-requires-clause-subject c =
     let observed = subst (λ (t : State). is_observable (slot_at t.market c.args.object) ≡ true) (sym c.self.view_is) c.requires.subject in
-    there_seen (market_of c.self.inside.today c.self.inside.objects) c.self.inside.store.shape c.self.invariant.1 c.args.object observed
+    there_seen (market_in c.self.inside.market) c.self.inside.books.store.shape c.self.invariant.1 c.args.object observed
 
 pub has_pair-requires-clause-observer : goal.has_pair-requires-clause-observer
 has_pair-requires-clause-observer c =
     let watcher = subst (λ (t : State). is_watcher (slot_at t.market c.args.watcher) ≡ true) (sym c.self.view_is) c.requires.watcher in
-    watcher_there c.self.inside.today c.self.inside.objects c.self.inside.store c.self.inside.store.kept c.self.invariant.1 c.args.watcher watcher
+    watcher_there c.self.inside.market.today c.self.inside.market.objects c.self.inside.books.store c.self.inside.books.store.kept c.self.invariant.1 c.args.watcher watcher
 
 pub returns-then-has_pair-clause-was : goal.returns-then-has_pair-clause-was
 returns-then-has_pair-clause-was c =
     let watcher = subst (λ (t : State). is_watcher (slot_at t.market c.args.watcher) ≡ true) (sym c.self.view_is) c.requires.watcher in
-    ap not (sym c.if-has_pair.true ∙ is_registered_is c.self.inside.today c.self.inside.objects c.self.inside.store c.self.inside.store.kept c.self.invariant.1 c.args.watcher watcher c.args.object c.has_pair.result c.has_pair.ensures ∙ ap (λ (t : State). is_registered t c.args.watcher c.args.object) c.self.view_is)
+    ap not (sym c.if-has_pair.true ∙ is_registered_is c.self.inside.market.today c.self.inside.market.objects c.self.inside.books.store c.self.inside.books.store.kept c.self.invariant.1 c.args.watcher watcher c.args.object c.has_pair.result c.has_pair.ensures ∙ ap (λ (t : State). is_registered t c.args.watcher c.args.object) c.self.view_is)
 
 pub watch-requires-clause-subject : goal.watch-requires-clause-subject
 watch-requires-clause-subject c =
     let observed = subst (λ (t : State). is_observable (slot_at t.market c.args.object) ≡ true) (sym c.self.view_is) c.requires.subject in
-    there_seen (market_of c.self.inside.today c.self.inside.objects) c.self.inside.store.shape c.self.invariant.1 c.args.object observed
+    there_seen (market_in c.self.inside.market) c.self.inside.books.store.shape c.self.invariant.1 c.args.object observed
 
 pub watch-requires-clause-observer : goal.watch-requires-clause-observer
 watch-requires-clause-observer c =
     let watcher = subst (λ (t : State). is_watcher (slot_at t.market c.args.watcher) ≡ true) (sym c.self.view_is) c.requires.watcher in
-    watcher_there c.self.inside.today c.self.inside.objects c.self.inside.store c.self.inside.store.kept c.self.invariant.1 c.args.watcher watcher
+    watcher_there c.self.inside.market.today c.self.inside.market.objects c.self.inside.books.store c.self.inside.books.store.kept c.self.invariant.1 c.args.watcher watcher
 
 pub watch-requires-clause-new : goal.watch-requires-clause-new
 watch-requires-clause-new c = λ among. false≢true (sym c.if-has_pair.false ∙ c.has_pair.ensures.1 among)
@@ -44,31 +43,31 @@ pub invariant_of-self-2 : goal.invariant_of-self-2
 invariant_of-self-2 c =
     let watcher = subst (λ (t : State). is_watcher (slot_at t.market c.args.watcher) ≡ true) (sym c.self.view_is) c.requires.watcher in
     let observed = subst (λ (t : State). is_observable (slot_at t.market c.args.object) ≡ true) (sym c.self.view_is) c.requires.subject in
-    let d = registered_left c.self.inside.today c.self.inside.objects c.self.inside.store c.watch.new.self c.self.inside.scratch c.self.invariant.0 c.self.invariant.1 c.args.watcher c.args.object watcher observed c.in_ok-watch.ensures.joins c.watch.ensures.spare in
+    let d = registered_left c.self.inside.market.today c.self.inside.market.objects c.self.inside.books.store c.watch.new.self c.self.inside.books.scratch c.self.invariant.0 c.self.invariant.1 c.args.watcher c.args.object watcher observed c.in_ok-watch.ensures.joins c.watch.ensures.spare in
     (d.changed.stands, d.joined)
 
 pub returns-clause-was : goal.returns-clause-was
 returns-clause-was c =
     let watcher = subst (λ (t : State). is_watcher (slot_at t.market c.args.watcher) ≡ true) (sym c.self.view_is) c.requires.watcher in
-    ap not (sym c.if-has_pair.false ∙ is_registered_is c.self.inside.today c.self.inside.objects c.self.inside.store c.self.inside.store.kept c.self.invariant.1 c.args.watcher watcher c.args.object c.has_pair.result c.has_pair.ensures ∙ ap (λ (t : State). is_registered t c.args.watcher c.args.object) c.self.view_is)
+    ap not (sym c.if-has_pair.false ∙ is_registered_is c.self.inside.market.today c.self.inside.market.objects c.self.inside.books.store c.self.inside.books.store.kept c.self.invariant.1 c.args.watcher watcher c.args.object c.has_pair.result c.has_pair.ensures ∙ ap (λ (t : State). is_registered t c.args.watcher c.args.object) c.self.view_is)
 
 pub returns-clause-set : goal.returns-clause-set
 returns-clause-set c =
     let watcher = subst (λ (t : State). is_watcher (slot_at t.market c.args.watcher) ≡ true) (sym c.self.view_is) c.requires.watcher in
     let observed = subst (λ (t : State). is_observable (slot_at t.market c.args.object) ≡ true) (sym c.self.view_is) c.requires.subject in
-    let d = registered_left c.self.inside.today c.self.inside.objects c.self.inside.store c.watch.new.self c.self.inside.scratch c.self.invariant.0 c.self.invariant.1 c.args.watcher c.args.object watcher observed c.in_ok-watch.ensures.joins c.watch.ensures.spare in
+    let d = registered_left c.self.inside.market.today c.self.inside.market.objects c.self.inside.books.store c.watch.new.self c.self.inside.books.scratch c.self.invariant.0 c.self.invariant.1 c.args.watcher c.args.object watcher observed c.in_ok-watch.ensures.joins c.watch.ensures.spare in
     d.changed.state ∙ ap (registered_with c.args.watcher c.args.object) c.self.view_is
 
 pub returns-clause-keeps : goal.returns-clause-keeps
 returns-clause-keeps c =
     let watcher = subst (λ (t : State). is_watcher (slot_at t.market c.args.watcher) ≡ true) (sym c.self.view_is) c.requires.watcher in
     let observed = subst (λ (t : State). is_observable (slot_at t.market c.args.object) ≡ true) (sym c.self.view_is) c.requires.subject in
-    let d = registered_left c.self.inside.today c.self.inside.objects c.self.inside.store c.watch.new.self c.self.inside.scratch c.self.invariant.0 c.self.invariant.1 c.args.watcher c.args.object watcher observed c.in_ok-watch.ensures.joins c.watch.ensures.spare in
-    subst (λ (t : State). KeepsCurrent t (state_of c.self.inside.today c.self.inside.objects c.watch.new.self.kept (registry_of c.watch.new.self))) c.self.view_is d.changed.keeps
+    let d = registered_left c.self.inside.market.today c.self.inside.market.objects c.self.inside.books.store c.watch.new.self c.self.inside.books.scratch c.self.invariant.0 c.self.invariant.1 c.args.watcher c.args.object watcher observed c.in_ok-watch.ensures.joins c.watch.ensures.spare in
+    subst (λ (t : State). KeepsCurrent t (state_in c.self.inside.market c.watch.new.self)) c.self.view_is d.changed.keeps
 
 pub returns-clause-sound : goal.returns-clause-sound
 returns-clause-sound c calc sound =
     let watcher = subst (λ (t : State). is_watcher (slot_at t.market c.args.watcher) ≡ true) (sym c.self.view_is) c.requires.watcher in
     let observed = subst (λ (t : State). is_observable (slot_at t.market c.args.object) ≡ true) (sym c.self.view_is) c.requires.subject in
-    let d = registered_left c.self.inside.today c.self.inside.objects c.self.inside.store c.watch.new.self c.self.inside.scratch c.self.invariant.0 c.self.invariant.1 c.args.watcher c.args.object watcher observed c.in_ok-watch.ensures.joins c.watch.ensures.spare in
+    let d = registered_left c.self.inside.market.today c.self.inside.market.objects c.self.inside.books.store c.watch.new.self c.self.inside.books.scratch c.self.invariant.0 c.self.invariant.1 c.args.watcher c.args.object watcher observed c.in_ok-watch.ensures.joins c.watch.ensures.spare in
     d.changed.sound calc (subst (IsSound calc) (sym c.self.view_is) sound)

@@ -8,10 +8,10 @@ use Rattle.lazy_objects.proofs.desk.Desk.watching.Goals as goal
 pub has_subject-requires : goal.has_subject-requires
 has_subject-requires c =
     let watcher = subst (λ (t : State). is_watcher (slot_at t.market c.args.watcher) ≡ true) (sym c.self.view_is) c.requires in
-    watcher_there c.self.inside.today c.self.inside.objects c.self.inside.store c.self.inside.store.kept c.self.invariant.1 c.args.watcher watcher
+    watcher_there c.self.inside.market.today c.self.inside.market.objects c.self.inside.books.store c.self.inside.books.store.kept c.self.invariant.1 c.args.watcher watcher
 
 pub returns : goal.returns
 returns c =
     let watcher = subst (λ (t : State). is_watcher (slot_at t.market c.args.watcher) ≡ true) (sym c.self.view_is) c.requires in
-    is_watching_is c.self.inside.today c.self.inside.objects c.self.inside.store c.self.inside.store.kept c.self.invariant.1 c.args.watcher watcher c.has_subject.result c.has_subject.ensures
+    is_watching_is c.self.inside.market.today c.self.inside.market.objects c.self.inside.books.store c.self.inside.books.store.kept c.self.invariant.1 c.args.watcher watcher c.has_subject.result c.has_subject.ensures
     ∙ ap (λ (t : State). is_watching t c.args.watcher) c.self.view_is

@@ -1,28 +1,16 @@
 // Copies of curves.
 ghost use Rattle.std.specs.Prelude.{◌≡◌, IfOk};
 
-use crate::{CurveNode, CurveValue, NodeList};
+use crate::CurveValue;
 use std::alloc::{AllocError, Global};
 
 /// The same curve once more.
 pub fn copy_curve(alloc: Global, curve: &CurveValue) -> Result<CurveValue, AllocError>
     ensures { IfOk result (λ copy. copy ≡ curve.now) }
 {
-    let nodes = copied(alloc, curve.nodes.items())?;
     Ok(CurveValue {
         owner: curve.owner,
         reference: curve.reference,
-        nodes,
+        nodes: curve.nodes.copy(alloc)?,
     })
-}
-
-// The same nodes once more.
-fn copied(alloc: Global, nodes: &[CurveNode]) -> Result<NodeList, AllocError>
-    ensures { IfOk result (λ copy. copy ≡ nodes.now) }
-{
-    let mut copy = NodeList::new(alloc);
-    for node in nodes {
-        copy.push(*node)?;
-    }
-    Ok(copy)
 }

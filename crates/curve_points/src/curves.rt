@@ -2,10 +2,10 @@
 ghost use Rattle.std.specs.Prelude.{◌↔◌, IsTrue};
 ghost use Rattle.curve_points.specs.Curve.{IsRisingFrom};
 
+use crate::NodeList;
 use day_number::Day;
 use desk_names::ObjId;
 use fixed_amount::Discount;
-use item_lists::Items;
 use std::marker::Model;
 
 /// The discount factor 1, in units of 10^-12.
@@ -20,9 +20,6 @@ pub struct CurveNode {
     pub day: Day,
     pub factor: Discount,
 }
-
-/// Nodes in their order.
-pub type NodeList = Items<CurveNode>;
 
 /// A curve of discount factors: 1 at the reference day, and nodes whose days rise strictly, the first after the
 /// reference day (QuantLib's `InterpolatedDiscountCurve`).

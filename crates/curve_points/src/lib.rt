@@ -9,13 +9,15 @@
 mod copies;
 mod curves;
 mod laws;
+mod node_lists;
 mod points;
 mod seen;
 mod segments;
 
 pub use copies::copy_curve;
-pub use curves::{CurveNode, CurveValue, MOST, NodeList, ONE, are_rising};
+pub use curves::{CurveNode, CurveValue, MOST, ONE, are_rising};
 pub use laws::{between_nodes_law, implied_there_law, node_day_law, segment_law};
+pub use node_lists::NodeList;
 pub use points::{PointFault, discount, factor_beyond};
 pub use seen::{ImpliedFault, implied};
 pub use segments::factor_between;

@@ -1,9 +1,9 @@
 // Discount factors between two nodes.
-ghost use Rattle.std.specs.Prelude.{◌≡◌, pos, ◌≤ℤ◌, ◌<ℤ◌, ◌^◌, ◌*◌, ◌-ℤ◌, ◌*ℤ◌};
+ghost use Rattle.std.specs.Prelude.{◌≡◌, ◌≤◌, pos, ◌≤ℤ◌, ◌<ℤ◌, ◌^◌, ◌*◌, ◌-ℤ◌, ◌*ℤ◌};
+ghost use Rattle.fixed_amount.specs.Rounding.{closest};
 ghost use Rattle.curve_points.specs.Segment.{between, most};
 
 use day_number::Day;
-use fixed_amount::{Rounding, div_round};
 
 /// The discount factor at a day after `from` and not after `to`, in proportion to the days, between the factors `first`
 /// at `from` and `last` at `to`, rounded once. All factors are in units of 10^-12; a factor of 0 is taken too.
@@ -19,32 +19,37 @@ pub fn factor_between(from: Day, first: i128, to: Day, last: i128, day: Day) -> 
     ensures high { result ≤ℤ most }
     ensures positive { pos 1 ≤ℤ first → pos 1 ≤ℤ last → pos 1 ≤ℤ result }
 {
-    div_round(
-        product(first, days(day, to)) + product(last, days(from, day)),
-        days(from, to),
-        Rounding::Closest,
-    )
+    let all = days(from, to);
+    let sum = product(first, days(day, to)) + product(last, days(from, day));
+    i128::from(closest_quotient(sum, all))
+}
+
+// The quotient of two numbers, rounded to the closest, a half up.
+fn closest_quotient(sum: u64, all: u64) -> u64
+    requires some { 1 ≤ all }
+    ensures { pos result ≡ closest (pos sum) all }
+{
+    let whole = sum / all;
+    let rest = sum % all;
+    if rest >= all - rest { whole + 1 } else { whole }
 }
 
 // How many days lie from a day to another that is not before it.
-fn days(from: Day, to: Day) -> i128
+fn days(from: Day, to: Day) -> u64
     requires { from ≤ℤ to }
-    ensures value { result ≡ to -ℤ from }
-    ensures low { pos 0 ≤ℤ result }
-    ensures high { result ≤ℤ pos 200_000 }
+    ensures value { pos result ≡ to -ℤ from }
+    ensures high { result ≤ 200_000 }
 {
-    i128::from(to.number() - from.number())
+    (to.number() - from.number()) as u64
 }
 
-// A factor times a number of days.
-fn product(factor: i128, days: i128) -> i128
+// A factor times a number of days: at most 8 * 10^17.
+fn product(factor: i128, days: u64) -> u64
     requires factor { pos 0 ≤ℤ factor }
     requires factor_high { factor ≤ℤ most }
-    requires days { pos 0 ≤ℤ days }
-    requires days_high { days ≤ℤ pos 200_000 }
-    ensures value { result ≡ factor *ℤ days }
-    ensures low { pos 0 ≤ℤ result }
-    ensures high { result ≤ℤ pos (4 * 10 ^ 12 * 200_000) }
+    requires days { days ≤ 200_000 }
+    ensures value { pos result ≡ factor *ℤ pos days }
+    ensures high { result ≤ 4 * 10 ^ 12 * 200_000 }
 {
-    factor * days
+    factor as u64 * days
 }

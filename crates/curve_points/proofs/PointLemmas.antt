@@ -1,6 +1,7 @@
 -- Lemmas on the factor at a day.
 use Rattle.std.proofs.Common.{◌≡◌, ℕ, zero, suc, ◌<◌, ◌≤◌, ℤ, ◌<ℤ◌, ◌≤ℤ◌, true, false, refl, sym, ap, subst, ◌∙◌, arith, int_lt, int_le, List, [], ◌∷◌, length, get_or, Option, Some, None, Ok, Err, int_eq}
 use Rattle.std.proofs.lemmas.Int.{ints}
+use Rattle.std.proofs.lemmas.List.{get_or_default}
 use Rattle.std.specs.List.{AllWithin}
 use Rattle.std.specs.List.Sorted.{IsPartitionedBy}
 use Rattle.curve_points.specs.declared.curves.CurveNode.{CurveNode}
@@ -43,6 +44,24 @@ in_order from (n ∷ nodes) zero zero d rising h k = omega (arith, ints)
 in_order from (n ∷ nodes) zero (suc j) d rising h k = let next = later n.day nodes j d rising.1 (omega arith) in omega (arith, ints, next)
 in_order from (n ∷ nodes) (suc i) zero d rising h k = absurd (omega arith)
 in_order from (n ∷ nodes) (suc i) (suc j) d rising h k = in_order n.day nodes i j d rising.1 (omega arith) (omega arith)
+
+-- where the node at a place is before a day, so is each up to it
+pub before_up_to : (from : ℤ) (nodes : List CurveNode) (day : ℤ) (last k : ℕ) (node d : CurveNode) → IsRisingFrom from nodes → last < length nodes → int_lt (get_or nodes last node).day day ≡ true → k ≤ last → (get_or nodes k d).day <ℤ day
+before_up_to from nodes day last k node d rising within less le =
+    let order = in_order from nodes k last d rising le within in
+    let own : get_or nodes last d ≡ get_or nodes last node = get_or_default nodes last d node within in
+    let here = subst (λ (n : CurveNode). (get_or nodes k d).day ≤ℤ n.day) own order in
+    let under = lt_true (get_or nodes last node).day day less in
+    omega (arith, ints, here, under)
+
+-- where the node at a place is not before a day, none from it on is
+pub after_from : (from : ℤ) (nodes : List CurveNode) (day : ℤ) (at k : ℕ) (node d : CurveNode) → IsRisingFrom from nodes → int_lt (get_or nodes at node).day day ≡ false → at ≤ k → k < length nodes → day ≤ℤ (get_or nodes k d).day
+after_from from nodes day at k node d rising reached le within =
+    let order = in_order from nodes at k d rising le within in
+    let own : get_or nodes at d ≡ get_or nodes at node = get_or_default nodes at d node (omega (arith, le, within)) in
+    let here = subst (λ (n : CurveNode). n.day ≤ℤ (get_or nodes k d).day) own order in
+    let behind = lt_false (get_or nodes at node).day day reached in
+    omega (arith, ints, here, behind)
 
 -- where each node is before a day, the day is past the curve
 pub beyond_none : (from : CurveNode) (nodes : List CurveNode) (day : ℤ) → AllWithin (λ (n : CurveNode). n.day <ℤ day) nodes 0 (length nodes) → beyond from nodes day ≡ None

@@ -1,5 +1,5 @@
 // The discount factor at a day.
-ghost use Rattle.std.specs.Prelude.{◌≡◌, ◌≤◌, length, pos, ◌<ℤ◌, ◌≤ℤ◌, int_lt};
+ghost use Rattle.std.specs.Prelude.{◌≡◌, IsTrue, ◌≤◌, length, pos, ◌<ℤ◌, ◌≤ℤ◌, int_lt};
 ghost use Rattle.std.specs.List.{AllWithin};
 ghost use Rattle.curve_points.specs.Curve.{IsRisingFrom, origin};
 ghost use Rattle.curve_points.specs.Segment.{on_segment, most};
@@ -21,9 +21,26 @@ pub enum PointFault {
     Past,
 }
 
+// A place that no node has: no guess.
+const NO_GUESS: usize = usize::MAX;
+
 /// The discount factor of a curve at a day: 1 at the reference day, else in proportion to the days between the two nodes
 /// round the day, rounded once. It takes no memory, and a number of steps that grows with the logarithm of the nodes.
 pub fn discount(curve: &CurveValue, day: Day) -> Result<Discount, PointFault>
+    ensures { result ≡ discount_at curve.now day }
+{
+    let mut guess = NO_GUESS;
+    discount_near(curve, day, &mut guess)
+}
+
+/// The same where the place among the nodes is guessed: the guess and the place behind it are tried before all others.
+/// What is found is the guess for the next day. The answer does not depend on it.
+#[inline(always)]
+pub fn discount_near(
+    curve: &CurveValue,
+    day: Day,
+    guess: &mut usize,
+) -> Result<Discount, PointFault>
     ensures { result ≡ discount_at curve.now day }
 {
     if is_before(day, curve.reference) {
@@ -36,7 +53,7 @@ pub fn discount(curve: &CurveValue, day: Day) -> Result<Discount, PointFault>
         day: curve.reference,
         factor: Discount(ONE),
     };
-    match factor_beyond(&origin, curve.nodes.items(), day) {
+    match factor_near(&origin, curve.nodes.items(), day, guess) {
         Some(factor) => Ok(factor),
         None => Err(PointFault::Past),
     }
@@ -48,7 +65,24 @@ pub fn factor_beyond(from: &CurveNode, nodes: &[CurveNode], day: Day) -> Option<
     requires after { from.now.day <ℤ day }
     ensures { result ≡ beyond from.now nodes.now day }
 {
-    let at = place_of(nodes, day, from.day);
+    let mut guess = NO_GUESS;
+    factor_near(from, nodes, day, &mut guess)
+}
+
+// The same where the place is guessed.
+#[inline(always)]
+fn factor_near(
+    from: &CurveNode,
+    nodes: &[CurveNode],
+    day: Day,
+    guess: &mut usize,
+) -> Option<Discount>
+    requires rising { IsRisingFrom from.now.day nodes.now }
+    requires after { from.now.day <ℤ day }
+    ensures { result ≡ beyond from.now nodes.now day }
+{
+    let at = place_near(nodes, day, from.day, *guess);
+    *guess = at;
     if at == nodes.len() {
         return None;
     }
@@ -58,6 +92,38 @@ pub fn factor_beyond(from: &CurveNode, nodes: &[CurveNode], day: Day) -> Option<
     }
     let start = &nodes[at - 1];
     Some(on_segment(start, end, day))
+}
+
+// The place of the first node that is not before a day, or their number: by a guess, where it or the next one is the place.
+#[inline(always)]
+fn place_near(nodes: &[CurveNode], day: Day, reference: Day, guess: usize) -> usize
+    requires { IsRisingFrom reference nodes.now }
+    ensures bound { result ≤ length nodes.now }
+    ensures before { AllWithin (λ node. node.day <ℤ day) nodes.now 0 result }
+    ensures after { AllWithin (λ node. day ≤ℤ node.day) nodes.now result (length nodes.now) }
+{
+    if is_place(nodes, day, reference, guess) {
+        return guess;
+    }
+    let next = guess.saturating_add(1);
+    if is_place(nodes, day, reference, next) {
+        return next;
+    }
+    place_of(nodes, day, reference)
+}
+
+// Whether a place is that of the first node that is not before a day.
+#[inline(always)]
+fn is_place(nodes: &[CurveNode], day: Day, reference: Day, at: usize) -> bool
+    requires { IsRisingFrom reference nodes.now }
+    ensures bound { IsTrue result → at ≤ length nodes.now }
+    ensures before { IsTrue result → AllWithin (λ node. node.day <ℤ day) nodes.now 0 at }
+    ensures after { IsTrue result → AllWithin (λ node. day ≤ℤ node.day) nodes.now at (length nodes.now) }
+{
+    if at >= nodes.len() || is_before(nodes[at].day, day) {
+        return false;
+    }
+    at == 0 || is_before(nodes[at - 1].day, day)
 }
 
 // The place of the first node that is not before a day, or their number.

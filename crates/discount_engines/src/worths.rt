@@ -11,10 +11,10 @@ ghost use Rattle.discount_engines.specs.Worth.{factor_on, discounted, where_live
 
 use crate::money::sum_of;
 use cash_flow_legs::{amount_of, is_live};
-use curve_points::CurveValue;
+use curve_points::{CurveValue, discount_near};
 use day_number::Day;
 use desk_names::ObjId;
-use desk_terms::{Cause, discount_of};
+use desk_terms::{Cause, point_cause};
 use fixed_amount::{Amount, Discount};
 use flow_terms::{FlowTerm, IndexUse};
 
@@ -38,8 +38,9 @@ pub(crate) fn worth(
     ensures size { IfOk result (λ units. unsigned_abs units ≤ MOST_FLOWS * (4 * 10 ^ 34)) }
 {
     let mut sum: i128 = 0;
+    let mut guess = 0;
     for flow in flows {
-        let part = live_part(object, flow, today, index, curve, forecast)?;
+        let part = live_part(object, flow, today, index, curve, forecast, &mut guess)?;
         sum = sum_of(sum, part);
     }
     Ok(sum)
@@ -53,6 +54,7 @@ fn live_part(
     index: Option<&IndexUse<'_>>,
     curve: &CurveValue,
     forecast: Option<&CurveValue>,
+    guess: &mut usize,
 ) -> Result<i128, Cause>
     requires flow { IsFlow flow.now }
     requires index { IsSome (fixed_on flow.now) → IsSome index }
@@ -65,8 +67,19 @@ fn live_part(
         return Ok(0);
     }
     let amount = amount_of(flow, today, index, forecast, object)?;
-    let factor = discount_of(curve.owner(), curve, flow.paid())?;
+    let factor = factor_on(curve, flow.paid(), guess)?;
     Ok(product(amount, factor))
+}
+
+// The discount factor on a day, the place of whose node is guessed.
+#[inline(always)]
+fn factor_on(curve: &CurveValue, day: Day, guess: &mut usize) -> Result<Discount, Cause>
+    ensures { result ≡ factor_on curve.now day }
+{
+    match discount_near(curve, day, guess) {
+        Ok(factor) => Ok(factor),
+        Err(fault) => Err(point_cause(curve.owner(), day, fault)),
+    }
 }
 
 // An amount times a discount factor: at most 10^22 times 4 * 10^12 units.

@@ -86,6 +86,15 @@ fn is_negative_sum(rate: i128, parts: i128) -> bool
     rate < 0 && rate * parts <= -WHOLE
 }
 
+// How far from a guess the excess is tried, either way: rounding moves the place where it turns by less, nearly always.
+const NEAR: i128 = 2;
+
+// The greatest discount factor, for products with an excess that is cut.
+const MOST_UNITS: u128 = 4_000_000_000_000;
+
+// What an excess is divided by, so that its product with a discount factor fits 128 bits.
+const CUT: u128 = 20_000_000_000_000;
+
 // The factor at which the excess turns, found by halving.
 fn least_root(
     last: &CurveNode,
@@ -108,7 +117,8 @@ fn least_root(
     if excess_at(last, end, rate, settled, coupons, MOST_FACTOR) < 0 {
         return None;
     }
-    let root = halved(last, end, rate, settled, coupons);
+    let guess = guess_of(last, end, rate, settled, coupons);
+    let root = halved(last, end, rate, settled, coupons, guess);
     Some(factor_of(root))
 }
 
@@ -121,8 +131,16 @@ fn factor_of(root: i128) -> Discount
     Discount(root as i64)
 }
 
-// The place at which the excess turns between 0 and the greatest factor.
-fn halved(last: &CurveNode, end: Day, rate: i128, settled: i128, coupons: &[Coupon]) -> i128
+// The place at which the excess turns between 0 and the greatest factor. Places near a guess are tried first, and then the
+// middle of what is left.
+fn halved(
+    last: &CurveNode,
+    end: Day,
+    rate: i128,
+    settled: i128,
+    coupons: &[Coupon],
+    guess: i128,
+) -> i128
     requires few { length coupons.now ≤ 801 }
     requires after { AreAfter last.now.day coupons.now }
     requires up_to { AreUpTo end coupons.now }
@@ -139,7 +157,7 @@ fn halved(last: &CurveNode, end: Day, rate: i128, settled: i128, coupons: &[Coup
     let mut low: i128 = 0;
     let mut high: i128 = MOST_FACTOR;
     while high - low > 1 {
-        let middle = mean(low, high);
+        let middle = tried(low, high, guess);
         if excess_at(last, end, rate, settled, coupons, middle) < 0 {
             low = middle;
         } else {
@@ -147,6 +165,43 @@ fn halved(last: &CurveNode, end: Day, rate: i128, settled: i128, coupons: &[Coup
         }
     }
     high
+}
+
+// A place near which the excess turns, as if it rose evenly from 0 to the greatest factor. Any answer will do.
+fn guess_of(last: &CurveNode, end: Day, rate: i128, settled: i128, coupons: &[Coupon]) -> i128
+    requires few { length coupons.now ≤ 801 }
+    requires after { AreAfter last.now.day coupons.now }
+    requires up_to { AreUpTo end coupons.now }
+    requires settled { pos 0 ≤ℤ settled }
+    requires settled_high { settled ≤ℤ pos (801 * (8 * 10 ^ 24)) }
+    requires rate { unsigned_abs rate ≤ 10 ^ 10 }
+{
+    let below = excess_at(last, end, rate, settled, coupons, 0).unsigned_abs() / CUT;
+    let above = excess_at(last, end, rate, settled, coupons, MOST_FACTOR).unsigned_abs() / CUT;
+    let all = below + above;
+    if all == 0 {
+        return 0;
+    }
+    i128::try_from(MOST_UNITS * below / all).unwrap_or(0)
+}
+
+// A number strictly between two that differ by more than 1: a little below a guess, a little above it, or in the middle.
+fn tried(low: i128, high: i128, guess: i128) -> i128
+    requires low { pos 0 ≤ℤ low }
+    requires apart { (low +ℤ pos 1) <ℤ high }
+    requires high { high ≤ℤ most }
+    ensures low { low <ℤ result }
+    ensures high { result <ℤ high }
+{
+    let below = guess.saturating_sub(NEAR);
+    if low < below && below < high {
+        return below;
+    }
+    let above = guess.saturating_add(NEAR);
+    if low < above && above < high {
+        return above;
+    }
+    mean(low, high)
 }
 
 // A number strictly between two that differ by more than 1.

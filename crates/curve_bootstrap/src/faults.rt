@@ -72,6 +72,17 @@ impl From<AllocError> for BuildFault {
     }
 }
 
+impl From<AllocError> for HelperFault {
+    ghost use Rattle.std.specs.Prelude.{◌≡◌};
+    ghost use Rattle.curve_bootstrap.specs.declared.faults.HelperFault.TheVariants.{NoMemory};
+
+    ghost from_gives = { λ _ e. e ≡ NoMemory };
+
+    fn from(_: AllocError) -> HelperFault {
+        HelperFault::NoMemory
+    }
+}
+
 impl<T: Drop> From<AllocFailed<T>> for HelperFault {
     ghost use Rattle.std.specs.Prelude.{◌≡◌};
     ghost use Rattle.curve_bootstrap.specs.declared.faults.HelperFault.TheVariants.{NoMemory};

@@ -137,7 +137,7 @@ fn period_coupons(
     requires { IsStrictlySortedBy int_cmp dates.now }
     ensures { due.GivesHelper (λ cs. cs.items) (Ok (due.periods counter (is_business_day calendar.now) dates.now)) result }
 {
-    let mut coupons = Vec::new(alloc);
+    let mut coupons = Vec::with_capacity(alloc, dates.len())?;
     for at in 1..dates.len() {
         coupons.push(coupon(counter, calendar, dates[at - 1], dates[at]))?;
     }

@@ -145,7 +145,7 @@ impl Books {
 fn walk_mark(clear: bool) -> Mark
     ensures { result ≡ walk_mark clear }
 {
-    if clear { Mark::Fresh } else { Mark::Held }
+    if clear { Mark::Fresh } else { Mark::Unclear }
 }
 
 // An answer without a computation: the last value of the object, or that it has none.

@@ -8,16 +8,16 @@ use Rattle.desk_terms.specs.declared.kind.Kind.TheVariants.{Quote}
 use Rattle.desk_terms.specs.Reading.{Outcome, Calc}
 use Rattle.desk_model.specs.Market.{Market, kind_at}
 use Rattle.desk_model.specs.State.{State}
-use Rattle.bump_model.specs.declared.held.Held.{Held}
+use Rattle.bump_model.specs.declared.moves.Quoted.{Quoted}
 use Rattle.bump_model.specs.declared.ladder.Rung.{Rung}
-use Rattle.bump_model.specs.Moves.{value_at, and_held, held_in, AreQuotes, AreHeld}
-use Rattle.bump_model.specs.declared.held.Way.TheVariants.{Up, Down}
+use Rattle.bump_model.specs.Moves.{value_at, and_quoted, quoted_in, AreQuotes, AreQuoted}
+use Rattle.bump_model.specs.declared.moves.Way.TheVariants.{Up, Down}
 use Rattle.bump_model.specs.declared.ladder.Side.{Side}
 use Rattle.bump_model.specs.Sides.{side_of, rung_of, rung_for, quote_rung}
 use Rattle.bump_model.specs.Asking.{Made, MadeFront, none, then_ask, asking_for, quotes_asking}
 use Rattle.bump_ladder.proofs.Answered.{Log, Did}
 use Rattle.bump_model.proofs.Calls.{made_none, front_whole}
-use Rattle.bump_model.proofs.Moving.{all_held}
+use Rattle.bump_model.proofs.Moving.{all_quoted}
 
 pub next_quote : (quotes : List ℕ) (i q : ℕ) → i < length quotes → q ≡ get_or quotes i q → drop i quotes ≡ q ∷ drop (i + 1) quotes
 next_quote quotes i q within is = drop_more quotes i q within ∙ ap (λ (x : ℕ). x ∷ drop (i + 1) quotes) (sym is)
@@ -41,9 +41,9 @@ module _ (all rest : List ℕ) (q : ℕ) (steps : all ≡ q ∷ rest) where
   unfolding quotes_asking
   quotes_step calc m o s = ap (λ (l : List ℕ). quotes_asking calc m o l s) steps
 
-  pub held_step : (m : Market) (value : Option ℤ) → value_at m q ≡ value → held_in m all ≡ and_held q value (held_in m rest)
-  held_step m value is =
-      ap (held_in m) steps ∙ ap (λ (v : Option ℤ). and_held q v (held_in m rest)) is
+  pub quoted_step : (m : Market) (value : Option ℤ) → value_at m q ≡ value → quoted_in m all ≡ and_quoted q value (quoted_in m rest)
+  quoted_step m value is =
+      ap (quoted_in m) steps ∙ ap (λ (v : Option ℤ). and_quoted q v (quoted_in m rest)) is
 
   pub rungs_step : (f : ℕ → Rung) (before : List Rung) (rung : Rung) → rung ≡ f q
       → (before ++ rung ∷ []) ++ map f rest ≡ before ++ map f all
@@ -70,9 +70,9 @@ all_front calls count now log log_now made =
     subst (λ (l : List (ℕ × Outcome)). MadeFront l count now log log_now) (append-nil calls)
     (front_whole calls [] count now log log_now made)
 
-pub held_there : (m n : Market) (quotes : List ℕ) (group : List Held) → n ≡ m → group ≡ held_in m quotes → AreHeld n group
-held_there m n quotes group same is =
-    subst (λ (l : List Held). AreHeld n l) (sym is) (subst (λ (k : Market). AreHeld k (held_in m quotes)) (sym same) (all_held m quotes))
+pub quoted_there : (m n : Market) (quotes : List ℕ) (group : List Quoted) → n ≡ m → group ≡ quoted_in m quotes → AreQuoted n group
+quoted_there m n quotes group same is =
+    subst (λ (l : List Quoted). AreQuoted n l) (sym is) (subst (λ (k : Market). AreQuoted k (quoted_in m quotes)) (sym same) (all_quoted m quotes))
 
 -- facts of a call over the bench and the market of that moment, told of those at the start
 pub did_at : (calc k : Calc) (m n : Market) (o q : ℕ) (s t : State) (count now : ℕ) (log log_now : Log) → k ≡ calc → n ≡ m
@@ -118,7 +118,7 @@ module _ (calc : Calc) (m : Market) (o q : ℕ) (found value : Option ℤ) (s : 
   pub found_rung : (base : ℤ) (rung : Rung) → rung ≡ rung_for calc m o base q value → rung ≡ rung_for calc m o base q found
   found_rung base rung does = does ∙ ap (rung_for calc m o base q) (sym is)
 
-pub rung_is : (calc : Calc) (m : Market) (o : ℕ) (base : ℤ) (quote : Option ℕ) (group : List Held) (up down : Side)
+pub rung_is : (calc : Calc) (m : Market) (o : ℕ) (base : ℤ) (quote : Option ℕ) (group : List Quoted) (up down : Side)
     → up ≡ side_of calc m o base Up group → down ≡ side_of calc m o base Down group
     → record { quote = quote; up = up; down = down } ≡ rung_of calc m o base quote group
 rung_is calc m o base quote group up down rises falls =

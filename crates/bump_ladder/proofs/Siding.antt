@@ -9,11 +9,11 @@ use Rattle.desk_terms.specs.declared.kind.Kind.TheVariants.{Quote}
 use Rattle.desk_terms.specs.declared.terms.Terms.TheVariants as terms
 use Rattle.desk_terms.specs.Reading.{Calc}
 use Rattle.desk_model.specs.Market.{Market, kind_at, terms_at}
-use Rattle.desk_model.specs.Held.{changeable}
+use Rattle.desk_model.specs.Changeable.{changeable}
 use Rattle.desk_model.specs.State.{State}
 use Rattle.desk_model.specs.Effect.{quote_set}
-use Rattle.bump_model.specs.declared.held.Held.{Held}
-use Rattle.bump_model.specs.declared.held.Way.{Way}
+use Rattle.bump_model.specs.declared.moves.Quoted.{Quoted}
+use Rattle.bump_model.specs.declared.moves.Way.{Way}
 use Rattle.bump_model.specs.declared.ladder.Side.{Side}
 use Rattle.bump_model.specs.declared.ladder.Side.TheVariants.{Limit}
 use Rattle.bump_model.specs.Moves.{is_rate, moved, value_of, value_at, with_values, all_set, is_limit, AreLive, DifferAt}
@@ -26,27 +26,27 @@ use Rattle.desk_model.specs.Unheld.{HoldsNothing}
 
 -- ---- quotes set one by one
 
-pub next_held : (group : List Held) (i : ℕ) (h : Held) → i < length group → h ≡ get_or group i h
+pub next_quoted : (group : List Quoted) (i : ℕ) (h : Quoted) → i < length group → h ≡ get_or group i h
     → drop i group ≡ h ∷ drop (i + 1) group
-next_held group i h within is =
-    drop_more group i h within ∙ ap (λ (x : Held). x ∷ drop (i + 1) group) (sym is)
+next_quoted group i h within is =
+    drop_more group i h within ∙ ap (λ (x : Quoted). x ∷ drop (i + 1) group) (sym is)
 
-module _ (all rest : List Held) (h : Held) (steps : all ≡ h ∷ rest) where
+module _ (all rest : List Quoted) (h : Quoted) (steps : all ≡ h ∷ rest) where
   pub first_quote : (m : Market) → AreLive m all → kind_at m h.quote ≡ Some Quote
   first_quote m live =
-      All-head (λ h. kind_at m h.quote ≡ Some Quote) h rest (subst (λ (l : List Held). AreLive m l) steps live)
+      All-head (λ h. kind_at m h.quote ≡ Some Quote) h rest (subst (λ (l : List Quoted). AreLive m l) steps live)
 
   pub others_live : (s t : State) (v : ℤ) → t ≡ quote_set h.quote (Some v) s → AreLive s.market all → AreLive t.market rest
   others_live s t v is live =
       subst (λ (u : State). AreLive u.market rest) (sym is)
-      (set_live s h v rest (subst (λ (l : List Held). AreLive s.market l) steps live))
+      (set_live s h v rest (subst (λ (l : List Quoted). AreLive s.market l) steps live))
 
   pub set_step : (change : ℤ → ℤ) (s t : State) (v : ℤ) → v ≡ change h.value → t ≡ quote_set h.quote (Some v) s
       → all_set change rest t ≡ all_set change all s
   unfolding all_set
   set_step change s t v value is =
       ap (all_set change rest) (is ∙ ap (λ (z : ℤ). quote_set h.quote (Some z) s) value)
-      ∙ ap (λ (l : List Held). all_set change l s) (sym steps)
+      ∙ ap (λ (l : List Quoted). all_set change l s) (sym steps)
 
   pub within_first : (way : Way) → is_limit way all ≡ false → is_rate (moved way h.value) ≡ true
   within_first way fits =
@@ -63,7 +63,7 @@ module _ (all rest : List Held) (h : Held) (steps : all ≡ h ∷ rest) where
 
 -- ---- one side
 
-module _ (calc : Calc) (o : ℕ) (way : Way) (group : List Held) (s : State) where
+module _ (calc : Calc) (o : ℕ) (way : Way) (group : List Quoted) (s : State) where
   pub limit_side : (base : ℤ) → is_limit way group ≡ true → Limit ≡ side_of calc s.market o base way group
   limit_side base is = rw is refl
 
@@ -130,7 +130,7 @@ first_front a others count now log log_now made = front_first a.calls (others a.
 
 -- ---- a rung, set back
 
-pub rung_asks : {A E : Type 0} (calc : Calc) (o : ℕ) (group : List Held) (s t u : State) (result : Result A E) (count now : ℕ)
+pub rung_asks : {A E : Type 0} (calc : Calc) (o : ℕ) (group : List Quoted) (s t u : State) (result : Result A E) (count now : ℕ)
     (log log_now : Log) → u ≡ all_set (λ value. value) group t → Asks (sides_asking calc o group s) result t count now log log_now
     → Asks (rung_asking calc o group s) result u count now log log_now
 unfolding rung_asking
@@ -138,7 +138,7 @@ rung_asks calc o group s t u (Ok x) count now log log_now is does =
     (is ∙ ap (all_set (λ value. value) group) does.0, does.1)
 rung_asks calc o group s t u (Err e) count now log log_now is does = does
 
-pub rung_calls : (calc : Calc) (o : ℕ) (group : List Held) (s : State) → (sides_asking calc o group s).calls ≡ (rung_asking calc o group s).calls
+pub rung_calls : (calc : Calc) (o : ℕ) (group : List Quoted) (s : State) → (sides_asking calc o group s).calls ≡ (rung_asking calc o group s).calls
 unfolding rung_asking
 rung_calls calc o group s = refl
 
@@ -149,14 +149,14 @@ quoted_value m q value is = ap (λ t. value_of (changeable t)) is
 
 -- ---- quotes that were moved
 
-pub moved_differs : (change : ℤ → ℤ) (group : List Held) (s t : State) → AreLive s.market group → t ≡ all_set change group s
+pub moved_differs : (change : ℤ → ℤ) (group : List Quoted) (s t : State) → AreLive s.market group → t ≡ all_set change group s
     → DifferAt group s.market t.market
 moved_differs change group s t live is =
     subst (λ (u : State). DifferAt group s.market u.market) (sym is)
     (set_differ change group s.market s live (differ_none group s.market))
 
-pub moved_unheld : (change : ℤ → ℤ) (group : List Held) (s t : State) → t ≡ all_set change group s → HoldsNothing s → HoldsNothing t
+pub moved_unheld : (change : ℤ → ℤ) (group : List Quoted) (s t : State) → t ≡ all_set change group s → HoldsNothing s → HoldsNothing t
 moved_unheld change group s t is free = subst (λ (u : State). HoldsNothing u) (sym is) (set_unheld change group s free)
 
-pub differ_then : (group : List Held) (l m n : Market) → DifferAt group l m → n ≡ m → DifferAt group l n
+pub differ_then : (group : List Quoted) (l m n : Market) → DifferAt group l m → n ≡ m → DifferAt group l n
 differ_then group l m n differ is = subst (λ (k : Market). DifferAt group l k) (sym is) differ

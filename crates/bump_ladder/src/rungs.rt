@@ -3,13 +3,13 @@ ghost use Rattle.std.specs.Prelude.{◌≡◌, ◌<◌, ◌≤◌, ◌*◌, ◌+
 ghost use Rattle.desk_model.specs.Links.{is_lazy_at};
 ghost use Rattle.desk_model.specs.Sound.{IsSound};
 ghost use Rattle.desk_model.specs.Unheld.{HoldsNothing};
-ghost use Rattle.bump_model.specs.declared.held.Held.{Held};
-ghost use Rattle.bump_model.specs.Moves.{value_at, and_held, held_in, AreQuotes};
+ghost use Rattle.bump_model.specs.declared.moves.Quoted.{Quoted};
+ghost use Rattle.bump_model.specs.Moves.{value_at, and_quoted, quoted_in, AreQuotes};
 ghost use Rattle.bump_model.specs.Sides.{quote_rung, rungs_of};
 ghost use Rattle.bump_model.specs.Asking.{Asks, asking_for, quotes_asking, rungs_asking};
 
 use crate::sides::rung_sides;
-use bump_model::{Held, Rung, RungList, Side};
+use bump_model::{Quoted, Rung, RungList, Side};
 use desk_names::ObjId;
 use desk_terms::Bench;
 use fixed_amount::{Amount, Rate};
@@ -54,9 +54,9 @@ pub(crate) fn climb<B: Bench>(
     ensures sound { IsSound (B.calc bench.old) desk.new }
     ensures unheld { HoldsNothing desk.new }
 {
-    let held = held_in(alloc, desk, quotes)?;
+    let quoted = quoted_in(alloc, desk, quotes)?;
     let mut climbed = quote_rungs(alloc, desk, object, base, quotes, bench)?;
-    let sides = rung_sides(desk, object, base, &held, bench)?;
+    let sides = rung_sides(desk, object, base, &quoted, bench)?;
     climbed.rungs.push(Rung {
         quote: None,
         up: sides.up,
@@ -67,25 +67,25 @@ pub(crate) fn climb<B: Bench>(
 }
 
 // Of these quotes those that have a value, each with it.
-fn held_in(alloc: Global, desk: &Desk, quotes: &[ObjId]) -> Result<Vec<Held>, AllocError>
+fn quoted_in(alloc: Global, desk: &Desk, quotes: &[ObjId]) -> Result<Vec<Quoted>, AllocError>
     requires quotes { AreQuotes desk.now.market quotes.now }
-    ensures { IfOk result (λ held. held.items ≡ held_in desk.now.market quotes.now) }
+    ensures { IfOk result (λ quoted. quoted.items ≡ quoted_in desk.now.market quotes.now) }
 {
-    let mut held = Vec::new(alloc);
+    let mut quoted = Vec::new(alloc);
     for quote in quotes {
-        hold_any(&mut held, *quote, desk.quote(*quote))?;
+        quote_any(&mut quoted, *quote, desk.quote(*quote))?;
     }
-    Ok(held)
+    Ok(quoted)
 }
 
 // Appends a quote with its value, if it has one.
-fn hold_any(held: &mut Vec<Held>, quote: ObjId, value: Option<Rate>) -> Result<(), AllocError>
-    ensures { OnOk result ((others : List Held) → held.new.items ++ others ≡ held.old.items ++ and_held quote value others) }
+fn quote_any(quoted: &mut Vec<Quoted>, quote: ObjId, value: Option<Rate>) -> Result<(), AllocError>
+    ensures { OnOk result ((others : List Quoted) → quoted.new.items ++ others ≡ quoted.old.items ++ and_quoted quote value others) }
 {
     match value {
         None => Ok(()),
         Some(value) => {
-            held.push(Held { quote, value })?;
+            quoted.push(Quoted { quote, value })?;
             Ok(())
         }
     }
@@ -157,8 +157,8 @@ fn quote_rung<B: Bench>(
             runs: 0,
         }),
         Some(value) => {
-            let held = [Held { quote, value }];
-            let sides = rung_sides(desk, object, base, &held, bench)?;
+            let quoted = [Quoted { quote, value }];
+            let sides = rung_sides(desk, object, base, &quoted, bench)?;
             Ok(Step {
                 rung: Rung {
                     quote: Some(quote),

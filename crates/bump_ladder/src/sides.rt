@@ -4,13 +4,13 @@ ghost use Rattle.desk_terms.specs.Reading.{Calc};
 ghost use Rattle.desk_model.specs.Links.{is_lazy_at};
 ghost use Rattle.desk_model.specs.Sound.{IsSound};
 ghost use Rattle.desk_model.specs.Unheld.{HoldsNothing};
-ghost use Rattle.bump_model.specs.declared.held.Way.TheVariants.{Up, Down};
-ghost use Rattle.bump_model.specs.Moves.{moved, all_set, is_limit, AreHeld, AreLive, DifferAt};
+ghost use Rattle.bump_model.specs.declared.moves.Way.TheVariants.{Up, Down};
+ghost use Rattle.bump_model.specs.Moves.{moved, all_set, is_limit, AreQuoted, AreLive, DifferAt};
 ghost use Rattle.bump_model.specs.Sides.{side_of, gain};
 ghost use Rattle.bump_model.specs.Asking.{Asks, MadeFront, side_asking, sides_asking, rung_asking};
 
 use crate::pricing::price;
-use bump_model::{Held, Side, Way, is_limit};
+use bump_model::{Quoted, Side, Way, is_limit};
 use desk_names::ObjId;
 use desk_terms::{Bench, Cause};
 use fixed_amount::Amount;
@@ -38,11 +38,11 @@ pub(crate) fn rung_sides<B: Bench>(
     desk: &mut Desk,
     object: ObjId,
     base: Amount,
-    group: &[Held],
+    group: &[Quoted],
     bench: &mut B,
 ) -> Result<Sides, AllocError>
     requires lazy { is_lazy_at desk.old.market object ≡ true }
-    requires held { AreHeld desk.old.market group.now }
+    requires quoted { AreQuoted desk.old.market group.now }
     requires sound { IsSound (B.calc bench.old) desk.old }
     requires unheld { HoldsNothing desk.old }
     ensures same { B.calc bench.new ≡ B.calc bench.old }
@@ -66,7 +66,7 @@ fn both_sides<B: Bench>(
     desk: &mut Desk,
     object: ObjId,
     base: Amount,
-    group: &[Held],
+    group: &[Quoted],
     bench: &mut B,
 ) -> Result<Sides, AllocError>
     requires lazy { is_lazy_at desk.old.market object ≡ true }
@@ -99,7 +99,7 @@ fn one_side<B: Bench>(
     object: ObjId,
     base: Amount,
     way: Way,
-    group: &[Held],
+    group: &[Quoted],
     bench: &mut B,
 ) -> Result<Sided, AllocError>
     requires lazy { is_lazy_at desk.old.market object ≡ true }
@@ -140,24 +140,24 @@ fn gain(base: Amount, amount: Result<Amount, Cause>) -> Side
 }
 
 // Moves quotes one way from the values that they had, none of them past the limit of rates.
-fn move_all(desk: &mut Desk, way: Way, group: &[Held])
+fn move_all(desk: &mut Desk, way: Way, group: &[Quoted])
     requires live { AreLive desk.old.market group.now }
     requires within { is_limit way group.now ≡ false }
     ensures moved { desk.new ≡ all_set (moved way) group.now desk.old }
     ensures sound { (calc : Calc) → IsSound calc desk.old → IsSound calc desk.new }
 {
-    for held in group {
-        desk.set_quote(held.quote, Some(way.moved(held.value)));
+    for quoted in group {
+        desk.set_quote(quoted.quote, Some(way.moved(quoted.value)));
     }
 }
 
 // Sets quotes to the values that they had.
-fn set_back(desk: &mut Desk, group: &[Held])
+fn set_back(desk: &mut Desk, group: &[Quoted])
     requires live { AreLive desk.old.market group.now }
     ensures back { desk.new ≡ all_set (λ value. value) group.now desk.old }
     ensures sound { (calc : Calc) → IsSound calc desk.old → IsSound calc desk.new }
 {
-    for held in group {
-        desk.set_quote(held.quote, Some(held.value));
+    for quoted in group {
+        desk.set_quote(quoted.quote, Some(quoted.value));
     }
 }

@@ -13,14 +13,14 @@ use Rattle.desk_model.specs.Unheld.{HoldsNothing}
 use Rattle.desk_model.proofs.Unheld.{others_hold_nothing}
 use Rattle.desk_model.proofs.Stores.{each_at, each_past}
 use Rattle.std.proofs.lemmas.List.{get_or_past}
-use Rattle.bump_model.specs.declared.held.Held.{Held}
-use Rattle.bump_model.specs.declared.held.Way.{Way}
-use Rattle.bump_model.specs.declared.held.Way.TheVariants.{Up, Down}
+use Rattle.bump_model.specs.declared.moves.Quoted.{Quoted}
+use Rattle.bump_model.specs.declared.moves.Way.{Way}
+use Rattle.bump_model.specs.declared.moves.Way.TheVariants.{Up, Down}
 use Rattle.bump_model.specs.declared.ladder.Side.TheVariants.{Limit}
-use Rattle.bump_model.specs.Moves.{moved, value_at, held, held_in, with_values, all_set, is_limit, AreHeld, DifferAt, AreLive}
+use Rattle.bump_model.specs.Moves.{moved, value_at, quoted, quoted_in, with_values, all_set, is_limit, AreQuoted, DifferAt, AreLive}
 use Rattle.bump_model.specs.Sides.{worth, gain, side_of}
 use Rattle.bump_model.specs.Asking.{none, ask_of, side_asking, sides_asking, rung_asking, asking_for, quotes_asking, rungs_asking, behind_base, ladder_asking}
-use Rattle.bump_model.proofs.Moving.{differ_none, moved_same, held_live, one_held, all_held, set_differ, set_back, set_unheld}
+use Rattle.bump_model.proofs.Moving.{differ_none, moved_same, quoted_live, one_quoted, all_quoted, set_differ, set_back, set_unheld}
 
 pub stored_market : (s : State) (calls : List (ℕ × Outcome)) → (stored s calls).market ≡ s.market
 unfolding stored
@@ -65,7 +65,7 @@ stored_unheld s calls free = record {
 
 -- ---- sides
 
-module _ (calc : Calc) (o : ℕ) (m : Market) (group : List Held) (live : AreLive m group) where
+module _ (calc : Calc) (o : ℕ) (m : Market) (group : List Quoted) (live : AreLive m group) where
   pub side_differ : (way : Way) (s : State) → DifferAt group m s.market → DifferAt group m (side_asking calc o way group s).next.market
   side_differ way s differ = by (is_limit way group)
     where
@@ -83,11 +83,11 @@ module _ (calc : Calc) (o : ℕ) (m : Market) (group : List Held) (live : AreLiv
       by true = refl
       by false = ap (λ (l : Market). gain base (worth calc l o)) (moved_same (moved way) group m n live differ)
 
-pub rung_leaves : (calc : Calc) (s : State) (o : ℕ) (group : List Held) → AreHeld s.market group
+pub rung_leaves : (calc : Calc) (s : State) (o : ℕ) (group : List Quoted) → AreQuoted s.market group
     → (rung_asking calc o group s).next.market ≡ s.market
 unfolding rung_asking
 rung_leaves calc s o group are =
-    let live = held_live s.market group are in
+    let live = quoted_live s.market group are in
     let up = side_differ calc o s.market group live Up s (differ_none group s.market) in
     let down = side_differ calc o s.market group live Down (side_asking calc o Up group s).next up in
     set_back group s.market (sides_asking calc o group s).next are down
@@ -96,7 +96,7 @@ one_leaves : (calc : Calc) (m : Market) (o q : ℕ) (found : Option ℤ) → val
     → (asking_for calc o q found s).next.market ≡ m
 one_leaves calc m o q None is s e = e
 one_leaves calc m o q (Some v) is s e =
-    rung_leaves calc s o (held q v ∷ []) (subst (λ (n : Market). AreHeld n (held q v ∷ [])) (sym e) (one_held m q v is)) ∙ e
+    rung_leaves calc s o (quoted q v ∷ []) (subst (λ (n : Market). AreQuoted n (quoted q v ∷ [])) (sym e) (one_quoted m q v is)) ∙ e
 
 pub quotes_leave : (calc : Calc) (m : Market) (o : ℕ) (quotes : List ℕ) (s : State) → s.market ≡ m
     → (quotes_asking calc m o quotes s).next.market ≡ m
@@ -109,8 +109,8 @@ rungs_leave : (calc : Calc) (m : Market) (o : ℕ) (quotes : List ℕ) (s : Stat
     → (rungs_asking calc m o quotes s).next.market ≡ m
 rungs_leave calc m o quotes s e =
     let same = quotes_leave calc m o quotes s e in
-    rung_leaves calc (quotes_asking calc m o quotes s).next o (held_in m quotes)
-    (subst (λ (n : Market). AreHeld n (held_in m quotes)) (sym same) (all_held m quotes)) ∙ same
+    rung_leaves calc (quotes_asking calc m o quotes s).next o (quoted_in m quotes)
+    (subst (λ (n : Market). AreQuoted n (quoted_in m quotes)) (sym same) (all_quoted m quotes)) ∙ same
 
 pub ladder_leaves : (calc : Calc) (s : State) (o : ℕ) (quotes : List ℕ) → (ladder_asking calc o quotes s).next.market ≡ s.market
 unfolding ladder_asking
@@ -123,14 +123,14 @@ ladder_leaves calc s o quotes = by (worth calc s.market o)
 -- ---- a ladder holds nothing back
 
 module _ (calc : Calc) (o : ℕ) where
-  side_unheld : (way : Way) (group : List Held) (s : State) → HoldsNothing s → HoldsNothing (side_asking calc o way group s).next
+  side_unheld : (way : Way) (group : List Quoted) (s : State) → HoldsNothing s → HoldsNothing (side_asking calc o way group s).next
   side_unheld way group s free = by (is_limit way group)
     where
       by : (b : Bool) → HoldsNothing (if b then none s else ask_of calc o (all_set (moved way) group s)).next
       by true = free
       by false = (others_hold_nothing (all_set (moved way) group s) (set_unheld (moved way) group s free)).ask calc o
 
-  rung_unheld : (group : List Held) (s : State) → HoldsNothing s → HoldsNothing (rung_asking calc o group s).next
+  rung_unheld : (group : List Quoted) (s : State) → HoldsNothing s → HoldsNothing (rung_asking calc o group s).next
   unfolding rung_asking
   rung_unheld group s free =
       set_unheld (λ value. value) group (sides_asking calc o group s).next
@@ -138,7 +138,7 @@ module _ (calc : Calc) (o : ℕ) where
 
   one_unheld : (q : ℕ) (found : Option ℤ) (s : State) → HoldsNothing s → HoldsNothing (asking_for calc o q found s).next
   one_unheld q None s free = free
-  one_unheld q (Some v) s free = rung_unheld (held q v ∷ []) s free
+  one_unheld q (Some v) s free = rung_unheld (quoted q v ∷ []) s free
 
   quotes_unheld : (m : Market) (quotes : List ℕ) (s : State) → HoldsNothing s → HoldsNothing (quotes_asking calc m o quotes s).next
   unfolding quotes_asking
@@ -155,6 +155,6 @@ module _ (calc : Calc) (o : ℕ) where
 
       by : (base : Result ℤ Cause) → HoldsNothing (behind_base calc s.market o quotes base (asked calc o s)).next
       by (Ok base) =
-          rung_unheld (held_in s.market quotes) (quotes_asking calc s.market o quotes (asked calc o s)).next
+          rung_unheld (quoted_in s.market quotes) (quotes_asking calc s.market o quotes (asked calc o s)).next
           (quotes_unheld s.market quotes (asked calc o s) first)
       by (Err cause) = first

@@ -16,16 +16,16 @@ use Rattle.desk_terms.specs.Kind.{role}
 use Rattle.desk_model.specs.declared.slot.Slot.{Slot}
 use Rattle.desk_model.specs.declared.slot.Slot.TheVariants.{Free, Today, Watcher, Live}
 use Rattle.desk_model.specs.Market.{Market, slot_at, terms_in, terms_at, kind_in, kind_at, is_lazy, role_of}
-use Rattle.desk_model.specs.Held.{changeable}
-use Rattle.desk_model.specs.Held.Changeable.{HasValue}
+use Rattle.desk_model.specs.Changeable.{changeable}
+use Rattle.desk_model.specs.Changeable.Changeable.{HasValue}
 use Rattle.desk_model.specs.State.{State}
 use Rattle.desk_model.specs.Links.{is_lazy_at}
 use Rattle.desk_model.specs.Effect.{notified, notified_as, with_terms, revised, revised_unless, value_set, quote_set}
 use Rattle.desk_model.specs.Unheld.{HoldsNothing}
 use Rattle.desk_model.proofs.Unheld.{others_hold_nothing}
 use Rattle.desk_model.proofs.Stores.{told_market}
-use Rattle.bump_model.specs.declared.held.Held.{Held}
-use Rattle.bump_model.specs.Moves.{value_of, value_at, held, and_held, held_in, with_value, with_values, all_set, AreHeld, is_among, DifferAt, AreLive}
+use Rattle.bump_model.specs.declared.moves.Quoted.{Quoted}
+use Rattle.bump_model.specs.Moves.{value_of, value_at, quoted, and_quoted, quoted_in, with_value, with_values, all_set, AreQuoted, is_among, DifferAt, AreLive}
 
 -- ---- tests
 
@@ -88,14 +88,14 @@ module _ (m : Market) (q : ℕ) (v : ℤ) (is : IsQuote m q) where
     | inr other ↦ ap kind_in (there x other)
   ]
 
-live_kinds : (m n : Market) (group : List Held) → ((x : ℕ) → kind_at n x ≡ kind_at m x) → AreLive m group → AreLive n group
+live_kinds : (m n : Market) (group : List Quoted) → ((x : ℕ) → kind_at n x ≡ kind_at m x) → AreLive m group → AreLive n group
 live_kinds m n group kinds live =
     All-weaker (λ h. IsQuote m h.quote) (λ h. IsQuote n h.quote) (λ h is. kinds h.quote ∙ is) group live
 
-abbrev first_live : (m : Market) (h : Held) (group : List Held) → AreLive m (h ∷ group) → IsQuote m h.quote
+abbrev first_live : (m : Market) (h : Quoted) (group : List Quoted) → AreLive m (h ∷ group) → IsQuote m h.quote
 first_live m h group live = All-head (λ h. IsQuote m h.quote) h group live
 
-abbrev others_live : (m : Market) (h : Held) (group : List Held) (v : ℤ) → AreLive m (h ∷ group)
+abbrev others_live : (m : Market) (h : Quoted) (group : List Quoted) (v : ℤ) → AreLive m (h ∷ group)
     → AreLive (with_value h.quote v m) group
 others_live m h group v live =
     live_kinds m (with_value h.quote v m) group (kinds_same m h.quote v (first_live m h group live))
@@ -103,10 +103,10 @@ others_live m h group v live =
 
 -- ---- several
 
-pub differ_none : (group : List Held) (m : Market) → DifferAt group m m
+pub differ_none : (group : List Quoted) (m : Market) → DifferAt group m m
 differ_none group m = record { today = refl; long = refl; kinds = λ x. refl; others = λ x apart. refl }
 
-pub differ_more : (group : List Held) (l m n : Market) → DifferAt group l m → DifferAt group m n → DifferAt group l n
+pub differ_more : (group : List Quoted) (l m n : Market) → DifferAt group l m → DifferAt group m n → DifferAt group l n
 differ_more group l m n first second = record {
   today = second.today ∙ first.today;
   long = second.long ∙ first.long;
@@ -120,7 +120,7 @@ apart_from x y e same = grind (arith, nat_tests)
 equal_to : (x y : ℕ) → (y == x) ≡ true → x ≡ y
 equal_to x y e = grind (arith, nat_tests)
 
-pub moved_differ : (change : ℤ → ℤ) (group : List Held) (m : Market) → AreLive m group → DifferAt group m (with_values change group m)
+pub moved_differ : (change : ℤ → ℤ) (group : List Quoted) (m : Market) → AreLive m group → DifferAt group m (with_values change group m)
 unfolding with_values
 moved_differ change [] m live = differ_none [] m
 moved_differ change (h ∷ group) m live =
@@ -136,7 +136,7 @@ moved_differ change (h ∷ group) m live =
 
 -- where a quote is among these, its value before is no matter
 module _ (change : ℤ → ℤ) where
-  moved_at_first : (h : Held) (group : List Held) (m n : Market) → AreLive m (h ∷ group) → AreLive n (h ∷ group) → (x : ℕ)
+  moved_at_first : (h : Quoted) (group : List Quoted) (m n : Market) → AreLive m (h ∷ group) → AreLive n (h ∷ group) → (x : ℕ)
       → is_among (h ∷ group) x ≡ true → is_among group x ≡ false
       → slot_at (with_values change group (with_value h.quote (change h.value) n)) x
       ≡ slot_at (with_values change group (with_value h.quote (change h.value) m)) x
@@ -148,14 +148,14 @@ module _ (change : ℤ → ℤ) where
       ∙ sym (here m h.quote v (first_live m h group live_m)) ∙ ap (slot_at (with_value h.quote v m)) (sym e))
       ∙ sym ((moved_differ change group (with_value h.quote v m) (others_live m h group v live_m)).others x gone)
 
-  moved_at_by : (h : Held) (group : List Held) (m n : Market) (x : ℕ) (b : Bool) → is_among group x ≡ b
+  moved_at_by : (h : Quoted) (group : List Quoted) (m n : Market) (x : ℕ) (b : Bool) → is_among group x ≡ b
       → (is_among group x ≡ true → slot_at (with_values change group n) x ≡ slot_at (with_values change group m) x)
       → (is_among group x ≡ false → slot_at (with_values change group n) x ≡ slot_at (with_values change group m) x)
       → slot_at (with_values change group n) x ≡ slot_at (with_values change group m) x
   moved_at_by h group m n x true is later first = later is
   moved_at_by h group m n x false is later first = first is
 
-  moved_at : (group : List Held) (m n : Market) → AreLive m group → AreLive n group → (x : ℕ) → is_among group x ≡ true
+  moved_at : (group : List Quoted) (m n : Market) → AreLive m group → AreLive n group → (x : ℕ) → is_among group x ≡ true
       → slot_at (with_values change group n) x ≡ slot_at (with_values change group m) x
   unfolding with_values
   moved_at [] m n live_m live_n x among = absurd (let none : false ≡ true = among in cc)
@@ -167,7 +167,7 @@ module _ (change : ℤ → ℤ) where
       (moved_at_first h group m n live_m live_n x among)
 
 -- THE VALUES BEFORE ARE NO MATTER
-pub moved_same : (change : ℤ → ℤ) (group : List Held) (m n : Market) → AreLive m group → DifferAt group m n
+pub moved_same : (change : ℤ → ℤ) (group : List Quoted) (m n : Market) → AreLive m group → DifferAt group m n
     → with_values change group n ≡ with_values change group m
 moved_same change group m n live differ =
     market_is (with_values change group n) (with_values change group m)
@@ -197,19 +197,19 @@ same_value m q v is =
     (ap (λ (slot : Slot). slice_set m.objects q slot) (sym (live_slot (slot_at m q) (Quote (Some v)) is))
     ∙ set-get_or m.objects q Free)
 
-abbrev IsHeld : Market → Held → Type 0
-IsHeld m h = terms_at m h.quote ≡ Some (Quote (Some h.value))
+abbrev IsQuoted : Market → Quoted → Type 0
+IsQuoted m h = terms_at m h.quote ≡ Some (Quote (Some h.value))
 
-held_values : (group : List Held) (m : Market) → AreHeld m group → with_values (λ value. value) group m ≡ m
+quoted_values : (group : List Quoted) (m : Market) → AreQuoted m group → with_values (λ value. value) group m ≡ m
 unfolding with_values
-held_values [] m are = refl
-held_values (h ∷ group) m are =
-    ap (with_values (λ value. value) group) (same_value m h.quote h.value (All-head (IsHeld m) h group are))
-    ∙ held_values group m (All-tail (IsHeld m) h group are)
+quoted_values [] m are = refl
+quoted_values (h ∷ group) m are =
+    ap (with_values (λ value. value) group) (same_value m h.quote h.value (All-head (IsQuoted m) h group are))
+    ∙ quoted_values group m (All-tail (IsQuoted m) h group are)
 
-pub held_live : (m : Market) (group : List Held) → AreHeld m group → AreLive m group
-held_live m group are =
-    All-weaker (IsHeld m) (λ h. IsQuote m h.quote)
+pub quoted_live : (m : Market) (group : List Quoted) → AreQuoted m group → AreLive m group
+quoted_live m group are =
+    All-weaker (IsQuoted m) (λ h. IsQuote m h.quote)
     (λ h is. ap kind_in (live_slot (slot_at m h.quote) (Quote (Some h.value)) is)) group are
 
 value_terms : (t : Option Terms) (v : ℤ) → value_of (changeable t) ≡ Some v → t ≡ Some (Quote (Some v))
@@ -225,17 +225,17 @@ value_terms (Some (Stock quote)) v e = absurd (let none : None ≡ Some v = e in
 value_terms (Some (Composite parts)) v e = absurd (let none : None ≡ Some v = e in cc)
 value_terms (Some (Flows flows engine)) v e = absurd (let none : None ≡ Some v = e in cc)
 
-pub one_held : (m : Market) (q : ℕ) (v : ℤ) → value_at m q ≡ Some v → AreHeld m (held q v ∷ [])
-one_held m q v is = All-cons (IsHeld m) (held q v) [] (value_terms (terms_at m q) v is) (All-nil (IsHeld m))
+pub one_quoted : (m : Market) (q : ℕ) (v : ℤ) → value_at m q ≡ Some v → AreQuoted m (quoted q v ∷ [])
+one_quoted m q v is = All-cons (IsQuoted m) (quoted q v) [] (value_terms (terms_at m q) v is) (All-nil (IsQuoted m))
 
-one_more : (m : Market) (q : ℕ) (others : List Held) (found : Option ℤ) → value_at m q ≡ found → AreHeld m others
-    → AreHeld m (and_held q found others)
+one_more : (m : Market) (q : ℕ) (others : List Quoted) (found : Option ℤ) → value_at m q ≡ found → AreQuoted m others
+    → AreQuoted m (and_quoted q found others)
 one_more m q others None e are = are
-one_more m q others (Some v) e are = All-cons (IsHeld m) (held q v) others (value_terms (terms_at m q) v e) are
+one_more m q others (Some v) e are = All-cons (IsQuoted m) (quoted q v) others (value_terms (terms_at m q) v e) are
 
-pub all_held : (m : Market) (quotes : List ℕ) → AreHeld m (held_in m quotes)
-all_held m [] = All-nil (IsHeld m)
-all_held m (q ∷ quotes) = one_more m q (held_in m quotes) (value_at m q) refl (all_held m quotes)
+pub all_quoted : (m : Market) (quotes : List ℕ) → AreQuoted m (quoted_in m quotes)
+all_quoted m [] = All-nil (IsQuoted m)
+all_quoted m (q ∷ quotes) = one_more m q (quoted_in m quotes) (value_at m q) refl (all_quoted m quotes)
 
 -- ---- the state in which quotes are set
 
@@ -255,23 +255,23 @@ set_market : (s : State) (q : ℕ) (v : ℤ) → IsQuote s.market q → (quote_s
 unfolding quote_set
 set_market s q v is =
     let slot = quote_slot (slot_at s.market q) is in
-    let held = ap terms_in slot.1 in
-    ap (λ (t : Option Terms). (value_set (changeable t) q (Some v) s).market) held ∙ by slot.0 held
+    let quoted = ap terms_in slot.1 in
+    ap (λ (t : Option Terms). (value_set (changeable t) q (Some v) s).market) quoted ∙ by slot.0 quoted
   where
-    unless : (held : Option ℤ) → terms_at s.market q ≡ Some (Quote held) → (same : Bool) → option_eq int_eq held (Some v) ≡ same
+    unless : (quoted : Option ℤ) → terms_at s.market q ≡ Some (Quote quoted) → (same : Bool) → option_eq int_eq quoted (Some v) ≡ same
         → (revised_unless same q (Quote (Some v)) s).market ≡ with_value q v s.market
-    unless held is false other = revised_value q v s
+    unless quoted is false other = revised_value q v s
     unless None is true same = absurd (let none : false ≡ true = same in cc)
     unless (Some old) is true same =
         let e : old ≡ v = (Decides-int_eq old v).0 same in
         sym (same_value s.market q v (is ∙ ap (λ (z : ℤ). Some (Quote (Some z))) e))
 
-    by : (held : Option ℤ) → terms_at s.market q ≡ Some (Quote held)
-        → (value_set (HasValue held) q (Some v) s).market ≡ with_value q v s.market
-    by held is = unless held is (option_eq int_eq held (Some v)) refl
+    by : (quoted : Option ℤ) → terms_at s.market q ≡ Some (Quote quoted)
+        → (value_set (HasValue quoted) q (Some v) s).market ≡ with_value q v s.market
+    by quoted is = unless quoted is (option_eq int_eq quoted (Some v)) refl
 
 -- SETTING IS MOVING
-pub set_moves : (change : ℤ → ℤ) (group : List Held) (s : State) → AreLive s.market group
+pub set_moves : (change : ℤ → ℤ) (group : List Quoted) (s : State) → AreLive s.market group
     → (all_set change group s).market ≡ with_values change group s.market
 unfolding all_set with_values
 set_moves change [] s live = refl
@@ -282,13 +282,13 @@ set_moves change (h ∷ group) s live =
     set_moves change group (quote_set h.quote (Some v) s) later ∙ ap (with_values change group) step
 
 -- one quote that is set leaves the kinds
-pub set_live : (s : State) (h : Held) (v : ℤ) (group : List Held) → AreLive s.market (h ∷ group)
+pub set_live : (s : State) (h : Quoted) (v : ℤ) (group : List Quoted) → AreLive s.market (h ∷ group)
     → AreLive (quote_set h.quote (Some v) s).market group
 set_live s h v group live =
     subst (λ (m : Market). AreLive m group) (sym (set_market s h.quote v (first_live s.market h group live)))
     (others_live s.market h group v live)
 
-pub set_differ : (change : ℤ → ℤ) (group : List Held) (m : Market) (s : State) → AreLive m group → DifferAt group m s.market
+pub set_differ : (change : ℤ → ℤ) (group : List Quoted) (m : Market) (s : State) → AreLive m group → DifferAt group m s.market
     → DifferAt group m (all_set change group s).market
 set_differ change group m s live differ =
     let live_s = live_kinds m s.market group differ.kinds live in
@@ -296,14 +296,14 @@ set_differ change group m s live differ =
     (differ_more group m s.market (with_values change group s.market) differ (moved_differ change group s.market live_s))
 
 -- THE MARKET AS BEFORE
-pub set_back : (group : List Held) (m : Market) (s : State) → AreHeld m group → DifferAt group m s.market
+pub set_back : (group : List Quoted) (m : Market) (s : State) → AreQuoted m group → DifferAt group m s.market
     → (all_set (λ value. value) group s).market ≡ m
 set_back group m s are differ =
-    let live = held_live m group are in
+    let live = quoted_live m group are in
     set_moves (λ value. value) group s (live_kinds m s.market group differ.kinds live)
-    ∙ moved_same (λ value. value) group m s.market live differ ∙ held_values group m are
+    ∙ moved_same (λ value. value) group m s.market live differ ∙ quoted_values group m are
 
-pub live_differ : (group : List Held) (m n : Market) → DifferAt group m n → AreLive m group → AreLive n group
+pub live_differ : (group : List Quoted) (m n : Market) → DifferAt group m n → AreLive m group → AreLive n group
 live_differ group m n differ live = live_kinds m n group differ.kinds live
 
 -- ---- what is priced is so still, and nothing is held back
@@ -319,11 +319,11 @@ lazy_slot Today = refl
 lazy_slot Watcher = refl
 lazy_slot (Live terms) = refl
 
-pub lazy_still : (group : List Held) (m n : Market) (o : ℕ) → DifferAt group m n → is_lazy_at m o ≡ true → is_lazy_at n o ≡ true
+pub lazy_still : (group : List Quoted) (m n : Market) (o : ℕ) → DifferAt group m n → is_lazy_at m o ≡ true → is_lazy_at n o ≡ true
 lazy_still group m n o differ lazy =
     lazy_slot (slot_at n o) ∙ ap lazy_kind (differ.kinds o) ∙ sym (lazy_slot (slot_at m o)) ∙ lazy
 
-pub set_unheld : (change : ℤ → ℤ) (group : List Held) (s : State) → HoldsNothing s → HoldsNothing (all_set change group s)
+pub set_unheld : (change : ℤ → ℤ) (group : List Quoted) (s : State) → HoldsNothing s → HoldsNothing (all_set change group s)
 unfolding all_set
 set_unheld change [] s free = free
 set_unheld change (h ∷ group) s free =

@@ -7,13 +7,13 @@ use Rattle.desk_terms.specs.Reading.{Outcome, Calc}
 use Rattle.desk_model.specs.Market.{Market}
 use Rattle.desk_model.specs.State.{State}
 use Rattle.desk_model.specs.Visit.{log_of, runs, asked}
-use Rattle.bump_model.specs.declared.held.Held.{Held}
-use Rattle.bump_model.specs.declared.held.Way.{Way}
-use Rattle.bump_model.specs.declared.held.Way.TheVariants.{Up, Down}
+use Rattle.bump_model.specs.declared.moves.Quoted.{Quoted}
+use Rattle.bump_model.specs.declared.moves.Way.{Way}
+use Rattle.bump_model.specs.declared.moves.Way.TheVariants.{Up, Down}
 use Rattle.bump_model.specs.declared.ladder.Ladder as ladder
 use Rattle.bump_model.specs.declared.ladder.LadderFault.{LadderFault}
 use Rattle.bump_model.specs.declared.ladder.LadderFault.TheVariants.{Base, NoMemory}
-use Rattle.bump_model.specs.Moves.{moved, value_at, held, held_in, all_set, is_limit}
+use Rattle.bump_model.specs.Moves.{moved, value_at, quoted, quoted_in, all_set, is_limit}
 use Rattle.bump_model.specs.Sides.{worth, rungs_of}
 
 -- what asks compute, in order, and the state after them
@@ -35,16 +35,16 @@ then_ask first others =
     record { calls = first.calls ++ (others first.next).calls; next = (others first.next).next }
 
 -- one side of a rung: the quotes are moved and the object is asked for, unless one of them would pass the limit
-abbrev pub side_asking : Calc → ℕ → Way → List Held → State → Asking
+abbrev pub side_asking : Calc → ℕ → Way → List Quoted → State → Asking
 side_asking calc o way group s =
     if is_limit way group then none s else ask_of calc o (all_set (moved way) group s)
 
 -- both sides
-abbrev pub sides_asking : Calc → ℕ → List Held → State → Asking
+abbrev pub sides_asking : Calc → ℕ → List Quoted → State → Asking
 sides_asking calc o group s = then_ask (side_asking calc o Up group s) (side_asking calc o Down group)
 
 -- a rung: both sides, then its quotes are set back, which asks for nothing
-unfoldable pub rung_asking : Calc → ℕ → List Held → State → Asking
+unfoldable pub rung_asking : Calc → ℕ → List Quoted → State → Asking
 rung_asking calc o group s = record {
   calls = (sides_asking calc o group s).calls;
   next = all_set (λ value. value) group (sides_asking calc o group s).next;
@@ -53,7 +53,7 @@ rung_asking calc o group s = record {
 -- the rung of a quote that has this value: nothing is asked for where it has none
 abbrev pub asking_for : Calc → ℕ → ℕ → Option ℤ → State → Asking
 asking_for calc o q None s = none s
-asking_for calc o q (Some value) s = rung_asking calc o (held q value ∷ []) s
+asking_for calc o q (Some value) s = rung_asking calc o (quoted q value ∷ []) s
 
 -- the rung of each quote, by its value in a market
 unfoldable pub quotes_asking : Calc → Market → ℕ → List ℕ → State → Asking
@@ -64,7 +64,7 @@ quotes_asking calc market o (q ∷ quotes) s =
 -- all rungs
 abbrev pub rungs_asking : Calc → Market → ℕ → List ℕ → State → Asking
 rungs_asking calc market o quotes s =
-    then_ask (quotes_asking calc market o quotes s) (rung_asking calc o (held_in market quotes))
+    then_ask (quotes_asking calc market o quotes s) (rung_asking calc o (quoted_in market quotes))
 
 -- no rung is asked for where the base is refused
 abbrev pub behind_base : Calc → Market → ℕ → List ℕ → Result ℤ Cause → State → Asking

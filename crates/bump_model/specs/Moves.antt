@@ -5,14 +5,14 @@ use Rattle.desk_terms.specs.declared.terms.Terms.TheVariants.{Quote}
 use Rattle.desk_model.specs.declared.slot.Slot.TheVariants.{Live}
 use Rattle.desk_terms.specs.declared.kind.Kind.TheVariants as kind
 use Rattle.desk_model.specs.Market.{Market, slot_at, terms_at, kind_at}
-use Rattle.desk_model.specs.Held.{Changeable, changeable}
-use Rattle.desk_model.specs.Held.Changeable.{HasValue, HasTarget, HasFixings, HasParts, HasEngine, HasNone}
+use Rattle.desk_model.specs.Changeable.{Changeable, changeable}
+use Rattle.desk_model.specs.Changeable.Changeable.{HasValue, HasTarget, HasFixings, HasParts, HasEngine, HasNone}
 use Rattle.desk_model.specs.State.{State}
 use Rattle.desk_model.specs.Effect.{quote_set}
-use Rattle.bump_model.specs.declared.held.Held.{Held}
-use Rattle.bump_model.specs.declared.held.Way.{Way}
-use Rattle.bump_model.specs.declared.held.Way.TheVariants.{Up, Down}
-use Rattle.bump_model.specs.declared.held.TheConstants.{BUMP}
+use Rattle.bump_model.specs.declared.moves.Quoted.{Quoted}
+use Rattle.bump_model.specs.declared.moves.Way.{Way}
+use Rattle.bump_model.specs.declared.moves.Way.TheVariants.{Up, Down}
+use Rattle.bump_model.specs.declared.moves.TheConstants.{BUMP}
 
 -- a value moved one way
 abbrev pub moved : Way → ℤ → ℤ
@@ -36,35 +36,35 @@ value_of HasNone = None
 abbrev pub value_at : Market → ℕ → Option ℤ
 value_at market q = value_of (changeable (terms_at market q))
 
-abbrev pub held : ℕ → ℤ → Held
-held q value = record { quote = q; value = value }
+abbrev pub quoted : ℕ → ℤ → Quoted
+quoted q value = record { quote = q; value = value }
 
 -- a quote with its value, where it has one, before others
-abbrev pub and_held : ℕ → Option ℤ → List Held → List Held
-and_held q None others = others
-and_held q (Some value) others = held q value ∷ others
+abbrev pub and_quoted : ℕ → Option ℤ → List Quoted → List Quoted
+and_quoted q None others = others
+and_quoted q (Some value) others = quoted q value ∷ others
 
 -- of these quotes those that have a value, each with it
-abbrev pub held_in : Market → List ℕ → List Held
-held_in market [] = []
-held_in market (q ∷ quotes) = and_held q (value_at market q) (held_in market quotes)
+abbrev pub quoted_in : Market → List ℕ → List Quoted
+quoted_in market [] = []
+quoted_in market (q ∷ quotes) = and_quoted q (value_at market q) (quoted_in market quotes)
 
 -- a market in which a quote has this value
 abbrev pub with_value : ℕ → ℤ → Market → Market
 with_value q value market = record market { objects = slice_set market.objects q (Live (Quote (Some value))) }
 
 -- a market in which each of these quotes has its value changed so
-unfoldable pub with_values : (ℤ → ℤ) → List Held → Market → Market
+unfoldable pub with_values : (ℤ → ℤ) → List Quoted → Market → Market
 with_values change [] market = market
 with_values change (h ∷ group) market = with_values change group (with_value h.quote (change h.value) market)
 
 -- a state after each of these quotes was set to its value changed so, in order
-unfoldable pub all_set : (ℤ → ℤ) → List Held → State → State
+unfoldable pub all_set : (ℤ → ℤ) → List Quoted → State → State
 all_set change [] state = state
 all_set change (h ∷ group) state = all_set change group (quote_set h.quote (Some (change h.value)) state)
 
 -- one of these quotes would pass the limit of rates
-abbrev pub is_limit : Way → List Held → Bool
+abbrev pub is_limit : Way → List Quoted → Bool
 is_limit way group = list_any (λ h. not (is_rate (moved way h.value))) group
 
 -- these are live quotes
@@ -72,21 +72,21 @@ abbrev pub AreQuotes : Market → List ℕ → Type 0
 AreQuotes market quotes = All (λ q. kind_at market q ≡ Some kind.Quote) quotes
 
 -- each of these quotes has its value
-abbrev pub AreHeld : Market → List Held → Type 0
-AreHeld market group = All (λ h. terms_at market h.quote ≡ Some (Quote (Some h.value))) group
+abbrev pub AreQuoted : Market → List Quoted → Type 0
+AreQuoted market group = All (λ h. terms_at market h.quote ≡ Some (Quote (Some h.value))) group
 
 -- whether a quote is one of these
-abbrev pub is_among : List Held → ℕ → Bool
+abbrev pub is_among : List Quoted → ℕ → Bool
 is_among [] x = false
 is_among (h ∷ group) x = (h.quote == x) || is_among group x
 
 -- TWO MARKETS THAT DIFFER AT MOST IN THE VALUES OF THESE QUOTES
-pub record DifferAt (group : List Held) (m n : Market) : Type 0 where
+pub record DifferAt (group : List Quoted) (m n : Market) : Type 0 where
   pub today : n.today ≡ m.today
   pub long : length n.objects ≡ length m.objects
   pub kinds : (x : ℕ) → kind_at n x ≡ kind_at m x
   pub others : (x : ℕ) → is_among group x ≡ false → slot_at n x ≡ slot_at m x
 
 -- each of these is a live quote
-abbrev pub AreLive : Market → List Held → Type 0
+abbrev pub AreLive : Market → List Quoted → Type 0
 AreLive market group = All (λ h. kind_at market h.quote ≡ Some kind.Quote) group

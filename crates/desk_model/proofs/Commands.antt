@@ -16,8 +16,8 @@ use Rattle.desk_model.specs.declared.slot.Slot.{Slot}
 use Rattle.desk_model.specs.declared.slot.Slot.TheVariants.{Free, Today, Watcher, Live}
 use Rattle.desk_model.specs.Market.{Market, slot_at, terms_in, terms_at, kind_in, kind_at, named, edges_of, edges}
 use Rattle.desk_model.specs.State.{State}
-use Rattle.desk_model.specs.Held.{Changeable, changeable, weight_of, has_member, without_member, reweighted, with_member}
-use Rattle.desk_model.specs.Held.Changeable.{HasValue, HasTarget, HasFixings, HasParts, HasEngine, HasNone}
+use Rattle.desk_model.specs.Changeable.{Changeable, changeable, weight_of, has_member, without_member, reweighted, with_member}
+use Rattle.desk_model.specs.Changeable.Changeable.{HasValue, HasTarget, HasFixings, HasParts, HasEngine, HasNone}
 use Rattle.desk_model.specs.Links.{IsWhole, MayStand}
 use Rattle.desk_model.specs.Links.MayStand.{keeps, joins}
 use Rattle.desk_model.specs.Laws.{Keeps, MayLink}

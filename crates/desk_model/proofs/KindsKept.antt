@@ -9,8 +9,8 @@ use Rattle.flow_terms.specs.Fixings.{with_fixing}
 use Rattle.desk_terms.specs.declared.terms.Terms.TheVariants.{Quote, Handle, Index, Composite, Flows}
 use Rattle.desk_terms.specs.declared.terms.Part.{Part}
 use Rattle.flow_terms.specs.declared.flows.FlowTerms.{FlowTerms}
-use Rattle.desk_model.specs.Held.{Changeable, changeable, weight_of, has_member, without_member, reweighted, with_member}
-use Rattle.desk_model.specs.Held.Changeable.{HasValue, HasTarget, HasFixings, HasParts, HasEngine, HasNone}
+use Rattle.desk_model.specs.Changeable.{Changeable, changeable, weight_of, has_member, without_member, reweighted, with_member}
+use Rattle.desk_model.specs.Changeable.Changeable.{HasValue, HasTarget, HasFixings, HasParts, HasEngine, HasNone}
 use Rattle.desk_model.proofs.Commands.{TermsOf, terms_hold, kind_there, same_handle}
 use Rattle.walks.specs.Walk.{Among}
 use Rattle.desk_terms.specs.declared.terms.Terms.{Terms}

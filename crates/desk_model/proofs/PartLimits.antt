@@ -6,7 +6,7 @@ use Rattle.std.proofs.lemmas.Bool.{false≢true, eqb-false, or_from, or_parts}
 use Rattle.std.proofs.lemmas.Bool.Decides.{eqb_tells}
 use Rattle.desk_terms.specs.declared.terms.Part.{Part}
 use Rattle.desk_terms.specs.Parts.{IsWeight, AreEachInRange}
-use Rattle.desk_model.specs.Held.{has_member, without_member, reweighted, with_member}
+use Rattle.desk_model.specs.Changeable.{has_member, without_member, reweighted, with_member}
 
 swapped : (a b : ℕ) → (a == b) ≡ false → (b == a) ≡ false
 swapped a b other = elim (eqb_tells b a) [

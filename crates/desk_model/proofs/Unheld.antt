@@ -18,8 +18,8 @@ use Rattle.desk_model.specs.declared.slot.Slot.TheVariants.{Watcher, Live}
 use Rattle.desk_model.specs.Market.{edges, terms_at}
 use Rattle.desk_model.specs.Fresh.{fresh}
 use Rattle.desk_model.specs.State.{State, kept_at, unpriced, is_frozen, is_source, is_held_back, is_late, is_clear, seen, now, shows, each_kept}
-use Rattle.desk_model.specs.Held.{Changeable, changeable, weight_of, with_member}
-use Rattle.desk_model.specs.Held.Changeable.{HasValue, HasTarget, HasFixings, HasParts, HasEngine, HasNone}
+use Rattle.desk_model.specs.Changeable.{Changeable, changeable, weight_of, with_member}
+use Rattle.desk_model.specs.Changeable.Changeable.{HasValue, HasTarget, HasFixings, HasParts, HasEngine, HasNone}
 use Rattle.desk_model.specs.Told.{told, unsettled, tell}
 use Rattle.desk_model.specs.Visit.{value_among, with_value, runs, stored, asked}
 use Rattle.desk_model.specs.Recalc.{inputs_walk, recalced_kept, recalced_bare, recalced}

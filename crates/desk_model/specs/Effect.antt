@@ -11,8 +11,8 @@ use Rattle.desk_model.specs.declared.slot.Slot.TheVariants.{Free, Today, Watcher
 use Rattle.desk_model.specs.Market.{terms_at, without}
 use Rattle.desk_model.specs.State.{State, kept_at, unpriced, is_frozen, is_source, each_kept}
 use Rattle.desk_model.specs.Told.{tell}
-use Rattle.desk_model.specs.Held.{Changeable, changeable, weight_of, with_member}
-use Rattle.desk_model.specs.Held.Changeable.{HasValue, HasTarget, HasFixings, HasParts, HasEngine, HasNone}
+use Rattle.desk_model.specs.Changeable.{Changeable, changeable, weight_of, with_member}
+use Rattle.desk_model.specs.Changeable.Changeable.{HasValue, HasTarget, HasFixings, HasParts, HasEngine, HasNone}
 
 -- the state of a new session: `today` alone, of which nothing is stored
 abbrev pub start : ℤ → State

@@ -1,10 +1,9 @@
+pub mod Changeable
 pub mod Effect
 pub mod Examples
 pub mod FixedCurves
 pub mod Fresh
-pub mod Held
 pub mod HeldExamples
-pub mod WatcherExamples
 pub mod Laws
 pub mod Links
 pub mod Market
@@ -17,3 +16,4 @@ pub mod Told
 pub mod Unheld
 pub mod Uses
 pub mod Visit
+pub mod WatcherExamples

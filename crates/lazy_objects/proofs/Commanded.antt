@@ -12,8 +12,8 @@ use Rattle.desk_model.specs.declared.slot.Slot.{Slot}
 use Rattle.desk_model.specs.declared.slot.Slot.TheVariants.{Free, Today}
 use Rattle.desk_model.specs.Market.{terms_at, kind_at}
 use Rattle.desk_model.specs.State.{State}
-use Rattle.desk_model.specs.Held.{Changeable, changeable}
-use Rattle.desk_model.specs.Held.Changeable.{HasValue, HasTarget, HasFixings, HasParts, HasEngine, HasNone}
+use Rattle.desk_model.specs.Changeable.{Changeable, changeable}
+use Rattle.desk_model.specs.Changeable.Changeable.{HasValue, HasTarget, HasFixings, HasParts, HasEngine, HasNone}
 use Rattle.desk_model.specs.Links.{CanTell, IsWhole, IsLinked, IsKinded, IsRanged}
 use Rattle.desk_model.specs.Laws.{Keeps}
 use Rattle.desk_model.specs.Sound.{IsSound, KeepsCurrent}

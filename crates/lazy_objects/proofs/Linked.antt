@@ -13,7 +13,7 @@ use Rattle.desk_model.specs.declared.kept.Kept.{Kept}
 use Rattle.desk_model.specs.declared.slot.Slot.{Slot}
 use Rattle.desk_model.specs.declared.slot.Slot.TheVariants.{Live, Free, Today, Watcher}
 use Rattle.desk_model.specs.Market.{slot_at, terms_in, edges_of}
-use Rattle.desk_model.specs.Held.{changeable}
+use Rattle.desk_model.specs.Changeable.{changeable}
 use Rattle.desk_model.specs.State.{State}
 use Rattle.desk_model.specs.Links.{IsLinked, AreOfKind}
 use Rattle.desk_model.specs.Laws.{MayLink, Keeps}

@@ -14,8 +14,8 @@ use Rattle.desk_model.specs.declared.kept.Kept.{Kept}
 use Rattle.desk_model.specs.declared.slot.Slot.{Slot}
 use Rattle.desk_model.specs.declared.slot.Slot.TheVariants.{Live, Free, Today, Watcher}
 use Rattle.desk_model.specs.Market.{Market, kind_at, kind_in, terms_in, is_watcher, is_observable}
-use Rattle.desk_model.specs.Held.{Changeable, changeable}
-use Rattle.desk_model.specs.Held.Changeable.{HasValue}
+use Rattle.desk_model.specs.Changeable.{Changeable, changeable}
+use Rattle.desk_model.specs.Changeable.Changeable.{HasValue}
 use Rattle.desk_terms.specs.declared.terms.HandleKind.TheVariants as handle
 use Rattle.desk_model.specs.State.{State}
 use Rattle.desk_model.specs.Links.{CanTell, IsLinked, IsWhole, IsKinded, IsRanged, AreRanged, MayStand, AreOfKind}

@@ -8,7 +8,7 @@ use Rattle.walks.specs.Walk.{Among}
 use Rattle.desk_terms.specs.declared.terms.Part.{Part}
 use Rattle.desk_terms.specs.Terms.{part_references}
 use Rattle.desk_model.specs.Market.{named}
-use Rattle.desk_model.specs.Held.{has_member, without_member, reweighted, with_member}
+use Rattle.desk_model.specs.Changeable.{has_member, without_member, reweighted, with_member}
 use Rattle.observer_graph.proofs.Members.{among_last}
 use Rattle.object_store.specs.Shape.{observed_by}
 use Rattle.object_store.specs.Store.{StoreView, Joins, Leaves, IsRewatched}

@@ -5,7 +5,7 @@ use Rattle.std.specs.Ordering.{int_eq}
 use Rattle.std.proofs.lemmas.Bool.Decides.{Decides-int_eq}
 use Rattle.std.proofs.lemmas.Bool.{false_from_ne_true}
 use Rattle.desk_terms.specs.declared.terms.Part.{Part}
-use Rattle.desk_model.specs.Held.{has_member, without_member, reweighted, with_member}
+use Rattle.desk_model.specs.Changeable.{has_member, without_member, reweighted, with_member}
 
 reweighted_none : (parts : List Part) (member : ℕ) (weight : ℤ) → has_member parts member ≡ false → reweighted parts member weight ≡ parts
 reweighted_none [] member weight none = refl

@@ -14,7 +14,7 @@ use Rattle.desk_model.specs.declared.kept.Kept.{Kept}
 use Rattle.desk_model.specs.declared.slot.Slot.{Slot}
 use Rattle.desk_model.specs.declared.slot.Slot.TheVariants.{Live, Free, Today, Watcher}
 use Rattle.desk_model.specs.Market.{Market, slot_at, terms_at, terms_in, kind_in, kind_at, edges_of}
-use Rattle.desk_model.specs.Held.{changeable}
+use Rattle.desk_model.specs.Changeable.{changeable}
 use Rattle.desk_model.specs.Uses.{index_in, index_at, fixings_in}
 use Rattle.desk_model.specs.State.{State}
 use Rattle.desk_model.specs.Links.{IsLinked}

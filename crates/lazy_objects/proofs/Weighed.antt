@@ -12,8 +12,8 @@ use Rattle.desk_model.specs.declared.kept.Kept.{Kept}
 use Rattle.desk_model.specs.declared.slot.Slot.{Slot}
 use Rattle.desk_model.specs.declared.slot.Slot.TheVariants.{Live, Free, Today, Watcher}
 use Rattle.desk_model.specs.Market.{Market, kind_at, kind_in, terms_in, terms_at, slot_at, is_observable}
-use Rattle.desk_model.specs.Held.{Changeable, changeable, weight_of, with_member}
-use Rattle.desk_model.specs.Held.Changeable.{HasParts}
+use Rattle.desk_model.specs.Changeable.{Changeable, changeable, weight_of, with_member}
+use Rattle.desk_model.specs.Changeable.Changeable.{HasParts}
 use Rattle.desk_model.specs.State.{State}
 use Rattle.desk_model.specs.Links.{IsLinked, IsKinded, IsRanged, serves_as, reaches}
 use Rattle.desk_model.specs.Laws.{Keeps, MayLink}

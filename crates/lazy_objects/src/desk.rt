@@ -22,7 +22,7 @@ ghost use Rattle.desk_model.specs.Laws.{MayLink};
 ghost use Rattle.object_store.specs.Slots.{is_handle};
 ghost use Rattle.object_store.specs.Objects.{bare};
 ghost use Rattle.object_store.specs.Parts.{parts_in};
-ghost use Rattle.desk_model.specs.Held.{weight_of, with_member};
+ghost use Rattle.desk_model.specs.Changeable.{weight_of, with_member};
 ghost use Rattle.ask_walk.specs.Asks.{Asks, Stops, AnswersIdly, held_answer};
 ghost use Rattle.ask_walk.specs.Recalcs.{RecalcEnds, RecalcStops};
 ghost use Rattle.lazy_objects.specs.Untold.{TellsNobody};

@@ -6,7 +6,7 @@ ghost use Rattle.desk_model.specs.Market.{named};
 ghost use Rattle.object_store.specs.Shape.{observed_by, role_at};
 ghost use Rattle.object_store.specs.Store.{IsRewatched};
 ghost use Rattle.std.specs.Ordering.{int_eq};
-ghost use Rattle.desk_model.specs.Held.{changeable, weight_of, has_member, without_member, reweighted, with_member};
+ghost use Rattle.desk_model.specs.Changeable.{changeable, weight_of, has_member, without_member, reweighted, with_member};
 ghost use Rattle.desk_model.specs.declared.slot.Slot.TheVariants.{Free};
 ghost use Rattle.object_store.specs.Parts.{parts_in, parts_held};
 

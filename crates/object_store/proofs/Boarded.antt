@@ -9,7 +9,7 @@ use Rattle.desk_terms.specs.declared.terms.HandleKind.TheVariants as handle
 use Rattle.std.specs.Option.{option_eq}
 use Rattle.std.specs.Ordering.{int_eq}
 use Rattle.std.proofs.lemmas.Bool.Decides.{Decides-int_eq}
-use Rattle.desk_model.specs.Held.{changeable}
+use Rattle.desk_model.specs.Changeable.{changeable}
 use Rattle.flow_terms.specs.declared.flows.FlowTerms.{FlowTerms}
 use Rattle.flow_terms.specs.declared.indexes.IndexTerms.{IndexTerms}
 use Rattle.flow_terms.specs.Fixings.{Stored}

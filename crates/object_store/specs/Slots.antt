@@ -10,8 +10,8 @@ use Rattle.std.specs.Option.{option_eq}
 use Rattle.std.specs.Ordering.{int_eq}
 use Rattle.desk_model.specs.declared.slot.Slot.{Slot}
 use Rattle.desk_model.specs.declared.slot.Slot.TheVariants as slot
-use Rattle.desk_model.specs.Held.{Changeable, changeable}
-use Rattle.desk_model.specs.Held.Changeable.{HasValue, HasTarget, HasFixings, HasParts, HasEngine, HasNone}
+use Rattle.desk_model.specs.Changeable.{Changeable, changeable}
+use Rattle.desk_model.specs.Changeable.Changeable.{HasValue, HasTarget, HasFixings, HasParts, HasEngine, HasNone}
 use Rattle.desk_model.specs.declared.kept.Kept.{Kept}
 use Rattle.desk_model.specs.Market.{Market}
 use Rattle.desk_model.specs.State.{State, unpriced, kept_at, last_of}

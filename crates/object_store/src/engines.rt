@@ -2,7 +2,7 @@
 ghost use Rattle.std.specs.Prelude.{◌≡◌, ℕ, Option, Some, slice_index_or};
 ghost use Rattle.flow_terms.specs.declared.flows.FlowTerms.{FlowTerms};
 ghost use Rattle.desk_terms.specs.declared.terms.Terms.TheVariants.{Flows};
-ghost use Rattle.desk_model.specs.Held.{changeable};
+ghost use Rattle.desk_model.specs.Changeable.{changeable};
 ghost use Rattle.desk_model.specs.Market.{terms_in};
 ghost use Rattle.desk_model.specs.declared.slot.Slot.TheVariants.{Free, Live};
 ghost use Rattle.object_store.specs.Slots.{engine_in};

@@ -6,7 +6,7 @@ ghost use Rattle.flow_terms.specs.Fixings.{IsRate, Stored, fixing_on, with_fixin
 ghost use Rattle.desk_terms.specs.declared.terms.Terms.TheVariants.{Index};
 ghost use Rattle.desk_terms.specs.Reading.{index_reading};
 ghost use Rattle.desk_model.specs.Uses.{index_in};
-ghost use Rattle.desk_model.specs.Held.{changeable};
+ghost use Rattle.desk_model.specs.Changeable.{changeable};
 ghost use Rattle.desk_model.specs.Market.{terms_in};
 ghost use Rattle.desk_model.specs.declared.slot.Slot.TheVariants.{Free, Live};
 ghost use Rattle.object_store.specs.Slots.{has_fixings};

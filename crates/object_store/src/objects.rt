@@ -8,7 +8,7 @@ ghost use Rattle.flow_terms.specs.declared.indexes.IndexTerms.{IndexTerms};
 ghost use Rattle.flow_terms.specs.declared.flows.FlowTerms.{FlowTerms};
 ghost use Rattle.flow_terms.specs.declared.fixings.FixFault.TheVariants.{Exists};
 ghost use Rattle.flow_terms.specs.Fixings.{IsRate, Stored, fixing_on, with_fixing};
-ghost use Rattle.desk_model.specs.Held.{changeable};
+ghost use Rattle.desk_model.specs.Changeable.{changeable};
 ghost use Rattle.desk_model.specs.Market.{kind_in, terms_in, role_of};
 ghost use Rattle.desk_model.specs.declared.slot.Slot.TheVariants.{Free, Today, Watcher, Live};
 ghost use Rattle.observer_graph.specs.declared.node.Role.TheVariants as role;

@@ -18,8 +18,8 @@ use Rattle.desk_model.specs.Told.{tell}
 use Rattle.desk_model.specs.Visit.{runs, stored, asked}
 use Rattle.desk_model.specs.Recalc.{inputs_walk, recalced_bare, recalced}
 use Rattle.desk_model.proofs.Stores.{told_market}
-use Rattle.desk_model.specs.Held.{Changeable, changeable}
-use Rattle.desk_model.specs.Held.Changeable.{HasValue, HasTarget, HasFixings, HasParts, HasEngine, HasNone}
+use Rattle.desk_model.specs.Changeable.{Changeable, changeable}
+use Rattle.desk_model.specs.Changeable.Changeable.{HasValue, HasTarget, HasFixings, HasParts, HasEngine, HasNone}
 use Rattle.desk_model.specs.Effect.{notified_as, notified, with_terms, revised, revised_unless, value_set, quote_set, target_set, relinked, priced_by_engine, engine_set, weight_set, member_set, fixing_stored, fixing_added, with_today, today_set, dropped, frozen_set, unfrozen, thawed, forward_set, deferred, resumed, registered_with, unregistered}
 use Rattle.session_model.specs.declared.place.Place.TheVariants.{Droppable}
 use Rattle.session_model.specs.Place.{takes_found}

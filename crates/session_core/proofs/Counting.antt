@@ -10,7 +10,7 @@ use Rattle.desk_terms.specs.Parts.{AreEachInRange}
 use Rattle.desk_terms.specs.Terms.{part_references}
 use Rattle.desk_model.specs.declared.slot.Slot.{Slot}
 use Rattle.desk_model.specs.declared.slot.Slot.TheVariants.{Free, Today, Watcher, Live}
-use Rattle.desk_model.specs.Held.{has_member, with_member}
+use Rattle.desk_model.specs.Changeable.{has_member, with_member}
 use Rattle.desk_model.specs.Links.{AreOfKind, AreRanged, IsKinded, IsRanged, Serve, serves_as}
 use Rattle.desk_model.specs.Market.{Market, count_live, is_given, kind_at, kind_in, live_count, slot_at, terms_at}
 use Rattle.desk_model.proofs.KindsKept.{serve_with}

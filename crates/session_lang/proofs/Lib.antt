@@ -1,4 +1,4 @@
-pub mod Held
+pub mod Gathered
 pub mod Walk
 pub mod Blocks
 pub mod Rows

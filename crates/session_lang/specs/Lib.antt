@@ -1,6 +1,6 @@
 pub mod Given
 pub mod Statement
 pub mod Reading
-pub mod Held
+pub mod Gathered
 pub mod Printing
 pub mod FirstFault

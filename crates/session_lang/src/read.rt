@@ -9,7 +9,7 @@ ghost use Rattle.session_commands.specs.declared.script_kind.ScriptKind.TheVaria
 ghost use Rattle.session_lang.specs.declared.fault.ScriptFault.TheVariants.{At};
 ghost use Rattle.session_lang.specs.FirstFault.{ToldFirst, FaultKeeps, names_after};
 ghost use Rattle.session_lang.specs.Reading.{Leaves, AreLeft, lines_meaning, names_left, script_meaning, script_left};
-ghost use Rattle.session_lang.specs.Held.{held_behind, Takes, together_held};
+ghost use Rattle.session_lang.specs.Gathered.{gathered_behind, Takes, together_gathered};
 ghost use Rattle.text_limits.specs.declared.limit.TheConstants.{MOST_BYTES};
 
 use crate::ScriptFault;
@@ -21,7 +21,7 @@ use session_commands::{CommandList, Script, ScriptKind};
 use std::alloc::Global;
 use text_limits::MOST_BYTES;
 
-// What is held of the lines of a text: the commands outside of blocks, each watch with the number of its action's name; the
+// What is gathered of the lines of a text: the commands outside of blocks, each watch with the number of its action's name; the
 // statements that are asked for after all lines; and the line of a block that stands open behind them.
 #[derive(Drop)]
 struct Read {
@@ -52,8 +52,8 @@ fn take_line<'a>(
     open_at: Option<u32>,
 ) -> Result<Option<u32>, ScriptFault>
     ensures takes { (rest : List (List ℕ)) → Takes result
-        (λ o. held_behind steps.new.items commands.new (is_some o) (lines_meaning (record { names = names.new; begun = begun.new }) o (number + 1) rest))
-        (held_behind steps.old.items commands.old (is_some open_at) (lines_meaning (record { names = names.old; begun = begun.old }) open_at number (line.now ∷ rest))) }
+        (λ o. gathered_behind steps.new.items commands.new (is_some o) (lines_meaning (record { names = names.new; begun = begun.new }) o (number + 1) rest))
+        (gathered_behind steps.old.items commands.old (is_some open_at) (lines_meaning (record { names = names.old; begun = begun.old }) open_at number (line.now ∷ rest))) }
     ensures leaves { (rest : List (List ℕ)) → Leaves result names.new
         (λ o. names_left (record { names = names.new; begun = begun.new }) o (number + 1) rest)
         (names_left (record { names = names.old; begun = begun.old }) open_at number (line.now ∷ rest)) }
@@ -65,7 +65,7 @@ fn take_line<'a>(
     }
 }
 
-// What is held of the lines of a text, up to the first fault.
+// What is gathered of the lines of a text, up to the first fault.
 fn read_lines(
     alloc: Global,
     text: &[u8],
@@ -74,7 +74,7 @@ fn read_lines(
 ) -> Result<Read, ScriptFault>
     requires { length text.now < 2 ^ 31 }
     ensures gives { GivesAt (λ read. record { steps = read.steps.items; commands = read.commands; known = record { names = names.new; begun = begun.new }; open_at = read.open_at }) result
-        (held_behind [] [] false (lines_meaning (record { names = names.old; begun = begun.old }) None 1 (lines text.now))) }
+        (gathered_behind [] [] false (lines_meaning (record { names = names.old; begun = begun.old }) None 1 (lines text.now))) }
     ensures left { AreLeft result names.new (names_left (record { names = names.old; begun = begun.old }) None 1 (lines text.now)) }
     ensures grows { Grows names.old names.new }
 {
@@ -106,7 +106,7 @@ fn read_lines(
     })
 }
 
-// What is held says together where no block stands open.
+// What was gathered says together where no block stands open.
 #[tactic(auto, using(crate::proofs::Blocks::one_name_each))]
 fn script_of(
     alloc: Global,
@@ -116,7 +116,7 @@ fn script_of(
     commands: CommandList,
 ) -> Result<Script, ScriptFault>
     ensures paired { IfOk result (λ s. length s.actions ≡ length s.action_names) }
-    ensures gives { GivesAt (λ s. (s, names.now)) result (together_held (record { names = names.now; begun = begun.now }) steps.items commands None) }
+    ensures gives { GivesAt (λ s. (s, names.now)) result (together_gathered (record { names = names.now; begun = begun.now }) steps.items commands None) }
 {
     if let Some(line) = first_lacking(names, begun, &steps) {
         return Err(ScriptFault::At {
@@ -136,11 +136,11 @@ fn script_of(
     })
 }
 
-// What is held says together.
+// What was gathered says together.
 fn finished(alloc: Global, names: &Names, begun: &Names, read: Read) -> Result<Script, ScriptFault>
     ensures paired { IfOk result (λ s. length s.actions ≡ length s.action_names) }
     ensures gives { GivesAt (λ s. (s, names.now)) result
-        (together_held (record { names = names.now; begun = begun.now }) read.steps.items read.commands read.open_at) }
+        (together_gathered (record { names = names.now; begun = begun.now }) read.steps.items read.commands read.open_at) }
 {
     let commands = read.commands;
     match read.open_at {

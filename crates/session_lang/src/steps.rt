@@ -4,7 +4,7 @@ ghost use Rattle.std.specs.List.{find, list_any};
 ghost use Rattle.desk_names.specs.Names.{place_of};
 ghost use Rattle.session_lang.specs.Statement.{Known};
 ghost use Rattle.session_lang.specs.Reading.{opened, text_of, action_of, lacks, linked, line_of, block_of, actions_of, action_with, action_names_of};
-ghost use Rattle.session_lang.specs.Held.{is_held, held_with, outside_with};
+ghost use Rattle.session_lang.specs.Gathered.{is_later, later_with, outside_with};
 ghost use Rattle.session_commands.specs.declared.command.Command.{Command};
 
 use crate::statement::Statement;
@@ -59,8 +59,8 @@ fn action_of(command: Command) -> Option<ActionId>
 }
 
 // Whether a statement is asked for after all lines.
-fn is_held(inside: bool, statement: &Statement) -> bool
-    ensures { result ≡ is_held inside statement.now }
+fn is_later(inside: bool, statement: &Statement) -> bool
+    ensures { result ≡ is_later inside statement.now }
 {
     match statement {
         Statement::Run(command) => inside || action_of(*command).is_some(),
@@ -76,9 +76,9 @@ fn hold(
     statement: Statement,
     inside: bool,
 ) -> Result<(), AllocError>
-    ensures { OnOk result (steps.new.items ≡ steps.old.items ++ held_with inside (record { line = line; what = statement }) []) }
+    ensures { OnOk result (steps.new.items ≡ steps.old.items ++ later_with inside (record { line = line; what = statement }) []) }
 {
-    if !is_held(inside, &statement) {
+    if !is_later(inside, &statement) {
         return Ok(());
     }
     steps.extend_from_slice(&[step_at(line, statement)])
@@ -113,7 +113,7 @@ fn put_outside(
 
 /// Puts a statement behind the others, and tells the line of the block that stands open after it. A command outside of
 /// blocks goes to the commands; `steps` gets what is asked for after all lines alone, so that a long script of commands is
-/// held once.
+/// kept once.
 pub(crate) fn add(
     commands: &mut CommandList,
     steps: &mut Vec<Step>,
@@ -121,7 +121,7 @@ pub(crate) fn add(
     statement: Statement,
     open_at: Option<u32>,
 ) -> Result<Option<u32>, AllocError>
-    ensures held { OnOk result (steps.new.items ≡ steps.old.items ++ held_with (is_some open_at) (record { line = line; what = statement }) []) }
+    ensures later { OnOk result (steps.new.items ≡ steps.old.items ++ later_with (is_some open_at) (record { line = line; what = statement }) []) }
     ensures outside { OnOk result (commands.new ≡ commands.old ++ outside_with (is_some open_at) statement []) }
     ensures open_at { IfOk result (λ o. o ≡ opened statement line open_at) }
 {

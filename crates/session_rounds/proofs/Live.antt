@@ -11,8 +11,8 @@ use Rattle.desk_model.specs.declared.slot.Slot.TheVariants.{Free, Today, Watcher
 use Rattle.desk_model.specs.Market.{slot_at, is_watcher, terms_in, terms_at}
 use Rattle.desk_model.specs.State.{State}
 use Rattle.desk_model.specs.Told.{registered, is_watching, tell}
-use Rattle.desk_model.specs.Held.{Changeable, changeable}
-use Rattle.desk_model.specs.Held.Changeable.{HasValue, HasTarget, HasFixings, HasParts, HasEngine, HasNone}
+use Rattle.desk_model.specs.Changeable.{Changeable, changeable}
+use Rattle.desk_model.specs.Changeable.Changeable.{HasValue, HasTarget, HasFixings, HasParts, HasEngine, HasNone}
 use Rattle.desk_model.specs.Visit.{stored, asked}
 use Rattle.desk_model.specs.Recalc.{recalced}
 use Rattle.desk_model.specs.Effect.{notified, notified_as, with_terms, revised, revised_unless, value_set, target_set, priced_by_engine, weight_set, fixing_stored, without_pairs, quote_set, relinked, engine_set, today_set, with_today, frozen_set, thawed, unfrozen, forward_set, deferred, resumed, unregistered, dropped, member_set, fixing_added, registered_with, made, watching}

@@ -1,9 +1,9 @@
 use Rattle.std.proofs.Common.{[], ◌∷◌, Some, None, refl}
 use Rattle.std.proofs.lemmas.Result.{err_from_is_err_and}
-use Rattle.bump_model.specs.Moves.{value_at, held}
+use Rattle.bump_model.specs.Moves.{value_at, quoted}
 use Rattle.bump_model.specs.Asking.{asking_for}
 use Rattle.bump_model.proofs.Calls.{made_none}
-use Rattle.bump_model.proofs.Moving.{one_held}
+use Rattle.bump_model.proofs.Moving.{one_quoted}
 use Rattle.bump_ladder.proofs.Answered.{front_asks}
 use Rattle.bump_ladder.proofs.Siding.{quoted_value}
 use Rattle.bump_ladder.proofs.Climbing.{quote_first, found_did, found_front, found_runs, found_rung, rung_is}
@@ -25,13 +25,13 @@ returns-in-None-clause-asks g c =
     found_did (g.B.Bench.calc c.args.bench.now) c.args.desk.now.market c.args.object c.args.quote (value_at c.args.desk.now.market c.args.quote) None c.args.desk.now (quoted_value c.args.desk.now.market c.args.quote None c.in-None.ensures) c.args.desk.now
     (g.B.Bench.count c.args.bench.now) (g.B.Bench.count c.args.bench.now) (g.B.Bench.log c.args.bench.now) (g.B.Bench.log c.args.bench.now) (refl, made_none (g.B.Bench.count c.args.bench.now) (g.B.Bench.log c.args.bench.now))
 
-pub rung_sides-requires-clause-held : goal.rung_sides-requires-clause-held
-rung_sides-requires-clause-held g c = one_held c.args.desk.now.market c.args.quote c.in-Some.value (quoted_value c.args.desk.now.market c.args.quote (Some c.in-Some.value) c.in-Some.ensures)
+pub rung_sides-requires-clause-quoted : goal.rung_sides-requires-clause-quoted
+rung_sides-requires-clause-quoted g c = one_quoted c.args.desk.now.market c.args.quote c.in-Some.value (quoted_value c.args.desk.now.market c.args.quote (Some c.in-Some.value) c.in-Some.ensures)
 
 pub returns-in_ok-sides-in-Some-clause-rung : goal.returns-in_ok-sides-in-Some-clause-rung
 returns-in_ok-sides-in-Some-clause-rung g c =
     found_rung (g.B.Bench.calc c.args.bench.now) c.args.desk.now.market c.args.object c.args.quote (value_at c.args.desk.now.market c.args.quote) (Some c.in-Some.value) c.args.desk.now (quoted_value c.args.desk.now.market c.args.quote (Some c.in-Some.value) c.in-Some.ensures) c.args.base _
-    (rung_is (g.B.Bench.calc c.args.bench.now) c.args.desk.now.market c.args.object c.args.base (Some c.args.quote) (held c.args.quote c.in-Some.value ∷ [])
+    (rung_is (g.B.Bench.calc c.args.bench.now) c.args.desk.now.market c.args.object c.args.base (Some c.args.quote) (quoted c.args.quote c.in-Some.value ∷ [])
     c.in_ok-sides-in-Some.sides.up c.in_ok-sides-in-Some.sides.down c.in_ok-sides-in-Some.ensures.up c.in_ok-sides-in-Some.ensures.down)
 
 pub returns-in_ok-sides-in-Some-clause-runs : goal.returns-in_ok-sides-in-Some-clause-runs

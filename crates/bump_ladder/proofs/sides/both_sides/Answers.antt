@@ -1,7 +1,7 @@
 use Rattle.std.proofs.Common.{◌≡◌, sym, ◌∙◌, subst, length}
 use Rattle.std.proofs.lemmas.Result.{err_from_is_err_and}
 use Rattle.desk_terms.specs.Reading.{Calc}
-use Rattle.bump_model.specs.declared.held.Way.TheVariants.{Up, Down}
+use Rattle.bump_model.specs.declared.moves.Way.TheVariants.{Up, Down}
 use Rattle.bump_model.specs.Sides.{side_of}
 use Rattle.bump_model.specs.Asking.{MadeFront, side_asking, sides_asking}
 use Rattle.bump_model.proofs.Moving.{live_differ, lazy_still, differ_more}

@@ -1,17 +1,17 @@
 use Rattle.std.proofs.Common.{◌∙◌, ap}
 use Rattle.desk_model.specs.State.{State}
 use Rattle.bump_model.specs.Asking.{rung_asking}
-use Rattle.bump_model.proofs.Moving.{held_live, live_differ, set_back as set_back_same}
+use Rattle.bump_model.proofs.Moving.{quoted_live, live_differ, set_back as set_back_same}
 use Rattle.bump_ladder.proofs.Siding.{rung_asks, moved_unheld}
 use Rattle.bump_ladder.proofs.sides.rung_sides.Goals as goal
 
 pub both_sides-sides-requires-clause-live : goal.both_sides-sides-requires-clause-live
-both_sides-sides-requires-clause-live g c = held_live c.args.desk.now.market c.args.group.now c.requires.held
+both_sides-sides-requires-clause-live g c = quoted_live c.args.desk.now.market c.args.group.now c.requires.quoted
 
 pub set_back-requires : goal.set_back-requires
 set_back-requires g c = record {
   live = live_differ c.args.group.now c.args.desk.now.market c.both_sides-sides.new.desk.market c.both_sides-sides.ensures.differ
-      (held_live c.args.desk.now.market c.args.group.now c.requires.held);
+      (quoted_live c.args.desk.now.market c.args.group.now c.requires.quoted);
 }
 
 pub returns-clause-runs : goal.returns-clause-runs
@@ -27,7 +27,7 @@ returns-clause-asks g c =
 pub returns-clause-market : goal.returns-clause-market
 returns-clause-market g c =
     ap (λ (u : State). u.market) c.set_back.ensures.back
-    ∙ set_back_same c.args.group.now c.args.desk.now.market c.both_sides-sides.new.desk c.requires.held c.both_sides-sides.ensures.differ
+    ∙ set_back_same c.args.group.now c.args.desk.now.market c.both_sides-sides.new.desk c.requires.quoted c.both_sides-sides.ensures.differ
 
 pub returns-clause-sound : goal.returns-clause-sound
 returns-clause-sound g c = c.set_back.ensures.sound (g.B.Bench.calc c.args.bench.now) c.both_sides-sides.ensures.sound

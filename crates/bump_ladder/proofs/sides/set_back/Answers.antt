@@ -1,12 +1,12 @@
 use Rattle.std.proofs.Common.{List, refl, sym, ◌∙◌, ap}
 use Rattle.std.proofs.Math.ListN.{drop_of_length-le}
-use Rattle.bump_model.specs.declared.held.Held.{Held}
+use Rattle.bump_model.specs.declared.moves.Quoted.{Quoted}
 use Rattle.bump_model.specs.Moves.{all_set}
-use Rattle.bump_ladder.proofs.Siding.{next_held, first_quote, others_live, set_step}
+use Rattle.bump_ladder.proofs.Siding.{next_quoted, first_quote, others_live, set_step}
 use Rattle.bump_ladder.proofs.sides.set_back.Goals as goal
 
-pub loop-held-init : goal.loop-held-init
-loop-held-init c = record {
+pub loop-quoted-init : goal.loop-quoted-init
+loop-quoted-init c = record {
   left = refl;
   live = c.requires.live;
   sound = λ calc sound. sound;
@@ -14,21 +14,21 @@ loop-held-init c = record {
 
 pub set_quote-requires : goal.set_quote-requires
 set_quote-requires c =
-    let steps = next_held c.args.group.now c.loop-held.held-index c.held-item.result c.loop-held-test.true c.held-item.is in
-    first_quote _ _ _ steps c.loop-held.desk.market c.loop-held.invariant.live
+    let steps = next_quoted c.args.group.now c.loop-quoted.quoted-index c.quoted-item.result c.loop-quoted-test.true c.quoted-item.is in
+    first_quote _ _ _ steps c.loop-quoted.desk.market c.loop-quoted.invariant.live
 
-pub loop-held-preserved : goal.loop-held-preserved
-loop-held-preserved c =
-    let steps = next_held c.args.group.now c.loop-held.held-index c.held-item.result c.loop-held-test.true c.held-item.is in
+pub loop-quoted-preserved : goal.loop-quoted-preserved
+loop-quoted-preserved c =
+    let steps = next_quoted c.args.group.now c.loop-quoted.quoted-index c.quoted-item.result c.loop-quoted-test.true c.quoted-item.is in
     record {
-      left = set_step _ _ _ steps (λ value. value) c.loop-held.desk c.set_quote.new.self _ refl c.set_quote.ensures.set
-          ∙ c.loop-held.invariant.left;
-      live = others_live _ _ _ steps c.loop-held.desk c.set_quote.new.self _ c.set_quote.ensures.set c.loop-held.invariant.live;
-      sound = λ calc sound. c.set_quote.ensures.sound calc (c.loop-held.invariant.sound calc sound);
+      left = set_step _ _ _ steps (λ value. value) c.loop-quoted.desk c.set_quote.new.self _ refl c.set_quote.ensures.set
+          ∙ c.loop-quoted.invariant.left;
+      live = others_live _ _ _ steps c.loop-quoted.desk c.set_quote.new.self _ c.set_quote.ensures.set c.loop-quoted.invariant.live;
+      sound = λ calc sound. c.set_quote.ensures.sound calc (c.loop-quoted.invariant.sound calc sound);
     }
 
 pub returns-clause-back : goal.returns-clause-back
 unfolding all_set
 returns-clause-back c =
-    ap (λ (l : List Held). all_set (λ value. value) l c.loop-held.desk) (sym (drop_of_length-le c.args.group.now c.loop-held-test.false))
-    ∙ c.loop-held.invariant.left
+    ap (λ (l : List Quoted). all_set (λ value. value) l c.loop-quoted.desk) (sym (drop_of_length-le c.args.group.now c.loop-quoted-test.false))
+    ∙ c.loop-quoted.invariant.left

@@ -5,9 +5,9 @@ use Rattle.bump_model.specs.Moves.{all_set, AreLive}
 use Rattle.bump_ladder.proofs.sides.set_back.Given as goal
 
 -- the quotes that are left leave the state that all of them leave
-abbrev pub invariant-loop-held : goal.invariant-loop-held
-invariant-loop-held l = record {
-  left : all_set (λ value. value) (drop l.held-index l.group) l.desk ≡ all_set (λ value. value) l.group l.initial.desk;
-  live : AreLive l.desk.market (drop l.held-index l.group);
+abbrev pub invariant-loop-quoted : goal.invariant-loop-quoted
+invariant-loop-quoted l = record {
+  left : all_set (λ value. value) (drop l.quoted-index l.group) l.desk ≡ all_set (λ value. value) l.group l.initial.desk;
+  live : AreLive l.desk.market (drop l.quoted-index l.group);
   sound : (calc : Calc) → IsSound calc l.initial.desk → IsSound calc l.desk;
 }

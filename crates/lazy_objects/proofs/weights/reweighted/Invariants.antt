@@ -1,5 +1,5 @@
 use Rattle.std.proofs.Common.{◌≡◌, ◌++◌, drop}
-use Rattle.desk_model.specs.Held.{reweighted}
+use Rattle.desk_model.specs.Changeable.{reweighted}
 use Rattle.lazy_objects.proofs.weights.reweighted.Given as goal
 
 abbrev pub invariant-loop-part : goal.invariant-loop-part

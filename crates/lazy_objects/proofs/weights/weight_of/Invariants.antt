@@ -1,5 +1,5 @@
 use Rattle.std.proofs.Common.{◌≡◌, drop}
-use Rattle.desk_model.specs.Held.{weight_of}
+use Rattle.desk_model.specs.Changeable.{weight_of}
 use Rattle.lazy_objects.proofs.weights.weight_of.Given as goal
 
 abbrev pub invariant-loop-part : goal.invariant-loop-part

@@ -1,7 +1,7 @@
 use Rattle.std.proofs.Common.{List, [], ◌∷◌, ◌++◌, ℤ, ap, ◌∙◌, sym, w64}
 use Rattle.std.proofs.lemmas.Int.{to_z-of_z}
 use Rattle.desk_terms.specs.declared.terms.Part.{Part}
-use Rattle.desk_model.specs.Held.{reweighted}
+use Rattle.desk_model.specs.Changeable.{reweighted}
 use Rattle.lazy_objects.proofs.Reweighted.{not_zero, with_old, with_new}
 use Rattle.lazy_objects.proofs.weights.with_member.Goals.{then-not-has_member+in_ok-push, else-not-has_member}
 use Rattle.lazy_objects.proofs.weights.with_member.Goals as goal

@@ -1,5 +1,5 @@
 use Rattle.std.proofs.Common.{◌≡◌, ◌++◌, drop}
-use Rattle.desk_model.specs.Held.{without_member}
+use Rattle.desk_model.specs.Changeable.{without_member}
 use Rattle.lazy_objects.proofs.weights.without_member.Given as goal
 
 abbrev pub invariant-loop-part : goal.invariant-loop-part

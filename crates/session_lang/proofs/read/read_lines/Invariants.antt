@@ -2,12 +2,12 @@ use Rattle.std.proofs.Common.{◌≡◌, ◌+◌, ◌≤◌, [], length, None, f
 use Rattle.std.specs.Str.Lines.{lines}
 use Rattle.script_words.specs.Given.{Grows}
 use Rattle.session_lang.specs.Reading.{lines_meaning, names_left}
-use Rattle.session_lang.specs.Held.{held_behind}
+use Rattle.session_lang.specs.Gathered.{gathered_behind}
 use Rattle.session_lang.proofs.read.read_lines.Given as goal
 
 abbrev pub invariant-loop-rest : goal.invariant-loop-rest
 invariant-loop-rest l = record {
-  whole : held_behind l.steps.items l.commands (is_some l.open_at) (lines_meaning (record { names = l.names; begun = l.begun }) l.open_at l.number (lines l.rest)) ≡ held_behind [] [] false (lines_meaning (record { names = l.fn.names; begun = l.fn.begun }) None 1 (lines l.text));
+  whole : gathered_behind l.steps.items l.commands (is_some l.open_at) (lines_meaning (record { names = l.names; begun = l.begun }) l.open_at l.number (lines l.rest)) ≡ gathered_behind [] [] false (lines_meaning (record { names = l.fn.names; begun = l.fn.begun }) None 1 (lines l.text));
   left : names_left (record { names = l.names; begun = l.begun }) l.open_at l.number (lines l.rest) ≡ names_left (record { names = l.fn.names; begun = l.fn.begun }) None 1 (lines l.text);
   count : l.number + length l.rest ≤ length l.text + 1;
   grows : Grows l.fn.names l.names;

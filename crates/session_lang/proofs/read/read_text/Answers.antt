@@ -1,6 +1,6 @@
 use Rattle.std.proofs.Common.{◌≡◌, false, nat_lt, length, rules}
 use Rattle.session_lang.specs.Reading.{most_bytes}
-use Rattle.session_lang.proofs.Held.{text_given}
+use Rattle.session_lang.proofs.Gathered.{text_given}
 use Rattle.session_lang.proofs.read.read_text.Goals as goal
 
 pub returns-clause-gives : goal.returns-clause-gives

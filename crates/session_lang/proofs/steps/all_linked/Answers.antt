@@ -1,7 +1,7 @@
 use Rattle.std.proofs.Common.{◌≡◌, false, sym, ◌∙◌, ap, is_some, rules}
 use Rattle.std.specs.List.{list_any}
 use Rattle.session_lang.specs.Reading.{action_of}
-use Rattle.session_lang.proofs.Held.{all_linked}
+use Rattle.session_lang.proofs.Gathered.{all_linked}
 use Rattle.session_lang.proofs.steps.all_linked.Goals as goal
 
 pub returns-then-not-has_watch : goal.returns-then-not-has_watch

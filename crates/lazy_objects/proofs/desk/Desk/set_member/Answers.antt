@@ -11,7 +11,7 @@ use Rattle.std.proofs.lemmas.Bool.Decides.{Decides-int_eq}
 use Rattle.desk_terms.specs.declared.terms.Terms.TheVariants as terms_of
 use Rattle.desk_terms.specs.declared.terms.Part.{Part}
 use Rattle.desk_model.specs.State.{State}
-use Rattle.desk_model.specs.Held.{weight_of, with_member}
+use Rattle.desk_model.specs.Changeable.{weight_of, with_member}
 use Rattle.desk_model.specs.Sound.{IsSound, KeepsCurrent}
 use Rattle.desk_model.specs.Effect.{revised, member_set}
 use Rattle.object_store.specs.Market.{market_in, state_in}

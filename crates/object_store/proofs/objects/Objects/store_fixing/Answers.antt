@@ -4,7 +4,7 @@ use Rattle.desk_model.specs.declared.slot.Slot.{Slot}
 use Rattle.desk_model.specs.declared.slot.Slot.TheVariants.{Free, Live}
 use Rattle.desk_terms.specs.declared.terms.Terms.{Terms}
 use Rattle.desk_terms.specs.declared.terms.Terms.TheVariants.{Index}
-use Rattle.desk_model.specs.Held.{changeable}
+use Rattle.desk_model.specs.Changeable.{changeable}
 use Rattle.desk_model.specs.Market.{terms_in}
 use Rattle.object_store.specs.Slots.{has_fixings}
 use Rattle.flow_terms.specs.Fixings.{with_fixing}

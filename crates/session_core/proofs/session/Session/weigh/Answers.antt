@@ -3,7 +3,7 @@ use Rattle.std.specs.Prelude.{unsigned_abs}
 use Rattle.std.proofs.lemmas.Int.{to_z-of_z}
 use Rattle.desk_terms.specs.declared.kind.Kind.TheVariants as kind
 use Rattle.desk_terms.specs.declared.kind.Wanted.TheVariants.{Member}
-use Rattle.desk_model.specs.Held.{with_member}
+use Rattle.desk_model.specs.Changeable.{with_member}
 use Rattle.desk_model.specs.Links.{serves_as}
 use Rattle.desk_model.specs.Market.{kind_at, live_count}
 use Rattle.session_model.specs.Standing.{Standing}

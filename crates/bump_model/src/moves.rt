@@ -13,7 +13,7 @@ const MOST_RATE: i64 = 1_000_000_000_000_000_000;
 
 /// A quote with the value that it has.
 #[derive(Clone, Copy, Debug, PartialEq, Eq)]
-pub struct Held {
+pub struct Quoted {
     pub quote: ObjId,
     pub value: Rate,
 }
@@ -54,8 +54,8 @@ impl Way {
 }
 
 /// Whether one of these quotes would pass the limit of rates, moved one way.
-pub fn is_limit(way: Way, group: &[Held]) -> bool
+pub fn is_limit(way: Way, group: &[Quoted]) -> bool
     ensures { result ≡ is_limit way group.now }
 {
-    group.iter().any(|held| !way.fits(held.value))
+    group.iter().any(|quoted| !way.fits(quoted.value))
 }

@@ -1,13 +1,13 @@
 -- How many pairs there are, by slots and by lists of subjects.
-use Rattle.std.proofs.Common.{◌≡◌, inl, inr, ℕ, zero, suc, ◌+◌, Bool, true, false, List, [], ◌∷◌, ◌++◌, length, ◌<◌, ◌≤◌, arith, refl, sym, ap, ◌∙◌, subst, Option, Some, None, cond, eqb}
-use Rattle.std.specs.Prelude.{is_some, count_by, IsSome}
+use Rattle.std.proofs.Common.{◌≡◌, inl, inr, ℕ, zero, suc, ◌+◌, Bool, true, false, List, [], ◌∷◌, length, ◌<◌, ◌≤◌, arith, refl, ap, ◌∙◌, Option, Some, None, cond, eqb}
+use Rattle.std.specs.Prelude.{is_some, count_by}
 use Rattle.std.specs.List.{sum_by}
 use Rattle.std.proofs.lemmas.Bool.{eqb-true, eq-eqb, cases_eq}
 use Rattle.std.proofs.lemmas.List.Sums.{sum_by_push, sum_by-cons}
 use Rattle.edge_lists.specs.declared.edge.Edge.{Edge}
 use Rattle.edge_lists.specs.declared.edge.Side.TheVariants.{Subject, Observer}
 use Rattle.edge_lists.specs.Ends.{node_of, slot_at}
-use Rattle.edge_lists.specs.EdgesView.{EdgesView, IsPair, IsWhole, pair_count, subjects_in, subjects_of, subject_lists, below}
+use Rattle.edge_lists.specs.EdgesView.{EdgesView, IsWhole, pair_count, subjects_in, subject_lists, below}
 use Rattle.edge_lists.specs.Walks.{node_at}
 use Rattle.edge_lists.proofs.Linking.{live_within}
 use Rattle.edge_lists.proofs.Walking.{pair_of}

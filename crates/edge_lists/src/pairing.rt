@@ -1,7 +1,8 @@
 // Pairs put in and taken out.
 ghost use Rattle.std.specs.Prelude.{◌≡◌, ◌≢◌, ◌⊎◌, ◌↔◌, ◌+◌, ◌≤◌, ◌^◌, ℕ, None, IsSome, IsTrue, MatchOption, OnOk, is_some, if◌then◌else◌};
 ghost use Rattle.slab.specs.Slab.{ContainsKey, HasRoomFor, slab_len};
-ghost use Rattle.edge_lists.specs.Ends.{heads_at};
+ghost use Rattle.edge_lists.specs.declared.edge.Side.TheVariants.{Subject};
+ghost use Rattle.edge_lists.specs.Ends.{first_of, heads_at};
 ghost use Rattle.edge_lists.specs.Stands.{Stands, IsEdge, IsPairIn};
 ghost use Rattle.edge_lists.specs.Walks.{end_node};
 
@@ -87,7 +88,8 @@ pub(crate) fn make_room(slots: &mut Slab<Edge>, pairs: usize) -> Result<(), Allo
     Ok(())
 }
 
-/// The slot of a pair, if it is there: the subjects of the observer are looked through.
+/// The slot of a pair, if it is there: the subjects of the observer and the observers of the subject are looked through
+/// by turns, as long as there are more of both.
 pub(crate) fn find(
     slots: &Slab<Edge>,
     nodes: &[Option<Heads>],
@@ -99,6 +101,7 @@ pub(crate) fn find(
     ensures { MatchOption result (IsPairIn slots.now.slots subject observer → ⊥)
         (λ edge. IsEdge slots.now.slots edge subject observer) }
 {
+    let mut above = first_of_any(nodes, subject);
     let mut at = first_at(nodes, Side::Observer, observer);
     while let Some(edge) = at {
         let pair = slots[edge.key()];
@@ -106,8 +109,27 @@ pub(crate) fn find(
             return Some(edge);
         }
         at = pair.observer.after;
+        let Some(other) = above else {
+            return None;
+        };
+        let pair = slots[other.key()];
+        if pair.observer.node == observer {
+            return Some(other);
+        }
+        above = pair.subject.after;
     }
     None
+}
+
+// The first pair of which a node is the subject; none where no node has the number.
+fn first_of_any(nodes: &[Option<Heads>], subject: ObjId) -> Option<EdgeId>
+    ensures { result ≡ first_of Subject (heads_at nodes.now subject) }
+{
+    match nodes.get(subject.place()) {
+        Some(Some(heads)) => heads.first(Side::Subject),
+        Some(None) => None,
+        None => None,
+    }
 }
 
 /// Takes a pair out; whether it was there.

@@ -16,6 +16,7 @@ use Rattle.flow_terms.specs.Fixings.{Stored}
 use Rattle.desk_model.specs.Uses.{index_in}
 use Rattle.object_store.specs.Parts.{parts_held}
 use Rattle.object_store.specs.Slots.{is_handle, holds_value, engine_in, has_fixings}
+use Rattle.desk_terms.specs.declared.terms.Part.{Part}
 use Rattle.desk_terms.specs.declared.terms.Terms.{Terms}
 use Rattle.desk_terms.specs.declared.terms.Terms.TheVariants.{Quote, Derived, Handle, Curve, Implied, Index, Engine, Stock, Composite, Flows}
 use Rattle.desk_model.specs.declared.slot.Slot.{Slot}
@@ -541,6 +542,22 @@ flows_slot (Live (Engine curve)) is = absurd (cc)
 flows_slot (Live (Stock quote)) is = absurd (cc)
 flows_slot (Live (Composite parts)) is = absurd (cc)
 flows_slot (Live (Flows flows engine)) is = (flows, engine, refl)
+
+pub parts_slot : (s : Slot) → kind_in s ≡ Some kind.Composite → (parts : List Part) × (terms_in s ≡ Some (Composite parts))
+parts_slot Free is = absurd (cc)
+parts_slot Today is = absurd (cc)
+parts_slot Watcher is = absurd (cc)
+parts_slot (Live (Quote held)) is = absurd (cc)
+parts_slot (Live (Derived minus first second)) is = absurd (cc)
+parts_slot (Live (Handle handle.Quote target)) is = absurd (cc)
+parts_slot (Live (Handle handle.Curve target)) is = absurd (cc)
+parts_slot (Live (Curve terms)) is = absurd (cc)
+parts_slot (Live (Implied curve reference)) is = absurd (cc)
+parts_slot (Live (Index terms fixings)) is = absurd (cc)
+parts_slot (Live (Engine curve)) is = absurd (cc)
+parts_slot (Live (Stock quote)) is = absurd (cc)
+parts_slot (Live (Composite parts)) is = (parts, refl)
+parts_slot (Live (Flows flows engine)) is = absurd (cc)
 
 pub index_slot : (s : Slot) → has_fixings (changeable (terms_in s)) ≡ true → (terms : IndexTerms) × (fixings : Stored) × (terms_in s ≡ Some (Index terms fixings))
 index_slot Free is = absurd (false≢true is)

@@ -10,6 +10,7 @@ mod engines;
 mod fixings;
 mod market;
 mod objects;
+mod parts;
 mod scratch;
 mod store;
 
@@ -18,5 +19,6 @@ pub use engines::engine_of;
 pub use fixings::index_of;
 pub use market::Market;
 pub use objects::Objects;
+pub use parts::parts_of;
 pub use scratch::Scratch;
 pub use store::Store;

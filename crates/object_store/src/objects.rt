@@ -1,8 +1,9 @@
 // The objects by number: their terms, and on a board of its own the values of quotes.
-ghost use Rattle.std.specs.Prelude.{◌≡◌, ◌↔◌, ◌<◌, ◌^◌, ℕ, ℤ, Option, Err, ◌∷◌, ◌++◌, [], length, not, None, Some, false, true, is_some, IfOk, OnOk, OnErr, slice_index_or, slice_set};
+ghost use Rattle.std.specs.Prelude.{◌≡◌, ◌↔◌, ◌<◌, ◌^◌, ℕ, ℤ, Option, Err, ◌∷◌, ◌++◌, [], length, not, take, List, None, Some, false, true, is_some, IfOk, OnOk, OnErr, slice_index_or, slice_set};
 ghost use Rattle.std.specs.Option.{option_copied};
 ghost use Rattle.walks.specs.Walk.{Among};
-ghost use Rattle.desk_terms.specs.declared.terms.Terms.TheVariants.{Quote, Index, Flows};
+ghost use Rattle.desk_terms.specs.declared.terms.Terms.TheVariants.{Quote, Index, Composite, Flows};
+ghost use Rattle.desk_terms.specs.declared.terms.Part.{Part};
 ghost use Rattle.desk_terms.specs.declared.kind.Kind.TheVariants as kind;
 ghost use Rattle.flow_terms.specs.declared.indexes.IndexTerms.{IndexTerms};
 ghost use Rattle.flow_terms.specs.declared.flows.FlowTerms.{FlowTerms};
@@ -21,11 +22,12 @@ ghost use Rattle.object_store.specs.Store.{AddsObject};
 use crate::edges::role_of;
 use crate::engines::set_in;
 use crate::fixings::store_in;
+use crate::parts::{keep_in, push_in};
 use crate::store::Store;
 use day_number::Day;
 use desk_model::Slot;
 use desk_names::ObjId;
-use desk_terms::{FixFault, Kind, Terms};
+use desk_terms::{FixFault, Kind, Part, Terms};
 use fixed_amount::Rate;
 use observer_graph::Role;
 use quote_board::Quotes;
@@ -179,6 +181,23 @@ impl Objects {
         ensures same { OnErr result (self.new ≡ self.old) }
     {
         store_in(&mut self.slots[index.place()], day, rate)
+    }
+
+    /// A composite has a part more, at the end. After want of memory nothing is changed.
+    pub fn push_part(&mut self, composite: ObjId, part: Part) -> Result<(), AllocError>
+        requires { kind_in (slice_index_or self.old composite Free) ≡ Some kind.Composite }
+        ensures pushed { OnOk result ((parts : List Part) → terms_in (slice_index_or self.old composite Free) ≡ Some (Composite parts) → self.new ≡ slice_set self.old composite (Live (Composite (parts ++ part ∷ [])))) }
+        ensures same { OnErr result (self.new ≡ self.old) }
+    {
+        push_in(&mut self.slots[composite.place()], part)
+    }
+
+    /// A composite keeps its first parts, as many as are given, and all where there are no more.
+    pub fn keep_parts(&mut self, composite: ObjId, len: usize)
+        requires { kind_in (slice_index_or self.old composite Free) ≡ Some kind.Composite }
+        ensures { (parts : List Part) → terms_in (slice_index_or self.old composite Free) ≡ Some (Composite parts) → self.new ≡ slice_set self.old composite (Live (Composite (take len parts))) }
+    {
+        keep_in(&mut self.slots[composite.place()], len);
     }
 
     /// Takes an object out.

@@ -67,7 +67,7 @@ watching_state today slots slots2 old new joined long is adds = ap (state_of tod
         (λ o y end a. past_nothing today slots old.shape joined o y (end ∙ long) a)) adds.told
 
 -- a test that says of each whether it holds is the test of the definition
-by_test : (b c : Bool) → (b ≡ true → c ≡ true) → (c ≡ true → b ≡ true) → b ≡ c
+pub by_test : (b c : Bool) → (b ≡ true → c ≡ true) → (c ≡ true → b ≡ true) → b ≡ c
 by_test true c there back = sym (there refl)
 by_test false c there back = sym (false_from_ne_true c (λ e. false≢true (back e)))
 

@@ -1,6 +1,8 @@
 -- What stands after a change of a weight.
-use Rattle.std.proofs.Common.{◌≡◌, ◌≢◌, ◌≤◌, ◌⊎◌, inl, inr, ℕ, Bool, true, false, List, length, Some, refl, sym, ◌∙◌, ap, subst}
-use Rattle.std.specs.Prelude.{ℤ, pos, if◌then◌else◌, unsigned_abs}
+use Rattle.std.proofs.Common.{◌≡◌, ◌≢◌, ◌<◌, ◌≤◌, ◌⊎◌, inl, inr, ℕ, Bool, true, false, List, [], ◌∷◌, ◌++◌, length, Some, refl, sym, ◌∙◌, ap, subst}
+use Rattle.std.specs.Prelude.{ℤ, pos, if◌then◌else◌, unsigned_abs, take, slice_index_or, slice_set}
+use Rattle.std.proofs.Math.Seq.{take-append_seam}
+use Rattle.std.proofs.lemmas.List.{get_or-set_same, set-set, set-get_or}
 use Rattle.std.specs.Ordering.{int_eq}
 use Rattle.std.proofs.lemmas.Bool.{false≢true}
 use Rattle.desk_terms.specs.declared.terms.Terms.TheVariants as terms_of
@@ -11,30 +13,30 @@ use Rattle.desk_terms.specs.declared.kind.Wanted.TheVariants.{Member}
 use Rattle.desk_model.specs.declared.kept.Kept.{Kept}
 use Rattle.desk_model.specs.declared.slot.Slot.{Slot}
 use Rattle.desk_model.specs.declared.slot.Slot.TheVariants.{Live, Free, Today, Watcher}
-use Rattle.desk_model.specs.Market.{Market, kind_at, kind_in, terms_in, terms_at, slot_at, is_observable}
+use Rattle.desk_model.specs.Market.{Market, kind_at, kind_in, terms_in, terms_at, slot_at, is_given, is_observable}
 use Rattle.desk_model.specs.Changeable.{Changeable, changeable, weight_of, with_member}
 use Rattle.desk_model.specs.Changeable.Changeable.{HasParts}
 use Rattle.desk_model.specs.State.{State}
-use Rattle.desk_model.specs.Links.{IsLinked, IsKinded, IsRanged, serves_as, reaches}
+use Rattle.desk_model.specs.Links.{CanTell, IsLinked, IsKinded, IsRanged, serves_as, reaches}
 use Rattle.desk_model.specs.Laws.{Keeps, MayLink}
-use Rattle.desk_model.specs.Effect.{with_terms, revised, weight_set, member_set}
+use Rattle.desk_model.specs.Effect.{with_terms, notified, revised, weight_set, member_set}
 use Rattle.desk_model.specs.Sound.{IsSound, KeepsCurrent}
 use Rattle.desk_model.proofs.Carried.{sound_kept}
 use Rattle.desk_model.proofs.Commands.{member_keeps}
 use Rattle.desk_model.proofs.KindsKept.{member_kinded}
 use Rattle.desk_model.proofs.PartLimits.{each_with}
-use Rattle.object_store.specs.Slots.{Registry, market_of, state_of}
+use Rattle.object_store.specs.Slots.{Registry, market_of, state_of, outdated}
 use Rattle.object_store.specs.Scratch.{ScratchView}
 use Rattle.object_store.specs.Parts.{parts_in}
 use Rattle.observer_graph.specs.declared.node.Role.TheVariants as role
-use Rattle.object_store.specs.Shape.{IsJoined, role_at}
-use Rattle.object_store.specs.Store.{StoreView, IsRewatched}
-use Rattle.object_store.proofs.Joined.{composite_slot}
+use Rattle.object_store.specs.Shape.{IsJoined, role_at, registrations_of}
+use Rattle.object_store.specs.Store.{StoreView, IsRewatched, registry_of, HasNoMarkWhereOff}
+use Rattle.object_store.proofs.Joined.{composite_slot, joined_composite}
 use Rattle.object_store.proofs.Registered.{rewatched_plain}
-use Rattle.object_store.proofs.Telling.{IsKept}
+use Rattle.object_store.proofs.Telling.{IsKept, given_set, kept_state, kept_marks, no_marks, revised_told}
 use Rattle.lazy_objects.specs.Stands.{Stands}
 use Rattle.lazy_objects.proofs.Linked.{linked_before}
-use Rattle.lazy_objects.proofs.Revised.{Changed, revised_stands}
+use Rattle.lazy_objects.proofs.Revised.{After, Changed, kind_within, revised_stands, tells_then}
 
 -- where a composite stands, its parts do
 by_slot : (t : Slot) → kind_in t ≡ Some kind.Composite → changeable (terms_in t) ≡ HasParts (parts_in t)
@@ -143,3 +145,84 @@ rewatched_kept today slots old new k parts joined is rewatched = record { kept =
 
     other_role : role_at old.shape k ≡ Some role.Watcher → ⊥
     other_role watcher = lazy_watcher (sym (joined.roles k ∙ (composite_slot (slot_at (market_of today slots) k) is).0) ∙ watcher)
+
+-- a composite that has its parts again is as it was
+slot_is : (t : Slot) (parts : List Part) → terms_in t ≡ Some (terms_of.Composite parts) → t ≡ Live (terms_of.Composite parts)
+slot_is Free parts is = absurd (cc)
+slot_is Today parts is = absurd (cc)
+slot_is Watcher parts is = absurd (cc)
+slot_is (Live terms) parts is = cc
+
+module _ (slots : List Slot) (k : ℕ) (is : kind_in (slice_index_or slots k Free) ≡ Some kind.Composite) where
+  abbrev pub parts_at : List Part
+  parts_at = parts_in (slice_index_or slots k Free)
+
+  pub parts_stand : terms_in (slice_index_or slots k Free) ≡ Some (terms_of.Composite parts_at)
+  parts_stand = parts_there (slice_index_or slots k Free) is
+
+  pub parts_within : k < length slots
+  parts_within = kind_within slots (pos 0) k kind.Composite is
+
+  pub parts_after : (parts : List Part) → terms_in (slice_index_or (slice_set slots k (Live (terms_of.Composite parts))) k Free) ≡ Some (terms_of.Composite parts)
+  parts_after parts = ap terms_in (get_or-set_same slots k (Live (terms_of.Composite parts)) Free parts_within)
+
+  pub kind_after : (parts : List Part) → kind_in (slice_index_or (slice_set slots k (Live (terms_of.Composite parts))) k Free) ≡ Some kind.Composite
+  kind_after parts = ap kind_in (get_or-set_same slots k (Live (terms_of.Composite parts)) Free parts_within)
+
+  pub parts_again : (part : Part) (n : ℕ) → n ≡ length parts_at
+      → slice_set (slice_set slots k (Live (terms_of.Composite (parts_at ++ part ∷ [])))) k (Live (terms_of.Composite (take n (parts_at ++ part ∷ [])))) ≡ slots
+  parts_again part n same =
+      set-set slots k (Live (terms_of.Composite (parts_at ++ part ∷ []))) (Live (terms_of.Composite (take n (parts_at ++ part ∷ []))))
+      ∙ ap (λ (m : ℕ). slice_set slots k (Live (terms_of.Composite (take m (parts_at ++ part ∷ []))))) same
+      ∙ ap (λ (l : List Part). slice_set slots k (Live (terms_of.Composite l))) (take-append_seam parts_at (part ∷ []))
+      ∙ ap (slice_set slots k) (sym (slot_is (slice_index_or slots k Free) parts_at parts_stand))
+      ∙ set-get_or slots k Free
+
+  -- a part that was pushed is taken back
+  pub taken_back : (pushed kept : List Slot) (n : ℕ) (part : Part) → pushed ≡ slice_set slots k (Live (terms_of.Composite (parts_at ++ part ∷ [])))
+      → ((parts : List Part) → terms_in (slice_index_or pushed k Free) ≡ Some (terms_of.Composite parts) → kept ≡ slice_set pushed k (Live (terms_of.Composite (take n parts))))
+      → n ≡ length parts_at → kept ≡ slots
+  taken_back pushed kept n part are keeps same =
+      keeps (parts_at ++ part ∷ []) (ap (λ (l : List Slot). terms_in (slice_index_or l k Free)) are ∙ parts_after (parts_at ++ part ∷ []))
+      ∙ ap (λ (l : List Slot). slice_set l k (Live (terms_of.Composite (take n (parts_at ++ part ∷ []))))) are
+      ∙ parts_again part n same
+
+-- WHAT ANOTHER WEIGHT LEAVES of a desk
+module _ (today : ℤ) (slots slots2 : List Slot) (old mid : StoreView) (scratch : ScratchView) (k member : ℕ) (weight : ℤ)
+    (stands : Stands (state_of today slots old.kept (registry_of old)) scratch) (joined : IsJoined (market_of today slots) old.shape)
+    (may : MayWeigh (market_of today slots) k member weight) (ranges : Ranges (market_of today slots) k member weight)
+    (differs : int_eq (weight_of (parts_in (slot_at (market_of today slots) k)) member) weight ≡ false)
+    (are : slots2 ≡ slice_set slots k (Live (terms_of.Composite (with_member (parts_in (slice_index_or slots k Free)) member weight))))
+    (rewatched : IsRewatched k (with_member (parts_in (slice_index_or slots k Free)) member weight) old mid) where
+  abbrev parts : List Part
+  parts = with_member (parts_in (slice_index_or slots k Free)) member weight
+
+  as_kept : IsKept old mid
+  as_kept = rewatched_kept today slots old mid k parts joined may.0 rewatched
+
+  within : k < length slots
+  within = parts_within slots k may.0
+
+  pub weighed_live : is_given (slice_index_or slots2 k Free) ≡ true
+  weighed_live = given_set slots slots2 k (terms_of.Composite parts) are within
+
+  pub weighed_joined : IsJoined (market_of today slots2) mid.shape
+  weighed_joined = subst (λ (l : List Slot). IsJoined (market_of today l) mid.shape) (sym are)
+      (joined_composite today slots old mid k parts joined within may.0 rewatched)
+
+  pub weighed_marks : HasNoMarkWhereOff mid
+  weighed_marks = kept_marks old mid as_kept (no_marks today slots old stands.sources)
+
+  pub weighed_tells : CanTell (market_of today slots2) (registrations_of mid.shape) mid.noticed
+  weighed_tells = subst (λ (l : List Slot). CanTell (market_of today l) (registrations_of mid.shape) mid.noticed) (sym are)
+      (tells_then today slots k (terms_of.Composite parts) within (composite_slot (slice_index_or slots k Free) may.0).2 old mid stands.whole as_kept.registry
+      (member_links today slots old.kept (registry_of old) scratch stands k member weight may ranges differs parts refl))
+
+  pub weighed_left : (new : StoreView) → state_of today slots2 new.kept (registry_of new) ≡ notified k (outdated k (state_of today slots2 mid.kept (registry_of mid))) → new.shape ≡ mid.shape
+      → After (state_of today slots old.kept (registry_of old)) (state_of today slots2 new.kept (registry_of new)) (member_set k member weight (state_of today slots old.kept (registry_of old))) scratch new.shape
+  weighed_left new told same = record {
+    changed = member_changed today slots old.kept (registry_of old) scratch stands k member weight may ranges differs parts refl (state_of today slots2 new.kept (registry_of new))
+        (revised_told today slots slots2 mid.kept (registry_of mid) (state_of today slots2 new.kept (registry_of new)) k (terms_of.Composite parts) are told
+        ∙ ap (revised k (terms_of.Composite parts)) (kept_state today slots old mid as_kept));
+    joined = subst (IsJoined (market_of today slots2)) (sym same) weighed_joined;
+  }

@@ -22,7 +22,7 @@ ghost use Rattle.desk_model.specs.Laws.{MayLink};
 ghost use Rattle.object_store.specs.Slots.{is_handle};
 ghost use Rattle.object_store.specs.Objects.{bare};
 ghost use Rattle.object_store.specs.Parts.{parts_in};
-ghost use Rattle.desk_model.specs.Changeable.{weight_of, with_member};
+ghost use Rattle.desk_model.specs.Changeable.{weight_of, has_member, with_member};
 ghost use Rattle.ask_walk.specs.Asks.{Asks, Stops, AnswersIdly, held_answer};
 ghost use Rattle.ask_walk.specs.Recalcs.{RecalcEnds, RecalcStops};
 ghost use Rattle.lazy_objects.specs.Untold.{TellsNobody};
@@ -30,13 +30,15 @@ ghost use Rattle.lazy_objects.specs.Untold.{TellsNobody};
 use crate::changes::{revise, tell_changed};
 use crate::links::{link_of, watch_instead};
 use crate::room::make_room;
-use crate::weights::{has_weight, parts_of, rewatch, with_member};
+use crate::weights::{has_weight, weigh};
 use ask_walk::{Books, Recalced};
 use day_number::Day;
 use desk_names::ObjId;
 use desk_terms::{Asked, Bench, FixFault, InputList, Kind, Terms, Value};
 use fixed_amount::Rate;
-use object_store::{Market, Objects, Scratch, Store, TODAY, engine_of, index_of, watched};
+use object_store::{
+    Market, Objects, Scratch, Store, TODAY, engine_of, index_of, parts_of, watched,
+};
 use observer_graph::Role;
 use std::alloc::{AllocError, Global};
 use std::marker::Model;
@@ -215,19 +217,31 @@ impl Desk {
         ensures keeps { KeepsCurrent self.old self.new }
         ensures sound { (calc : Calc) → IsSound calc self.old → IsSound calc self.new }
     {
+        let is_member = self.is_member(composite, member);
         let parts = parts_of(&self.market.objects, composite);
-        if has_weight(parts, member, weight) {
+        if has_weight(parts, is_member, member, weight) {
             return Ok(());
         }
-        let changed = with_member(self.books.scratch.alloc(), parts, member, weight)?;
-        rewatch(&mut self.books.store, parts, composite, member, weight)?;
-        revise(
-            &mut self.market,
+        weigh(
+            self.books.scratch.alloc(),
+            &mut self.market.objects,
             &mut self.books.store,
             composite,
-            Terms::Composite(changed),
-        );
+            member,
+            weight,
+            is_member,
+        )?;
+        tell_changed(&self.market, &mut self.books.store, composite);
         Ok(())
+    }
+
+    // Whether an object is a member of a composite, which observes its members and nothing else.
+    fn is_member(&self, composite: ObjId, member: ObjId) -> bool
+        requires composite { kind_at self.now.market composite ≡ Some Composite }
+        requires member { serves_as (kind_at self.now.market member) Member ≡ true }
+        ensures { result ≡ has_member (parts_in (slot_at self.now.market composite)) member }
+    {
+        self.books.store.has_pair(member, composite)
     }
 
     /// Takes out an object that no object observes, or a watcher, and what is stored of it. Its registrations go with it,

@@ -1,52 +1,30 @@
-// The parts of a composite, and what they are with another weight of a member.
-ghost use Rattle.std.specs.Prelude.{◌≡◌, ◌↔◌, ℕ, true, is_some, Some, IfOk, OnOk, OnErr, slice_index_or};
+// The weights of a composite's members.
+ghost use Rattle.std.specs.Prelude.{◌≡◌, ◌↔◌, ◌≤◌, ◌++◌, ◌∷◌, [], ℕ, true, false, is_some, Some, IfOk, OnOk, OnErr, slice_index_or, slice_set};
 ghost use Rattle.walks.specs.Walk.{Among};
 ghost use Rattle.desk_terms.specs.Terms.{part_references};
-ghost use Rattle.desk_model.specs.Market.{named};
+ghost use Rattle.desk_terms.specs.declared.kind.Kind.TheVariants as kind;
+ghost use Rattle.desk_terms.specs.declared.terms.Terms.TheVariants.{Composite};
+ghost use Rattle.desk_model.specs.Market.{kind_in, named};
 ghost use Rattle.object_store.specs.Shape.{observed_by, role_at};
-ghost use Rattle.object_store.specs.Store.{IsRewatched};
+ghost use Rattle.object_store.specs.Store.{Joins, Leaves, IsRewatched};
 ghost use Rattle.std.specs.Ordering.{int_eq};
-ghost use Rattle.desk_model.specs.Changeable.{changeable, weight_of, has_member, without_member, reweighted, with_member};
-ghost use Rattle.desk_model.specs.declared.slot.Slot.TheVariants.{Free};
-ghost use Rattle.object_store.specs.Parts.{parts_in, parts_held};
+ghost use Rattle.desk_model.specs.Changeable.{weight_of, has_member, without_member, reweighted, with_member};
+ghost use Rattle.desk_model.specs.declared.slot.Slot.TheVariants.{Free, Live};
+ghost use Rattle.object_store.specs.Parts.{parts_in};
 
 use desk_names::ObjId;
 use desk_terms::{Part, PartList, Terms};
-use object_store::{Objects, Store};
+use object_store::{Objects, Store, parts_of};
 use std::alloc::{AllocError, Global};
 
-/// The parts of a composite; none where something else stands.
-pub fn parts_of(objects: &Objects, composite: ObjId) -> &[Part]
-    ensures { result.now ≡ parts_in (slice_index_or objects.now composite Free) }
-{
-    match objects.terms(composite) {
-        Some(terms) => parts_held(terms),
-        None => &[],
-    }
-}
-
-// The parts that terms hold.
-fn parts_held(terms: &Terms) -> &[Part]
-    ensures { result.now ≡ parts_held (changeable (Some terms.now)) }
-{
-    match terms {
-        Terms::Composite(parts) => parts.items(),
-        Terms::Quote(_)
-        | Terms::Derived { .. }
-        | Terms::Handle { .. }
-        | Terms::Curve(_)
-        | Terms::Implied { .. }
-        | Terms::Index(..)
-        | Terms::Engine { .. }
-        | Terms::Stock { .. }
-        | Terms::Flows(..) => &[],
-    }
-}
-
-/// Whether a member has this weight, or, where the weight is 0, whether it is none.
-pub fn has_weight(parts: &[Part], member: ObjId, weight: i64) -> bool
+/// Whether an object has this weight in a composite: 0 where it is no member.
+pub fn has_weight(parts: &[Part], is_member: bool, member: ObjId, weight: i64) -> bool
+    requires { is_member ≡ has_member parts.now member }
     ensures { result ≡ int_eq (weight_of parts.now member) weight }
 {
+    if !is_member {
+        return weight == 0;
+    }
     weight_of(parts, member) == weight
 }
 
@@ -62,53 +40,104 @@ fn weight_of(parts: &[Part], member: ObjId) -> i64
     0
 }
 
-/// New parts with another weight of a member: appended, changed in its place, or left out where the weight is 0.
-pub fn with_member(
+/// An object has another weight in a composite: one that is no member joins at the end, a member keeps its place, and
+/// weight 0 takes a member out. The composite observes its members. After want of memory nothing is changed.
+pub fn weigh(
     alloc: Global,
-    parts: &[Part],
+    objects: &mut Objects,
+    store: &mut Store,
+    composite: ObjId,
     member: ObjId,
     weight: i64,
-) -> Result<PartList, AllocError>
-    ensures { IfOk result (λ changed. changed ≡ with_member parts.now member weight) }
+    is_member: bool,
+) -> Result<(), AllocError>
+    requires composite { kind_in (slice_index_or objects.old composite Free) ≡ Some kind.Composite }
+    requires observer { is_some (role_at store.old.shape composite) ≡ true }
+    requires subject { is_some (role_at store.old.shape member) ≡ true }
+    requires watched { (x : ℕ) → Among x (observed_by store.old.shape composite) ↔ Among x (named (part_references (parts_in (slice_index_or objects.old composite Free)))) }
+    requires is_member { is_member ≡ has_member (parts_in (slice_index_or objects.old composite Free)) member }
+    requires differs { int_eq (weight_of (parts_in (slice_index_or objects.old composite Free)) member) weight ≡ false }
+    ensures weighed { OnOk result (objects.new ≡ slice_set objects.old composite (Live (Composite (with_member (parts_in (slice_index_or objects.old composite Free)) member weight)))) }
+    ensures rewatched { OnOk result (IsRewatched composite (with_member (parts_in (slice_index_or objects.old composite Free)) member weight) store.old store.new) }
+    ensures same { OnErr result (objects.new ≡ objects.old) }
+    ensures unstored { OnErr result (store.new ≡ store.old) }
 {
+    if !is_member {
+        return join(objects, store, composite, member, weight);
+    }
     if weight == 0 {
-        return without_member(alloc, parts, member);
+        return take_out(alloc, objects, store, composite, member);
     }
-    let mut changed = reweighted(alloc, parts, member, weight)?;
-    if !has_member(parts, member) {
-        changed.push(Part { weight, member })?;
-    }
-    Ok(changed)
+    change(alloc, objects, composite, member, weight)
 }
 
-/// A composite observes a member that has a weight, and no other. After want of memory nothing is changed.
-pub fn rewatch(
+// An object joins a composite at the end, and is observed. After want of memory nothing is changed.
+fn join(
+    objects: &mut Objects,
     store: &mut Store,
-    parts: &[Part],
     composite: ObjId,
     member: ObjId,
     weight: i64,
 ) -> Result<(), AllocError>
-    requires composite { is_some (role_at store.old.shape composite) ≡ true }
-    requires member { is_some (role_at store.old.shape member) ≡ true }
-    requires watched { (x : ℕ) → Among x (observed_by store.old.shape composite) ↔ Among x (named (part_references parts.now)) }
-    ensures rewatched { OnOk result (IsRewatched composite (with_member parts.now member weight) store.old store.new) }
-    ensures same { OnErr result (store.new ≡ store.old) }
+    requires composite { kind_in (slice_index_or objects.old composite Free) ≡ Some kind.Composite }
+    requires observer { is_some (role_at store.old.shape composite) ≡ true }
+    requires subject { is_some (role_at store.old.shape member) ≡ true }
+    requires new { Among member (observed_by store.old.shape composite) → ⊥ }
+    ensures joined { OnOk result (objects.new ≡ slice_set objects.old composite (Live (Composite (parts_in (slice_index_or objects.old composite Free) ++ record { weight = weight; member = member } ∷ [])))) }
+    ensures watched { OnOk result (Joins store.old store.new member composite) }
+    ensures spare { store.new.shape.spare ≡ store.old.shape.spare }
+    ensures same { OnErr result (objects.new ≡ objects.old) }
+    ensures unstored { OnErr result (store.new ≡ store.old) }
 {
-    if weight == 0 {
-        store.unwatch(member, composite);
-        return Ok(());
+    let len = parts_of(objects, composite).len();
+    objects.push_part(composite, Part { weight, member })?;
+    match store.watch(member, composite) {
+        Ok(()) => Ok(()),
+        Err(fault) => {
+            objects.keep_parts(composite, len);
+            Err(fault)
+        }
     }
-    if has_member(parts, member) {
-        return Ok(());
-    }
-    store.watch(member, composite)
 }
 
-fn has_member(parts: &[Part], member: ObjId) -> bool
-    ensures { result ≡ has_member parts.now member }
+// A member is taken out of a composite, and is observed no more. After want of memory nothing is changed.
+fn take_out(
+    alloc: Global,
+    objects: &mut Objects,
+    store: &mut Store,
+    composite: ObjId,
+    member: ObjId,
+) -> Result<(), AllocError>
+    requires composite { kind_in (slice_index_or objects.old composite Free) ≡ Some kind.Composite }
+    requires observer { is_some (role_at store.old.shape composite) ≡ true }
+    requires subject { is_some (role_at store.old.shape member) ≡ true }
+    ensures taken { OnOk result (objects.new ≡ slice_set objects.old composite (Live (Composite (without_member (parts_in (slice_index_or objects.old composite Free)) member)))) }
+    ensures left { OnOk result (Leaves store.old store.new member composite) }
+    ensures spare { store.old.shape.spare ≤ store.new.shape.spare }
+    ensures same { OnErr result (objects.new ≡ objects.old) }
+    ensures unstored { OnErr result (store.new ≡ store.old) }
 {
-    parts.iter().any(|part| part.member == member)
+    let rest = without_member(alloc, parts_of(objects, composite), member)?;
+    store.unwatch(member, composite);
+    objects.replace(composite, Terms::Composite(rest));
+    Ok(())
+}
+
+// A member has another weight in its place. After want of memory nothing is changed.
+fn change(
+    alloc: Global,
+    objects: &mut Objects,
+    composite: ObjId,
+    member: ObjId,
+    weight: i64,
+) -> Result<(), AllocError>
+    requires composite { kind_in (slice_index_or objects.old composite Free) ≡ Some kind.Composite }
+    ensures changed { OnOk result (objects.new ≡ slice_set objects.old composite (Live (Composite (reweighted (parts_in (slice_index_or objects.old composite Free)) member weight)))) }
+    ensures same { OnErr result (objects.new ≡ objects.old) }
+{
+    let changed = reweighted(alloc, parts_of(objects, composite), member, weight)?;
+    objects.replace(composite, Terms::Composite(changed));
+    Ok(())
 }
 
 fn without_member(alloc: Global, parts: &[Part], member: ObjId) -> Result<PartList, AllocError>

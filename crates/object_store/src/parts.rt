@@ -2,7 +2,7 @@
 ghost use Rattle.std.specs.Prelude.{◌≡◌, ◌++◌, ◌∷◌, [], List, Some, OnOk, OnErr, length, take, slice_index_or};
 ghost use Rattle.desk_terms.specs.declared.terms.Terms.TheVariants.{Composite};
 ghost use Rattle.desk_terms.specs.declared.terms.Part.{Part};
-ghost use Rattle.desk_model.specs.Held.{changeable};
+ghost use Rattle.desk_model.specs.Changeable.{changeable};
 ghost use Rattle.desk_model.specs.Market.{terms_in};
 ghost use Rattle.desk_model.specs.declared.slot.Slot.TheVariants.{Free, Live};
 ghost use Rattle.object_store.specs.Parts.{parts_in, parts_held};

@@ -149,7 +149,7 @@ impl Edges {
     }
 
     /// The observer does not observe the subject; whether it did, which leaves a spare place. Takes no memory, and time
-    /// in proportion to the subjects of the observer.
+    /// in proportion to the fewer of the subjects of the observer and the observers of the subject.
     pub fn unlink(&mut self, subject: ObjId, observer: ObjId) -> bool
         requires subject { IsLive self.old subject }
         requires observer { IsLive self.old observer }
@@ -178,7 +178,8 @@ impl Edges {
         self.spare += before - self.slots.len();
     }
 
-    /// Whether the observer observes the subject. Takes time in proportion to the subjects of the observer.
+    /// Whether the observer observes the subject. Takes time in proportion to the fewer of the subjects of the observer and
+    /// the observers of the subject.
     pub fn has_pair(&self, subject: ObjId, observer: ObjId) -> bool
         requires { IsLive self.now observer }
         ensures { IsTrue result ↔ IsPair self.now subject observer }

@@ -227,7 +227,7 @@ impl Store {
         self.deferral.graph().unwatch(subject, observer)
     }
 
-    /// Whether an object observes another. It costs what the observer observes.
+    /// Whether an object observes another. It costs the fewer of what the observer observes and of who observes the subject.
     pub fn has_pair(&self, subject: ObjId, observer: ObjId) -> bool
         requires subject { is_some (role_at self.now.shape subject) ≡ true }
         requires observer { is_some (role_at self.now.shape observer) ≡ true }

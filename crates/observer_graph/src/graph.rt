@@ -201,8 +201,8 @@ impl Graph {
         first_out(&mut self.noticed)
     }
 
-    /// Whether a subject and an observer are a pair. Takes no memory, and time in proportion to what the observer
-    /// observes.
+    /// Whether a subject and an observer are a pair. Takes no memory, and time in proportion to the fewer of the
+    /// subjects of the observer and the observers of the subject.
     pub fn has_pair(&self, subject: ObjId, observer: ObjId) -> bool
         requires subject { IsLive self.now subject }
         requires observer { IsLive self.now observer }

@@ -255,7 +255,8 @@ impl Pairs {
         clear
     }
 
-    /// Whether a subject and an observer are a pair. Takes time in proportion to what the observer observes.
+    /// Whether a subject and an observer are a pair. Takes time in proportion to the fewer of the subjects of the observer
+    /// and the observers of the subject.
     pub fn has_pair(&self, subject: ObjId, observer: ObjId) -> bool
         requires { is_marked self.now.live observer ≡ true }
         ensures { IsTrue result ↔ Among subject (list_at self.now.subjects observer) }

@@ -1,5 +1,8 @@
 // The price of a composite.
-ghost use Rattle.std.specs.Prelude.{◌≡◌, ◌≤◌, ◌^◌, ◌*ℤ◌, length, IfSome, unsigned_abs};
+ghost use Rattle.std.specs.Prelude.{◌≡◌, ◌≤◌, ◌^◌, ◌*ℤ◌, ℤ, Some, unsigned_abs};
+ghost use Rattle.desk_terms.specs.declared.value.Input.TheVariants.{Money};
+ghost use Rattle.desk_terms.specs.Parts.{ArePartsInRange};
+ghost use Rattle.desk_terms.specs.Reading.{AreMoney};
 ghost use Rattle.discount_engines.specs.Money.{as_money};
 ghost use Rattle.discount_engines.specs.Composite.{product, weighted, composite_price};
 
@@ -8,64 +11,45 @@ use desk_names::ObjId;
 use desk_terms::{Cause, Input, Part};
 use fixed_amount::Amount;
 
-// The most that a weight is, either way.
-const MOST_WEIGHT: i64 = 1_000_000;
-
-// The most parts of a composite.
-const MOST_PARTS: usize = 4096;
-
-/// The price of a composite.
+/// The price of a composite over as many amounts as it has parts.
 #[inline(always)]
 pub(crate) fn composite_price(
     object: ObjId,
     parts: &[Part],
     inputs: &[Input],
 ) -> Result<Amount, Cause>
+    requires range { ArePartsInRange parts.now }
+    requires money { AreMoney parts.now inputs.now }
     ensures { as_money result ≡ composite_price object parts.now inputs.now }
 {
-    if parts.len() > MOST_PARTS {
-        return Err(Cause::TooLarge(object));
-    }
-    match weighted(parts, inputs) {
-        None => Err(Cause::TooLarge(object)),
-        Some(units) => money_of(object, units),
-    }
+    money_of(object, weighted(parts, inputs))
 }
 
 // The sum of each weight times the value of its member.
 #[inline(always)]
-fn weighted(parts: &[Part], inputs: &[Input]) -> Option<i128>
-    requires { length parts.now ≤ 4096 }
-    ensures { result ≡ weighted parts.now inputs.now }
+fn weighted(parts: &[Part], inputs: &[Input]) -> i128
+    requires range { ArePartsInRange parts.now }
+    requires money { AreMoney parts.now inputs.now }
+    ensures { Some result ≡ weighted parts.now inputs.now }
 {
-    if inputs.len() < parts.len() {
-        return None;
-    }
     let mut sum: i128 = 0;
     for at in 0..parts.len() {
-        match product(&parts[at], &inputs[at]) {
-            None => return None,
-            Some(units) => sum = sum_of(sum, units),
-        }
+        sum = sum_of(sum, product(&parts[at], &inputs[at]));
     }
-    Some(sum)
+    sum
 }
 
-// A weight times the value of its member.
+// A weight times the value of its member, which is money.
 #[inline(always)]
-fn product(part: &Part, input: &Input) -> Option<i128>
-    ensures value { result ≡ product part.now input.now }
-    ensures bound { IfSome result (λ units. unsigned_abs units ≤ 10 ^ 32) }
+fn product(part: &Part, input: &Input) -> i128
+    requires weight { unsigned_abs part.now.weight ≤ 1000000 }
+    requires money { (amount : ℤ) × (input.now ≡ Money amount) }
+    ensures value { Some result ≡ product part.now input.now }
+    ensures bound { unsigned_abs result ≤ 10 ^ 32 }
 {
     match input {
-        Input::Rate(_) => None,
-        Input::Curve(_) => None,
-        Input::Money(amount) => {
-            if part.weight < -MOST_WEIGHT || part.weight > MOST_WEIGHT {
-                return None;
-            }
-            Some(times(part.weight, *amount))
-        }
+        Input::Money(amount) => times(part.weight, *amount),
+        Input::Rate(_) | Input::Curve(_) => unreachable!(),
     }
 }
 

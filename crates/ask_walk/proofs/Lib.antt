@@ -12,3 +12,4 @@ pub mod Remembered
 pub mod Restarts
 pub mod Settling
 pub mod Stacks
+pub mod Turned

@@ -1,12 +1,12 @@
 // An ask: what it uses and has no current value is computed, by an explicit stack.
-ghost use Rattle.std.specs.Prelude.{◌≡◌, ◌≢◌, ◌⊎◌, ◌<◌, ◌^◌, true, false, length, None, Some, Ok, Err, IsOk, IfOk, IfSome, OnErr, slice_index_or, is_some};
+ghost use Rattle.std.specs.Prelude.{◌≡◌, ◌≢◌, ◌⊎◌, ◌<◌, ◌^◌, true, false, length, None, Some, Ok, Err, IsOk, IfOk, IfSome, OnOk, OnErr, [], slice_index_or, is_some};
 ghost use Rattle.std.specs.Option.{option_copied};
 ghost use Rattle.desk_terms.specs.declared.terms.Terms.{Terms};
 ghost use Rattle.desk_terms.specs.Bench.{counted};
-ghost use Rattle.desk_terms.specs.Reading.{IsWellFormed};
+ghost use Rattle.desk_terms.specs.Reading.{IsWellFormed, index_reading, named_index};
 ghost use Rattle.desk_model.specs.Market.{terms_at};
 ghost use Rattle.desk_model.specs.Links.{IsLinked, is_lazy_at, IsWhole};
-ghost use Rattle.desk_model.specs.Uses.{reading_at};
+ghost use Rattle.desk_model.specs.Uses.{reading_at, index_at};
 ghost use Rattle.desk_model.specs.State.{unpriced, held};
 ghost use Rattle.object_store.specs.declared.market.Market.{Market};
 ghost use Rattle.object_store.specs.Market.{market_in, state_in, state_after};
@@ -16,15 +16,15 @@ ghost use Rattle.object_store.specs.Scratch.{IsEmpty};
 ghost use Rattle.object_store.specs.Shape.{IsJoined, role_at};
 ghost use Rattle.observer_graph.specs.declared.node.Role.TheVariants as role;
 ghost use Rattle.ask_walk.specs.Reads.{Remembers};
-ghost use Rattle.ask_walk.specs.Begun.{Begun};
+ghost use Rattle.ask_walk.specs.Begun.{AreBegun, objects_of};
 ghost use Rattle.ask_walk.specs.Steps.{NeedsFirst, Descends};
 ghost use Rattle.ask_walk.specs.Asks.{Asks, Walks, Stops, MayAsk, Stays, Computes, lacking, walk_mark, held_answer};
 
 use crate::books::Books;
-use crate::steps::{Step, next};
-use crate::uses::index_named;
+use crate::turning::Turn;
+use crate::waiting::{Waiting, set_aside, take_back};
 use desk_names::ObjId;
-use desk_terms::{Asked, Bench, Cause, InputList, Job, Mark, Terms, Value};
+use desk_terms::{Asked, Bench, Cause, IndexUse, InputList, Job, Mark, Terms, Value};
 use object_store::{Market, Store};
 use std::alloc::{AllocError, Global};
 
@@ -94,7 +94,7 @@ impl Books {
         requires free { held (state_in market.now self.old.store) object ≡ None }
         requires stale { is_now self.old.store.kept object ≡ false }
         requires remembers { Remembers (market_in market.now) self.old.scratch.entries }
-        requires begun { Begun market.now.objects self.old.store.kept self.old.scratch.positions }
+        requires as_long { length self.old.scratch.positions ≡ length market.now.objects }
         requires joined { IsJoined (market_in market.now) self.old.store.shape }
         ensures same { B.calc bench.new ≡ B.calc bench.old }
         ensures walks { IfOk result (λ answer. Walks (B.calc bench.old) object (state_in market.now self.old.store) (state_after market.now self.old.store self.new.store) mark answer
@@ -106,33 +106,27 @@ impl Books {
         ensures shape { self.new.store.shape ≡ self.old.store.shape }
         ensures registry { registry_of self.new.store ≡ registry_of self.old.store }
         ensures remembers { Remembers (market_in market.now) self.new.scratch.entries }
-        ensures begun { Begun market.now.objects self.new.store.kept self.new.scratch.positions }
+        ensures as_long { length self.new.scratch.positions ≡ length market.now.objects }
     {
         let alloc = self.scratch.alloc();
-        let mut waiting: Vec<ObjId> = Vec::new(alloc);
-        let mut top = descend(market, &self.store, object, &mut waiting)?;
+        self.inputs.truncate(0);
+        let mut waiting: Vec<Waiting> = Vec::new(alloc);
+        let mut top = descend(alloc, market, &self.store, object, &mut waiting)?;
         let mut runs: u64 = 0;
         loop {
-            match next(
-                market,
-                &self.store,
-                &mut self.scratch,
-                top,
-                &mut self.inputs,
-            )? {
-                Step::Stops(cause) => return Ok(answered(Some(cause), mark, runs)),
-                Step::First(needed) => {
-                    waiting.push(top)?;
-                    top = descend(market, &self.store, needed, &mut waiting)?;
+            match self.turn(market, top, bench)? {
+                Turn::Stops(cause) => return Ok(answered(Some(cause), mark, runs)),
+                Turn::Waits(needed) => {
+                    waiting.push(set_aside(alloc, top, &mut self.inputs))?;
+                    top = descend(alloc, market, &self.store, needed, &mut waiting)?;
                 }
-                Step::Ready => {
-                    let cause = compute(alloc, market, &mut self.store, top, &self.inputs, bench)?;
+                Turn::Ran(cause) => {
                     runs += 1;
                     if cause.is_some() {
                         return Ok(answered(cause, mark, runs));
                     }
                     match waiting.pop() {
-                        Some(under) => top = under,
+                        Some(under) => top = take_back(&mut self.inputs, under),
                         None => return Ok(answered(None, mark, runs)),
                     }
                 }
@@ -161,20 +155,33 @@ fn last_answer(store: &Store, object: ObjId, mark: Mark) -> Asked
 // Goes down from an object by first members that have to be computed, each of which waits for the next; the last of them.
 #[inline(always)]
 fn descend(
+    alloc: Global,
     market: &Market,
     store: &Store,
     object: ObjId,
-    waiting: &mut Vec<ObjId>,
+    waiting: &mut Vec<Waiting>,
 ) -> Result<ObjId, AllocError>
     requires linked { IsLinked (market_in market.now) }
-    ensures descends { IfOk result (λ low. Descends (market_in market.now) store.now.kept waiting.old.items object waiting.new.items low) }
+    ensures descends { IfOk result (λ low. Descends (market_in market.now) store.now.kept (objects_of waiting.old.items) object (objects_of waiting.new.items) low) }
+    ensures begun { OnOk result (AreBegun (market_in market.now) store.now.kept waiting.old.items → AreBegun (market_in market.now) store.now.kept waiting.new.items) }
 {
     let mut top = object;
     while let Some(needed) = first_needed(market, store, top) {
-        waiting.push(top)?;
+        waiting.push(unread(alloc, top))?;
         top = needed;
     }
     Ok(top)
+}
+
+// An object waits for which nothing was read.
+#[inline(always)]
+fn unread(alloc: Global, object: ObjId) -> Waiting
+    ensures { result ≡ record { object = object; inputs = [] } }
+{
+    Waiting {
+        object,
+        inputs: InputList::new(alloc),
+    }
 }
 
 // The first member of a composite, where it has to be computed.
@@ -202,16 +209,20 @@ fn unless_at_hand(store: &Store, object: ObjId) -> Option<ObjId>
     Some(object)
 }
 
-/// One computation: the value is stored, or the cause is answered.
+/// One computation of an object with these terms and this index: the value is stored, or the cause is answered.
 #[inline(always)]
 pub fn compute<'a, B: Bench>(
     alloc: Global,
     market: &'a Market,
     store: &mut Store,
     object: ObjId,
+    terms: &'a Terms,
+    index: Option<IndexUse<'a>>,
     inputs: &'a InputList,
     bench: &mut B,
 ) -> Result<Option<Cause>, AllocError>
+    requires terms { terms_at (market_in market.now) object ≡ Some terms.now }
+    requires index { index_reading index ≡ index_at (market_in market.now) (named_index terms.now) }
     requires lazy { is_lazy_at (market_in market.now) object ≡ true }
     requires role { role_at store.old.shape object ≡ Some role.Lazy }
     requires fits { (terms : Terms) → terms_at (market_in market.now) object ≡ Some terms → IsWellFormed (reading_at (market_in market.now) object terms inputs.now) }
@@ -222,13 +233,12 @@ pub fn compute<'a, B: Bench>(
     ensures shape { store.new.shape ≡ store.old.shape }
     ensures registry { registry_of store.new ≡ registry_of store.old }
 {
-    let terms = market.objects.own_terms(object);
     let job = Job {
         object,
         terms,
         inputs,
         today: market.today,
-        index: index_named(market, terms),
+        index,
     };
     match bench.price(alloc, &job) {
         Ok(value) => {

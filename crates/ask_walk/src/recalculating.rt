@@ -4,7 +4,6 @@ ghost use Rattle.desk_model.specs.State.{is_late};
 ghost use Rattle.object_store.specs.Market.{market_in, state_in, state_after};
 ghost use Rattle.object_store.specs.Shape.{IsJoined, role_at};
 ghost use Rattle.ask_walk.specs.Reads.{Remembers};
-ghost use Rattle.ask_walk.specs.Begun.{Begun};
 ghost use Rattle.object_store.specs.Scratch.{IsEmpty};
 ghost use Rattle.object_store.specs.Store.{registry_of};
 ghost use Rattle.ask_walk.specs.Asks.{MayAsk, Stays};
@@ -14,6 +13,7 @@ use crate::asking::{answered, compute};
 use crate::books::Books;
 use crate::recalced::Recalced;
 use crate::steps::{Step, next};
+use crate::uses::index_named;
 use desk_names::ObjId;
 use desk_terms::{Asked, Bench, Mark};
 use object_store::{Market, Store};
@@ -60,7 +60,7 @@ impl Books {
         requires may { MayAsk (B.calc bench.old) (state_in market.now self.old.store) object }
         requires early { is_late (state_in market.now self.old.store) object ≡ false }
         requires remembers { Remembers (market_in market.now) self.old.scratch.entries }
-        requires begun { Begun market.now.objects self.old.store.kept self.old.scratch.positions }
+        requires as_long { length self.old.scratch.positions ≡ length market.now.objects }
         requires joined { IsJoined (market_in market.now) self.old.store.shape }
         ensures same { B.calc bench.new ≡ B.calc bench.old }
         ensures recalcs { IfOk result (λ answer. Recalcs (B.calc bench.old) object (state_in market.now self.old.store) (state_in market.now self.new.store) answer
@@ -88,7 +88,7 @@ impl Books {
         requires may { MayAsk (B.calc bench.old) (state_in market.now self.old.store) object }
         requires early { is_late (state_in market.now self.old.store) object ≡ false }
         requires remembers { Remembers (market_in market.now) self.old.scratch.entries }
-        requires begun { Begun market.now.objects self.old.store.kept self.old.scratch.positions }
+        requires as_long { length self.old.scratch.positions ≡ length market.now.objects }
         requires joined { IsJoined (market_in market.now) self.old.store.shape }
         ensures same { B.calc bench.new ≡ B.calc bench.old }
         ensures reprices { IfOk result (λ answer. Reprices (B.calc bench.old) object (state_in market.now self.old.store) self.new.store.kept answer
@@ -101,6 +101,7 @@ impl Books {
         ensures long { (length self.new.scratch.entries ≡ length market.now.objects) × (length self.new.scratch.positions ≡ length market.now.objects) }
     {
         let alloc = self.scratch.alloc();
+        let terms = market.objects.own_terms(object);
         let mut runs: u64 = 0;
         loop {
             match next(
@@ -108,6 +109,7 @@ impl Books {
                 &self.store,
                 &mut self.scratch,
                 object,
+                terms,
                 &mut self.inputs,
             )? {
                 Step::Stops(cause) => return Ok(answered(Some(cause), Mark::Recalc, runs)),
@@ -119,8 +121,18 @@ impl Books {
                     }
                 }
                 Step::Ready => {
+                    let index = index_named(market, terms);
                     let inputs = &self.inputs;
-                    let cause = compute(alloc, market, &mut self.store, object, inputs, bench)?;
+                    let cause = compute(
+                        alloc,
+                        market,
+                        &mut self.store,
+                        object,
+                        terms,
+                        index,
+                        inputs,
+                        bench,
+                    )?;
                     return Ok(answered(cause, Mark::Recalc, runs + 1));
                 }
             }

@@ -1,12 +1,13 @@
 // What an ask does next at an object.
-ghost use Rattle.std.specs.Prelude.{◌≡◌, true, ◌<◌, ◌≤◌, take, length, Some, None, Ok, Err, IfOk, OnOk, [], ◌∷◌, ◌++◌, slice_index_or};
+ghost use Rattle.std.specs.Prelude.{◌≡◌, true, ◌<◌, length, Some, None, Ok, Err, IfOk, OnOk, [], ◌∷◌, ◌++◌};
 ghost use Rattle.desk_terms.specs.declared.value.Value.{Value};
+ghost use Rattle.desk_model.specs.Market.{terms_at};
 ghost use Rattle.desk_model.specs.Uses.{member_entries, uses};
 ghost use Rattle.desk_model.specs.Fresh.{input_of};
 ghost use Rattle.desk_model.specs.Next.{next_of};
 ghost use Rattle.desk_model.specs.Links.{IsLinked, IsKinded, is_lazy_at};
 ghost use Rattle.ask_walk.specs.Reads.{Remembers};
-ghost use Rattle.ask_walk.specs.Begun.{AreSettled, Begun};
+ghost use Rattle.ask_walk.specs.Begun.{AreRead, IsBegun};
 ghost use Rattle.ask_walk.specs.Steps.{next_with};
 ghost use Rattle.object_store.specs.Market.{market_in};
 ghost use Rattle.object_store.specs.Slots.{answer_of, answered, answered_of, is_at_hand};
@@ -59,69 +60,59 @@ fn answer(store: &Store, object: ObjId) -> Option<Result<&Value, Cause>>
     }
 }
 
-// What an ask does next at a composite of these parts, of which the first were read and are settled. It reads on from
-// there, and all of them once more when all are settled; where none was read yet, once.
+// What an ask does next at a composite of these parts, of which the first were read. It reads on behind them.
 #[inline(always)]
-fn next_member(
+pub fn next_member(
     alloc: Global,
     store: &Store,
     parts: &[Part],
-    begun: &mut usize,
     inputs: &mut InputList,
 ) -> Result<Step, AllocError>
-    requires empty { inputs.old ≡ [] }
-    requires low { begun.old ≤ length parts.now }
-    requires settled { AreSettled store.now.kept (take begun.old parts.now) }
+    requires read { AreRead store.now.kept inputs.old parts.now }
     ensures next { IfOk result (λ step. next_with inputs.new step ≡ next_of (is_at_hand store.now.kept) (answer_of store.now.kept) (member_entries parts.now)) }
-    ensures low { begun.new ≤ length parts.now }
-    ensures settled { AreSettled store.now.kept (take begun.new parts.now) }
+    ensures read { OnOk result (AreRead store.now.kept inputs.new parts.now) }
 {
-    if *begun == 0 {
-        return all_members(alloc, store, parts, begun, inputs);
-    }
-    while *begun < parts.len() {
-        let part = &parts[*begun];
-        match answer(store, part.member) {
-            Some(outcome) => match outcome {
-                Ok(_) => *begun += 1,
-                Err(cause) => return Ok(Step::Stops(cause)),
-            },
-            None => return Ok(Step::First(part.member)),
-        }
-    }
-    all_members(alloc, store, parts, begun, inputs)
-}
-
-// What an ask does next at a composite of these parts, all of which it reads, up to the first that has to be computed.
-#[inline(always)]
-fn all_members(
-    alloc: Global,
-    store: &Store,
-    parts: &[Part],
-    begun: &mut usize,
-    inputs: &mut InputList,
-) -> Result<Step, AllocError>
-    requires empty { inputs.old ≡ [] }
-    requires low { begun.old ≤ length parts.now }
-    requires settled { AreSettled store.now.kept (take begun.old parts.now) }
-    ensures next { IfOk result (λ step. next_with inputs.new step ≡ next_of (is_at_hand store.now.kept) (answer_of store.now.kept) (member_entries parts.now)) }
-    ensures low { begun.new ≤ length parts.now }
-    ensures settled { AreSettled store.now.kept (take begun.new parts.now) }
-{
-    for at in 0..parts.len() {
+    for at in inputs.len()..parts.len() {
         let part = &parts[at];
         match answer(store, part.member) {
             Some(outcome) => match outcome {
                 Ok(value) => push_value(alloc, value, inputs)?,
                 Err(cause) => return Ok(Step::Stops(cause)),
             },
-            None => {
-                *begun = at;
-                return Ok(Step::First(part.member));
-            }
+            None => return Ok(Step::First(part.member)),
         }
     }
     Ok(Step::Ready)
+}
+
+// What an ask does next where a price takes this entry alone.
+#[inline(always)]
+fn next_entry(
+    alloc: Global,
+    store: &Store,
+    entry: Entry,
+    inputs: &mut InputList,
+) -> Result<Step, AllocError>
+    requires empty { inputs.old ≡ [] }
+    ensures { IfOk result (λ step. next_with inputs.new step ≡ next_of (is_at_hand store.now.kept) (answer_of store.now.kept) (entry ∷ [])) }
+{
+    match entry {
+        Entry::Gives(rate) => {
+            inputs.push(Input::Rate(rate))?;
+            Ok(Step::Ready)
+        }
+        Entry::Refuses(cause) => Ok(Step::Stops(cause)),
+        Entry::Needs(object) => match answer(store, object) {
+            Some(outcome) => match outcome {
+                Ok(held) => {
+                    push_value(alloc, held, inputs)?;
+                    Ok(Step::Ready)
+                }
+                Err(cause) => Ok(Step::Stops(cause)),
+            },
+            None => Ok(Step::First(object)),
+        },
+    }
 }
 
 // What an ask does next where a price takes these entries.
@@ -150,44 +141,38 @@ fn next_entries(
     Ok(Step::Ready)
 }
 
-/// What an ask does next at a lazy object. The inputs are those that its price takes, where it is ready.
+/// What an ask does next at a lazy object with these terms. The inputs are those that its price takes, where it is ready;
+/// those of a composite that is not are the ones of its first members.
 #[inline(always)]
 pub fn next(
     market: &Market,
     store: &Store,
     scratch: &mut Scratch,
     object: ObjId,
+    terms: &Terms,
     inputs: &mut InputList,
 ) -> Result<Step, AllocError>
+    requires terms { terms_at (market_in market.now) object ≡ Some terms.now }
     requires lazy { is_lazy_at (market_in market.now) object ≡ true }
     requires kinds { IsKinded (market_in market.now) }
     requires linked { IsLinked (market_in market.now) }
     requires remembers { Remembers (market_in market.now) scratch.old.entries }
-    requires begun { Begun market.now.objects store.now.kept scratch.old.positions }
     ensures remembers { Remembers (market_in market.now) scratch.new.entries }
-    ensures begun { Begun market.now.objects store.now.kept scratch.new.positions }
+    ensures positions { scratch.new.positions ≡ scratch.old.positions }
     ensures next { IfOk result (λ step. next_with inputs.new step ≡ next_of (is_at_hand store.now.kept) (answer_of store.now.kept) (uses (market_in market.now) object)) }
+    ensures begun { OnOk result (IsBegun (market_in market.now) store.now.kept object inputs.new) }
 {
     inputs.truncate(0);
     let alloc = scratch.alloc();
-    match market.objects.own_terms(object) {
+    match terms {
         Terms::Stock { quote } => {
             let entry = read(market, scratch, *quote)?;
-            next_entries(alloc, store, &[entry], inputs)
+            next_entry(alloc, store, entry, inputs)
         }
-        Terms::Composite(parts) => {
-            let was = scratch.position(object);
-            let mut at = was;
-            let step = next_member(alloc, store, parts.items(), &mut at, inputs)?;
-            if at == was {
-                return Ok(step);
-            }
-            scratch.advance(object, at)?;
-            Ok(step)
-        }
+        Terms::Composite(parts) => next_member(alloc, store, parts.items(), inputs),
         Terms::Implied { curve, .. } => {
             let entry = read(market, scratch, *curve)?;
-            next_entries(alloc, store, &[entry], inputs)
+            next_entry(alloc, store, entry, inputs)
         }
         Terms::Curve(curve) => {
             let helpers = curve.helpers.items();

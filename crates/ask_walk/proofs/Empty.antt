@@ -16,8 +16,5 @@ remembers_empty today slots scratch empty = record {
   entries = λ x entry there. absurd (some_none entry (sym there ∙ empty.entries x));
 }
 
-pub positions_empty : (n : ℕ) (scratch : ScratchView) → IsEmpty n scratch → length scratch.positions ≡ n
-positions_empty n scratch empty = empty.as_long
-
-pub empty_again : (n : ℕ) (old new : ScratchView) → AreClear old new → length old.entries ≡ n → length old.positions ≡ n → IsEmpty n new
-empty_again n old new clear long as_long = record { entries = clear.entries; positions = clear.positions; long = clear.long ∙ long; as_long = clear.as_long ∙ as_long; touched = clear.touched }
+pub empty_again : (n : ℕ) (old new : ScratchView) → AreClear old new → length old.entries ≡ n → IsEmpty n new
+empty_again n old new clear long = record { entries = clear.entries; long = clear.long ∙ long; touched = clear.touched }

@@ -94,7 +94,6 @@ impl Books {
         requires free { held (state_in market.now self.old.store) object ≡ None }
         requires stale { is_now self.old.store.kept object ≡ false }
         requires remembers { Remembers (market_in market.now) self.old.scratch.entries }
-        requires as_long { length self.old.scratch.positions ≡ length market.now.objects }
         requires joined { IsJoined (market_in market.now) self.old.store.shape }
         ensures same { B.calc bench.new ≡ B.calc bench.old }
         ensures walks { IfOk result (λ answer. Walks (B.calc bench.old) object (state_in market.now self.old.store) (state_after market.now self.old.store self.new.store) mark answer
@@ -106,7 +105,6 @@ impl Books {
         ensures shape { self.new.store.shape ≡ self.old.store.shape }
         ensures registry { registry_of self.new.store ≡ registry_of self.old.store }
         ensures remembers { Remembers (market_in market.now) self.new.scratch.entries }
-        ensures as_long { length self.new.scratch.positions ≡ length market.now.objects }
     {
         let alloc = self.scratch.alloc();
         self.inputs.truncate(0);

@@ -60,7 +60,6 @@ impl Books {
         requires may { MayAsk (B.calc bench.old) (state_in market.now self.old.store) object }
         requires early { is_late (state_in market.now self.old.store) object ≡ false }
         requires remembers { Remembers (market_in market.now) self.old.scratch.entries }
-        requires as_long { length self.old.scratch.positions ≡ length market.now.objects }
         requires joined { IsJoined (market_in market.now) self.old.store.shape }
         ensures same { B.calc bench.new ≡ B.calc bench.old }
         ensures recalcs { IfOk result (λ answer. Recalcs (B.calc bench.old) object (state_in market.now self.old.store) (state_in market.now self.new.store) answer
@@ -69,7 +68,7 @@ impl Books {
             (B.count bench.old) (B.count bench.new) (B.log bench.old) (B.log bench.new)) }
         ensures stays { Stays (B.calc bench.old) (state_in market.now self.new.store) }
         ensures shape { self.new.store.shape ≡ self.old.store.shape }
-        ensures long { (length self.new.scratch.entries ≡ length market.now.objects) × (length self.new.scratch.positions ≡ length market.now.objects) }
+        ensures long { length self.new.scratch.entries ≡ length market.now.objects }
     {
         let answer = self.reprice(market, object, bench)?;
         outdate_refused(&mut self.store, object, answer.cause.is_some());
@@ -88,7 +87,6 @@ impl Books {
         requires may { MayAsk (B.calc bench.old) (state_in market.now self.old.store) object }
         requires early { is_late (state_in market.now self.old.store) object ≡ false }
         requires remembers { Remembers (market_in market.now) self.old.scratch.entries }
-        requires as_long { length self.old.scratch.positions ≡ length market.now.objects }
         requires joined { IsJoined (market_in market.now) self.old.store.shape }
         ensures same { B.calc bench.new ≡ B.calc bench.old }
         ensures reprices { IfOk result (λ answer. Reprices (B.calc bench.old) object (state_in market.now self.old.store) self.new.store.kept answer
@@ -98,7 +96,7 @@ impl Books {
         ensures stays { OnErr result (Stays (B.calc bench.old) (state_after market.now self.old.store self.new.store)) }
         ensures shape { self.new.store.shape ≡ self.old.store.shape }
         ensures registry { registry_of self.new.store ≡ registry_of self.old.store }
-        ensures long { (length self.new.scratch.entries ≡ length market.now.objects) × (length self.new.scratch.positions ≡ length market.now.objects) }
+        ensures long { length self.new.scratch.entries ≡ length market.now.objects }
     {
         let alloc = self.scratch.alloc();
         let terms = market.objects.own_terms(object);

@@ -158,7 +158,6 @@ pub fn next(
     requires linked { IsLinked (market_in market.now) }
     requires remembers { Remembers (market_in market.now) scratch.old.entries }
     ensures remembers { Remembers (market_in market.now) scratch.new.entries }
-    ensures positions { scratch.new.positions ≡ scratch.old.positions }
     ensures next { IfOk result (λ step. next_with inputs.new step ≡ next_of (is_at_hand store.now.kept) (answer_of store.now.kept) (uses (market_in market.now) object)) }
     ensures begun { OnOk result (IsBegun (market_in market.now) store.now.kept object inputs.new) }
 {

@@ -60,7 +60,6 @@ impl Books {
         ensures shape { self.new.store.shape ≡ self.old.store.shape }
         ensures registry { registry_of self.new.store ≡ registry_of self.old.store }
         ensures remembers { Remembers (market_in market.now) self.new.scratch.entries }
-        ensures positions { self.new.scratch.positions ≡ self.old.scratch.positions }
     {
         let alloc = self.scratch.alloc();
         let terms = market.objects.own_terms(object);

@@ -1,4 +1,4 @@
-use Rattle.std.proofs.Common.{◌≡◌, List, length, None, refl, sym, ◌∙◌, ap, subst, arith}
+use Rattle.std.proofs.Common.{◌≡◌, List, None, refl, sym, ◌∙◌, ap, subst, arith}
 use Rattle.desk_terms.specs.declared.asked.Mark.TheVariants.{Recalc}
 use Rattle.desk_model.specs.declared.kept.Kept.{Kept}
 use Rattle.desk_model.specs.State.{held}
@@ -13,7 +13,7 @@ use Rattle.ask_walk.proofs.books.Books.reprice.Goals as goal
 
 pub loop-cause-init : goal.loop-cause-init
 loop-cause-init g c =
-    (refl, settling (g.B.Bench.calc c.args.bench.now) (state_in c.args.market.now c.args.self.now.store) c.args.object (g.B.Bench.count c.args.bench.now) (g.B.Bench.log c.args.bench.now) c.requires.may c.requires.early, c.requires.remembers, c.requires.as_long, refl, refl)
+    (refl, settling (g.B.Bench.calc c.args.bench.now) (state_in c.args.market.now c.args.self.now.store) c.args.object (g.B.Bench.count c.args.bench.now) (g.B.Bench.log c.args.bench.now) c.requires.may c.requires.early, c.requires.remembers, refl, refl)
 
 pub returns-in_err-cause-clause-stops : goal.returns-in_err-cause-clause-stops
 returns-in_err-cause-clause-stops g c =
@@ -29,12 +29,12 @@ returns-in-Stops-clause-reprices g c =
 
 pub walk-requires-clause-may : goal.walk-requires-clause-may
 walk-requires-clause-may g c =
-    subst (λ (on : Registry). MayAsk (g.B.Bench.calc c.loop-cause.bench) (state_of c.args.market.now.today c.args.market.now.objects c.loop-cause.self.store.kept on) c.in-First.needed) (sym c.loop-cause.invariant.5)
+    subst (λ (on : Registry). MayAsk (g.B.Bench.calc c.loop-cause.bench) (state_of c.args.market.now.today c.args.market.now.objects c.loop-cause.self.store.kept on) c.in-First.needed) (sym c.loop-cause.invariant.4)
     (subst (λ k. MayAsk k (state_of c.args.market.now.today c.args.market.now.objects c.loop-cause.self.store.kept (registry_of c.args.self.now.store)) c.in-First.needed) (sym c.loop-cause.invariant.0) (needed_may _ _ _ _ _ _ _ _ _ c.loop-cause.invariant.1 c.in-First.needed (sym c.in_ok-cause.ensures.next ∙ ap (next_with c.next.new.inputs) c.in-First.is)))
 
 pub walk-requires-clause-free : goal.walk-requires-clause-free
 walk-requires-clause-free g c =
-    subst (λ (on : Registry). held (state_of c.args.market.now.today c.args.market.now.objects c.loop-cause.self.store.kept on) c.in-First.needed ≡ None) (sym c.loop-cause.invariant.5) (needed_free _ _ _ _ _ _ _ _ _ c.loop-cause.invariant.1 c.in-First.needed (sym c.in_ok-cause.ensures.next ∙ ap (next_with c.next.new.inputs) c.in-First.is))
+    subst (λ (on : Registry). held (state_of c.args.market.now.today c.args.market.now.objects c.loop-cause.self.store.kept on) c.in-First.needed ≡ None) (sym c.loop-cause.invariant.4) (needed_free _ _ _ _ _ _ _ _ _ c.loop-cause.invariant.1 c.in-First.needed (sym c.in_ok-cause.ensures.next ∙ ap (next_with c.next.new.inputs) c.in-First.is))
 
 pub walk-requires-clause-stale : goal.walk-requires-clause-stale
 walk-requires-clause-stale g c =
@@ -44,7 +44,7 @@ pub returns-in_err-answer-in-First-clause-stops : goal.returns-in_err-answer-in-
 returns-in_err-answer-in-First-clause-stops g c =
     on_err _ (stopped_within _ _ _ _ _ _ _ _ _ c.loop-cause.invariant.1 c.in-First.needed (sym c.in_ok-cause.ensures.next ∙ ap (next_with c.next.new.inputs) c.in-First.is) c.walk.new.self.store.kept (g.B.Bench.count c.walk.new.bench) (g.B.Bench.log c.walk.new.bench)
     (subst (λ k. Stops k c.in-First.needed (state_of c.args.market.now.today c.args.market.now.objects c.loop-cause.self.store.kept (registry_of c.args.self.now.store)) (state_of c.args.market.now.today c.args.market.now.objects c.walk.new.self.store.kept (registry_of c.args.self.now.store)) (g.B.Bench.count c.loop-cause.bench) (g.B.Bench.count c.walk.new.bench) (g.B.Bench.log c.loop-cause.bench) (g.B.Bench.log c.walk.new.bench)) c.loop-cause.invariant.0
-    (subst (λ (on : Registry). Stops (g.B.Bench.calc c.loop-cause.bench) c.in-First.needed (state_of c.args.market.now.today c.args.market.now.objects c.loop-cause.self.store.kept on) (state_of c.args.market.now.today c.args.market.now.objects c.walk.new.self.store.kept on) (g.B.Bench.count c.loop-cause.bench) (g.B.Bench.count c.walk.new.bench) (g.B.Bench.log c.loop-cause.bench) (g.B.Bench.log c.walk.new.bench)) c.loop-cause.invariant.5 c.in_err-answer-in-First.ensures.stops)))
+    (subst (λ (on : Registry). Stops (g.B.Bench.calc c.loop-cause.bench) c.in-First.needed (state_of c.args.market.now.today c.args.market.now.objects c.loop-cause.self.store.kept on) (state_of c.args.market.now.today c.args.market.now.objects c.walk.new.self.store.kept on) (g.B.Bench.count c.loop-cause.bench) (g.B.Bench.count c.walk.new.bench) (g.B.Bench.log c.loop-cause.bench) (g.B.Bench.log c.walk.new.bench)) c.loop-cause.invariant.4 c.in_err-answer-in-First.ensures.stops)))
 
 pub overflow_add-runs : goal.overflow_add-runs
 overflow_add-runs g c =
@@ -54,23 +54,22 @@ pub returns-then-is_some-clause-reprices : goal.returns-then-is_some-clause-repr
 returns-then-is_some-clause-reprices g c =
     settling_refused _ _ _ _ _ _ _ _ _ c.loop-cause.invariant.1 c.in-First.needed (sym c.in_ok-cause.ensures.next ∙ ap (next_with c.next.new.inputs) c.in-First.is) c.walk.new.self.store.kept c.in_ok-answer-in-First.answer (g.B.Bench.count c.walk.new.bench) (g.B.Bench.log c.walk.new.bench)
     (subst (λ k. Walks k c.in-First.needed (state_of c.args.market.now.today c.args.market.now.objects c.loop-cause.self.store.kept (registry_of c.args.self.now.store)) (state_of c.args.market.now.today c.args.market.now.objects c.walk.new.self.store.kept (registry_of c.args.self.now.store)) Recalc c.in_ok-answer-in-First.answer (g.B.Bench.count c.loop-cause.bench) (g.B.Bench.count c.walk.new.bench) (g.B.Bench.log c.loop-cause.bench) (g.B.Bench.log c.walk.new.bench)) c.loop-cause.invariant.0
-    (subst (λ (on : Registry). Walks (g.B.Bench.calc c.loop-cause.bench) c.in-First.needed (state_of c.args.market.now.today c.args.market.now.objects c.loop-cause.self.store.kept on) (state_of c.args.market.now.today c.args.market.now.objects c.walk.new.self.store.kept on) Recalc c.in_ok-answer-in-First.answer (g.B.Bench.count c.loop-cause.bench) (g.B.Bench.count c.walk.new.bench) (g.B.Bench.log c.loop-cause.bench) (g.B.Bench.log c.walk.new.bench)) c.loop-cause.invariant.5 c.in_ok-answer-in-First.ensures.walks))
+    (subst (λ (on : Registry). Walks (g.B.Bench.calc c.loop-cause.bench) c.in-First.needed (state_of c.args.market.now.today c.args.market.now.objects c.loop-cause.self.store.kept on) (state_of c.args.market.now.today c.args.market.now.objects c.walk.new.self.store.kept on) Recalc c.in_ok-answer-in-First.answer (g.B.Bench.count c.loop-cause.bench) (g.B.Bench.count c.walk.new.bench) (g.B.Bench.log c.loop-cause.bench) (g.B.Bench.log c.walk.new.bench)) c.loop-cause.invariant.4 c.in_ok-answer-in-First.ensures.walks))
     (sym c.is_some.ensures ∙ c.if-is_some.true) c.answered-then-is_some.result c.answered-then-is_some.ensures
 
 pub loop-cause-smaller : goal.loop-cause-smaller
 loop-cause-smaller g c =
     let l = (settling_on _ _ _ _ _ _ _ _ _ c.loop-cause.invariant.1 c.in-First.needed (sym c.in_ok-cause.ensures.next ∙ ap (next_with c.next.new.inputs) c.in-First.is) c.walk.new.self.store.kept c.in_ok-answer-in-First.answer (g.B.Bench.count c.walk.new.bench) (g.B.Bench.log c.walk.new.bench) (subst (λ k. Walks k c.in-First.needed (state_of c.args.market.now.today c.args.market.now.objects c.loop-cause.self.store.kept (registry_of c.args.self.now.store)) (state_of c.args.market.now.today c.args.market.now.objects c.walk.new.self.store.kept (registry_of c.args.self.now.store)) Recalc c.in_ok-answer-in-First.answer (g.B.Bench.count c.loop-cause.bench) (g.B.Bench.count c.walk.new.bench) (g.B.Bench.log c.loop-cause.bench) (g.B.Bench.log c.walk.new.bench)) c.loop-cause.invariant.0
-    (subst (λ (on : Registry). Walks (g.B.Bench.calc c.loop-cause.bench) c.in-First.needed (state_of c.args.market.now.today c.args.market.now.objects c.loop-cause.self.store.kept on) (state_of c.args.market.now.today c.args.market.now.objects c.walk.new.self.store.kept on) Recalc c.in_ok-answer-in-First.answer (g.B.Bench.count c.loop-cause.bench) (g.B.Bench.count c.walk.new.bench) (g.B.Bench.log c.loop-cause.bench) (g.B.Bench.log c.walk.new.bench)) c.loop-cause.invariant.5 c.in_ok-answer-in-First.ensures.walks)) (sym c.is_some.ensures ∙ c.if-is_some.false) c.in_ok-answer-in-First.ensures.few).1 in omega (arith, l)
+    (subst (λ (on : Registry). Walks (g.B.Bench.calc c.loop-cause.bench) c.in-First.needed (state_of c.args.market.now.today c.args.market.now.objects c.loop-cause.self.store.kept on) (state_of c.args.market.now.today c.args.market.now.objects c.walk.new.self.store.kept on) Recalc c.in_ok-answer-in-First.answer (g.B.Bench.count c.loop-cause.bench) (g.B.Bench.count c.walk.new.bench) (g.B.Bench.log c.loop-cause.bench) (g.B.Bench.log c.walk.new.bench)) c.loop-cause.invariant.4 c.in_ok-answer-in-First.ensures.walks)) (sym c.is_some.ensures ∙ c.if-is_some.false) c.in_ok-answer-in-First.ensures.few).1 in omega (arith, l)
 
 pub loop-cause-preserved : goal.loop-cause-preserved
 loop-cause-preserved g c = (
   c.walk.ensures.same ∙ c.loop-cause.invariant.0,
   (settling_on _ _ _ _ _ _ _ _ _ c.loop-cause.invariant.1 c.in-First.needed (sym c.in_ok-cause.ensures.next ∙ ap (next_with c.next.new.inputs) c.in-First.is) c.walk.new.self.store.kept c.in_ok-answer-in-First.answer (g.B.Bench.count c.walk.new.bench) (g.B.Bench.log c.walk.new.bench) (subst (λ k. Walks k c.in-First.needed (state_of c.args.market.now.today c.args.market.now.objects c.loop-cause.self.store.kept (registry_of c.args.self.now.store)) (state_of c.args.market.now.today c.args.market.now.objects c.walk.new.self.store.kept (registry_of c.args.self.now.store)) Recalc c.in_ok-answer-in-First.answer (g.B.Bench.count c.loop-cause.bench) (g.B.Bench.count c.walk.new.bench) (g.B.Bench.log c.loop-cause.bench) (g.B.Bench.log c.walk.new.bench)) c.loop-cause.invariant.0
-      (subst (λ (on : Registry). Walks (g.B.Bench.calc c.loop-cause.bench) c.in-First.needed (state_of c.args.market.now.today c.args.market.now.objects c.loop-cause.self.store.kept on) (state_of c.args.market.now.today c.args.market.now.objects c.walk.new.self.store.kept on) Recalc c.in_ok-answer-in-First.answer (g.B.Bench.count c.loop-cause.bench) (g.B.Bench.count c.walk.new.bench) (g.B.Bench.log c.loop-cause.bench) (g.B.Bench.log c.walk.new.bench)) c.loop-cause.invariant.5 c.in_ok-answer-in-First.ensures.walks)) (sym c.is_some.ensures ∙ c.if-is_some.false) c.in_ok-answer-in-First.ensures.few).0,
+      (subst (λ (on : Registry). Walks (g.B.Bench.calc c.loop-cause.bench) c.in-First.needed (state_of c.args.market.now.today c.args.market.now.objects c.loop-cause.self.store.kept on) (state_of c.args.market.now.today c.args.market.now.objects c.walk.new.self.store.kept on) Recalc c.in_ok-answer-in-First.answer (g.B.Bench.count c.loop-cause.bench) (g.B.Bench.count c.walk.new.bench) (g.B.Bench.log c.loop-cause.bench) (g.B.Bench.log c.walk.new.bench)) c.loop-cause.invariant.4 c.in_ok-answer-in-First.ensures.walks)) (sym c.is_some.ensures ∙ c.if-is_some.false) c.in_ok-answer-in-First.ensures.few).0,
   c.in_ok-answer-in-First.ensures.remembers,
-  c.in_ok-answer-in-First.ensures.as_long,
-  c.walk.ensures.shape ∙ c.loop-cause.invariant.4,
-  c.walk.ensures.registry ∙ c.loop-cause.invariant.5,
+  c.walk.ensures.shape ∙ c.loop-cause.invariant.3,
+  c.walk.ensures.registry ∙ c.loop-cause.invariant.4,
 )
 
 pub compute-requires-clause-fits : goal.compute-requires-clause-fits
@@ -94,18 +93,3 @@ returns-in-Ready-clause-reprices g c =
     settling_ends _ _ _ _ _ _ _ _ _ c.loop-cause.invariant.1 c.next.new.inputs (sym c.in_ok-cause.ensures.next ∙ ap (next_with c.next.new.inputs) c.in-Ready.is) c.compute.new.store.kept c.in_ok-cause-in-Ready.cause c.answered-in-Ready.result (g.B.Bench.count c.compute.new.bench) (g.B.Bench.log c.compute.new.bench)
     (subst (λ k. Computes k (market_in c.args.market.now) c.args.object c.next.new.inputs c.loop-cause.self.store.kept c.compute.new.store.kept c.in_ok-cause-in-Ready.cause (g.B.Bench.count c.loop-cause.bench) (g.B.Bench.count c.compute.new.bench) (g.B.Bench.log c.loop-cause.bench) (g.B.Bench.log c.compute.new.bench)) c.loop-cause.invariant.0 c.in_ok-cause-in-Ready.ensures.computes)
     c.answered-in-Ready.ensures
-
-pub walk-requires-clause-as_long : goal.walk-requires-clause-as_long
-walk-requires-clause-as_long g c = ap length c.in_ok-cause.ensures.positions ∙ c.loop-cause.invariant.3
-
-pub returns-in_err-cause-clause-long : goal.returns-in_err-cause-clause-long
-returns-in_err-cause-clause-long g c = (c.next.ensures.remembers.same, ap length c.next.ensures.positions ∙ c.loop-cause.invariant.3)
-
-pub returns-in-Stops-clause-long : goal.returns-in-Stops-clause-long
-returns-in-Stops-clause-long g c = (c.next.ensures.remembers.same, ap length c.next.ensures.positions ∙ c.loop-cause.invariant.3)
-
-pub returns-in_err-cause-in-Ready-clause-long : goal.returns-in_err-cause-in-Ready-clause-long
-returns-in_err-cause-in-Ready-clause-long g c = (c.next.ensures.remembers.same, ap length c.next.ensures.positions ∙ c.loop-cause.invariant.3)
-
-pub returns-in-Ready-clause-long : goal.returns-in-Ready-clause-long
-returns-in-Ready-clause-long g c = (c.next.ensures.remembers.same, ap length c.next.ensures.positions ∙ c.loop-cause.invariant.3)

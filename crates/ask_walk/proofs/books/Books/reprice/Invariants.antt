@@ -1,4 +1,4 @@
-use Rattle.std.proofs.Common.{◌≡◌, length}
+use Rattle.std.proofs.Common.{◌≡◌}
 use Rattle.object_store.specs.Market.{market_in, state_in}
 use Rattle.object_store.specs.Store.{registry_of}
 use Rattle.ask_walk.specs.Reads.{Remembers}
@@ -10,7 +10,6 @@ abbrev pub invariant-loop-cause : goal.invariant-loop-cause
 invariant-loop-cause g l = (g.B.Bench.calc l.bench ≡ g.B.Bench.calc l.initial.bench)
     × Settling (g.B.Bench.calc l.initial.bench) (state_in l.market l.initial.self.store) l.fn.object (g.B.Bench.count l.initial.bench) (g.B.Bench.log l.initial.bench) l.self.store.kept l.runs (g.B.Bench.count l.bench) (g.B.Bench.log l.bench)
     × Remembers (market_in l.market) l.self.scratch.entries
-    × (length l.self.scratch.positions ≡ length l.market.objects)
     × (l.self.store.shape ≡ l.initial.self.store.shape)
     × (registry_of l.self.store ≡ registry_of l.initial.self.store)
 

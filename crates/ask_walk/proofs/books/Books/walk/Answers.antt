@@ -42,7 +42,6 @@ loop-waiting-init g c = (
   ),
   refl,
   refl,
-  c.requires.as_long,
 )
 
 pub turn-requires-clause-lazy : goal.turn-requires-clause-lazy
@@ -76,9 +75,6 @@ returns-in_err-cause-clause-shape g c = c.turn.ensures.shape ∙ c.loop-waiting.
 pub returns-in_err-cause-clause-registry : goal.returns-in_err-cause-clause-registry
 returns-in_err-cause-clause-registry g c = c.turn.ensures.registry ∙ c.loop-waiting.invariant.5
 
-pub returns-in_err-cause-clause-as_long : goal.returns-in_err-cause-clause-as_long
-returns-in_err-cause-clause-as_long g c = ap length c.turn.ensures.positions ∙ c.loop-waiting.invariant.6
-
 pub returns-in_err-cause-clause-remembers : goal.returns-in_err-cause-clause-remembers
 returns-in_err-cause-clause-remembers g c = c.turn.ensures.remembers
 
@@ -90,9 +86,6 @@ returns-in-Stops-clause-shape g c = c.turn.ensures.shape ∙ c.loop-waiting.inva
 
 pub returns-in-Stops-clause-registry : goal.returns-in-Stops-clause-registry
 returns-in-Stops-clause-registry g c = c.turn.ensures.registry ∙ c.loop-waiting.invariant.5
-
-pub returns-in-Stops-clause-as_long : goal.returns-in-Stops-clause-as_long
-returns-in-Stops-clause-as_long g c = ap length c.turn.ensures.positions ∙ c.loop-waiting.invariant.6
 
 pub returns-in-Stops-clause-remembers : goal.returns-in-Stops-clause-remembers
 returns-in-Stops-clause-remembers g c = c.turn.ensures.remembers
@@ -106,9 +99,6 @@ returns-in_err-push-in-Waits-clause-shape g c = c.turn.ensures.shape ∙ c.loop-
 pub returns-in_err-push-in-Waits-clause-registry : goal.returns-in_err-push-in-Waits-clause-registry
 returns-in_err-push-in-Waits-clause-registry g c = c.turn.ensures.registry ∙ c.loop-waiting.invariant.5
 
-pub returns-in_err-push-in-Waits-clause-as_long : goal.returns-in_err-push-in-Waits-clause-as_long
-returns-in_err-push-in-Waits-clause-as_long g c = ap length c.turn.ensures.positions ∙ c.loop-waiting.invariant.6
-
 pub returns-in_err-push-in-Waits-clause-remembers : goal.returns-in_err-push-in-Waits-clause-remembers
 returns-in_err-push-in-Waits-clause-remembers g c = c.turn.ensures.remembers
 
@@ -120,9 +110,6 @@ returns-in_err-top-in-Waits-clause-shape g c = c.turn.ensures.shape ∙ c.loop-w
 
 pub returns-in_err-top-in-Waits-clause-registry : goal.returns-in_err-top-in-Waits-clause-registry
 returns-in_err-top-in-Waits-clause-registry g c = c.turn.ensures.registry ∙ c.loop-waiting.invariant.5
-
-pub returns-in_err-top-in-Waits-clause-as_long : goal.returns-in_err-top-in-Waits-clause-as_long
-returns-in_err-top-in-Waits-clause-as_long g c = ap length c.turn.ensures.positions ∙ c.loop-waiting.invariant.6
 
 pub returns-in_err-top-in-Waits-clause-remembers : goal.returns-in_err-top-in-Waits-clause-remembers
 returns-in_err-top-in-Waits-clause-remembers g c = c.turn.ensures.remembers
@@ -136,9 +123,6 @@ returns-then-is_some-clause-shape g c = c.turn.ensures.shape ∙ c.loop-waiting.
 pub returns-then-is_some-clause-registry : goal.returns-then-is_some-clause-registry
 returns-then-is_some-clause-registry g c = c.turn.ensures.registry ∙ c.loop-waiting.invariant.5
 
-pub returns-then-is_some-clause-as_long : goal.returns-then-is_some-clause-as_long
-returns-then-is_some-clause-as_long g c = ap length c.turn.ensures.positions ∙ c.loop-waiting.invariant.6
-
 pub returns-then-is_some-clause-remembers : goal.returns-then-is_some-clause-remembers
 returns-then-is_some-clause-remembers g c = c.turn.ensures.remembers
 
@@ -150,9 +134,6 @@ returns-in-None-clause-shape g c = c.turn.ensures.shape ∙ c.loop-waiting.invar
 
 pub returns-in-None-clause-registry : goal.returns-in-None-clause-registry
 returns-in-None-clause-registry g c = c.turn.ensures.registry ∙ c.loop-waiting.invariant.5
-
-pub returns-in-None-clause-as_long : goal.returns-in-None-clause-as_long
-returns-in-None-clause-as_long g c = ap length c.turn.ensures.positions ∙ c.loop-waiting.invariant.6
 
 pub returns-in-None-clause-remembers : goal.returns-in-None-clause-remembers
 returns-in-None-clause-remembers g c = c.turn.ensures.remembers
@@ -220,7 +201,6 @@ loop-waiting-preserved-in-Waits g c =
       ),
       c.turn.ensures.shape ∙ c.loop-waiting.invariant.4,
       c.turn.ensures.registry ∙ c.loop-waiting.invariant.5,
-      ap length c.turn.ensures.positions ∙ c.loop-waiting.invariant.6,
     )
 
 pub overflow_add-runs : goal.overflow_add-runs
@@ -259,7 +239,6 @@ loop-waiting-preserved g c =
       ),
       c.turn.ensures.shape ∙ c.loop-waiting.invariant.4,
       c.turn.ensures.registry ∙ c.loop-waiting.invariant.5,
-      ap length c.turn.ensures.positions ∙ c.loop-waiting.invariant.6,
     )
 
 pub returns-in-None-clause-walks : goal.returns-in-None-clause-walks

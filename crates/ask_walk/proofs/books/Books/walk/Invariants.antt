@@ -13,7 +13,6 @@ invariant-loop-waiting g l = (g.B.Bench.calc l.bench ≡ g.B.Bench.calc l.initia
     × (IsBegun (market_in l.market) l.self.store.kept l.top l.self.inputs × AreBegun (market_in l.market) l.self.store.kept l.waiting.items)
     × (l.self.store.shape ≡ l.initial.self.store.shape)
     × (registry_of l.self.store ≡ registry_of l.initial.self.store)
-    × (length l.self.scratch.positions ≡ length l.market.objects)
 
 abbrev pub decreases-loop-waiting : goal.decreases-loop-waiting
 decreases-loop-waiting g l = open_of l.self.store.kept * (length l.market.objects + 3) + (length l.market.objects + 2 - (length l.waiting.items + 1))

@@ -1,5 +1,5 @@
 // What objects give where others name them: a quote at once, all else by a stack and at most once.
-ghost use Rattle.std.specs.Prelude.{◌≡◌, ◌<◌, length, None, Some, IfOk, slice_index_or};
+ghost use Rattle.std.specs.Prelude.{◌≡◌, ◌<◌, length, ℕ, Option, None, Some, IfOk, IfSome, slice_index_or};
 ghost use Rattle.desk_model.specs.Market.{terms_in};
 ghost use Rattle.desk_model.specs.declared.slot.Slot.TheVariants.{Free};
 ghost use Rattle.desk_model.specs.Uses.{input_at, derived_entry, rate_entry};
@@ -7,6 +7,8 @@ ghost use Rattle.desk_model.specs.Links.{IsLinked};
 ghost use Rattle.std.specs.Prelude.{ℤ, ◌-ℤ◌, ◌+ℤ◌, if◌then◌else◌};
 ghost use Rattle.object_store.specs.Market.{market_in};
 ghost use Rattle.object_store.specs.Objects.{quoted};
+ghost use Rattle.desk_model.specs.declared.entry.Entry.{Entry};
+ghost use Rattle.ask_walk.specs.declared.reader.Look.TheVariants.{Is};
 ghost use Rattle.ask_walk.specs.Reads.{recalled, Remembers, given_by, passed_to, quote_entry, and_sum, and_is};
 
 use desk_model::Entry;
@@ -25,8 +27,44 @@ pub enum Look {
     First(ObjId),
 }
 
-/// What an object gives where another names it. What one look tells is answered at once; what took more is remembered.
+/// What an object gives where another names it: a quote, which is looked at first, what its value is. What one look tells
+/// is answered at once; what took more is remembered.
 pub fn read(market: &Market, scratch: &mut Scratch, object: ObjId) -> Result<Entry, AllocError>
+    requires linked { IsLinked (market_in market.now) }
+    requires within { object < length market.now.objects }
+    requires remembers { Remembers (market_in market.now) scratch.old.entries }
+    ensures entry { IfOk result (λ entry. entry ≡ input_at (market_in market.now) object) }
+    ensures remembers { Remembers (market_in market.now) scratch.new.entries }
+{
+    match quote_given(&market.objects, object) {
+        Some(entry) => Ok(entry),
+        None => read_passed(market, scratch, object),
+    }
+}
+
+// What a quote gives; none where another object stands.
+fn quote_given(objects: &Objects, object: ObjId) -> Option<Entry>
+    ensures { IfSome result (λ entry. (memo : ℕ → Option Entry) → given_by memo object (terms_in (slice_index_or objects.now object Free)) ≡ Is entry) }
+{
+    match objects.terms(object) {
+        None => None,
+        Some(terms) => match terms {
+            Terms::Quote(_) => Some(quoted(object, objects.value(object))),
+            Terms::Derived { .. }
+            | Terms::Handle { .. }
+            | Terms::Index(..)
+            | Terms::Engine { .. }
+            | Terms::Curve(_)
+            | Terms::Implied { .. }
+            | Terms::Stock { .. }
+            | Terms::Composite(_)
+            | Terms::Flows(..) => None,
+        },
+    }
+}
+
+// The same of any object.
+fn read_passed(market: &Market, scratch: &mut Scratch, object: ObjId) -> Result<Entry, AllocError>
     requires linked { IsLinked (market_in market.now) }
     requires within { object < length market.now.objects }
     requires remembers { Remembers (market_in market.now) scratch.old.entries }

@@ -18,7 +18,7 @@ unfolding weekday_number moon_days sunday_days early_weeks easter_place easter_d
 all_sundays = refl
 
 -- what holds of each element holds at a place
-holds_at : (p : ℕ → Bool) (xs : List ℕ) (i : ℕ) → i < length xs → list_all p xs ≡ true → p (get_or xs i 0) ≡ true
+pub holds_at : (p : ℕ → Bool) (xs : List ℕ) (i : ℕ) → i < length xs → list_all p xs ≡ true → p (get_or xs i 0) ≡ true
 holds_at p xs i lt all =
     elim (p (get_or xs i 0)) as (λ b. p (get_or xs i 0) ≡ b → b ≡ true) [
       | true ↦ λ e. refl

@@ -1,5 +1,5 @@
 // TARGET's holidays.
-ghost use Rattle.std.specs.Prelude.{◌≡◌, pos};
+ghost use Rattle.std.specs.Prelude.{◌≡◌, ◌==◌, ◌||◌, pos};
 ghost use Rattle.jiff_core.specs.Calendar.{IsBetween};
 ghost use Rattle.holiday_calendars.specs.Target.{is_fixed_holiday, is_easter_holiday, is_target_holiday, is_target_day};
 
@@ -32,13 +32,25 @@ fn is_beside_easter(year: i32, day: Day) -> bool
     }
 }
 
+// Whether a month is March or April, in which Good Friday and Easter Monday lie in every year.
+fn is_of_easter(month: u8) -> bool
+    ensures { result ≡ ((month == 3) || (month == 4)) }
+{
+    month == 3 || month == 4
+}
+
 // One of the days, weekends apart, on which TARGET is closed.
-#[tactic(auto, unfolding(crate::specs::Target::is_target_holiday))]
 fn is_holiday(day: Day) -> bool
     ensures { result ≡ is_target_holiday day }
 {
     let (year, month, day_of_month) = day.parts();
-    is_fixed(month, day_of_month) || is_beside_easter(year, day)
+    if is_fixed(month, day_of_month) {
+        return true;
+    }
+    if !is_of_easter(month) {
+        return false;
+    }
+    is_beside_easter(year, day)
 }
 
 // Whether TARGET is open.

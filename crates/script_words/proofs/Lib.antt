@@ -1,5 +1,6 @@
 pub mod Interning
 pub mod Lines
+pub mod LineWords
 pub mod Words
 pub mod WordBytes
 pub mod Sorts
@@ -7,4 +8,3 @@ pub mod PrintedLines
 pub mod Fields
 pub mod ReadFields
 pub mod NamedWords
-pub mod Runs

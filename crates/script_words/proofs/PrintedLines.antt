@@ -1,17 +1,17 @@
 -- The lines of a printed text, and the words of a printed line.
-use Rattle.std.proofs.Common.{◌≡◌, ℕ, zero, suc, ◌-◌, Bool, true, false, not, ◌&&◌, ◌==◌, cond, List, [], ◌∷◌, ◌++◌, length, nat_lt, nat_le, refl, sym, ap, ◌∙◌, arith, All, slice_index, take, filter}
-use Rattle.std.specs.List.{list_all, slice_split}
+use Rattle.std.proofs.Common.{◌≡◌, ℕ, zero, suc, ◌-◌, Bool, true, false, ◌&&◌, ◌==◌, cond, List, [], ◌∷◌, ◌++◌, length, nat_le, refl, ap, ◌∙◌, arith, All, slice_index, take}
+use Rattle.std.specs.List.{list_all}
 use Rattle.std.specs.Str.Lines.{lines, lines_of_parts, strip_carriage_return}
 use Rattle.std.proofs.lemmas.Bool.{and_parts, and_from, lt-ltb}
 use Rattle.std.proofs.lemmas.Bool.Decides.{nat_tests}
 use Rattle.std.proofs.lemmas.List.{append-nil}
-use Rattle.std.proofs.lemmas.List.Elements.{All-nil, All-cons, All-head, All-tail}
+use Rattle.std.proofs.lemmas.List.Elements.{All-head, All-tail}
 use Rattle.std.proofs.lemmas.List.Folds.{list_all-append}
-use Rattle.std.proofs.lemmas.List.Splits.{slice_split_at, slice_split_none}
-use Rattle.std.proofs.lemmas.List.Sums.{take_while-cons}
-use Rattle.script_words.specs.Line.{is_good, is_blank, before_comment, words_of}
+use Rattle.std.proofs.lemmas.List.Splits.{slice_split_at}
+use Rattle.script_words.specs.Line.{is_good, words_of}
 use Rattle.script_words.proofs.Lines.{more_lines}
-use Rattle.script_words.proofs.WordBytes.{is_word_byte, IsWord, all_weaker}
+use Rattle.script_words.proofs.LineWords.{is_word_byte, all_weaker, all_false, words_blank, words_end}
+use Rattle.script_words.proofs.WordBytes.{IsWord}
 
 -- a printable byte of ASCII
 abbrev pub is_printable : ℕ → Bool
@@ -28,23 +28,11 @@ no_newline byte h = grind (arith, nat_tests)
 no_return : (byte : ℕ) → is_printable byte ≡ true → (byte == 13) ≡ false
 no_return byte h = grind (arith, nat_tests)
 
-no_mark : (byte : ℕ) → is_word_byte byte ≡ true → not (byte == 35) ≡ true
-no_mark byte h = grind (arith, nat_tests)
-
-no_blank : (byte : ℕ) → is_word_byte byte ≡ true → is_blank byte ≡ false
-no_blank byte h = grind (arith, nat_tests)
-
 word_printable : (byte : ℕ) → is_word_byte byte ≡ true → is_printable byte ≡ true
 word_printable byte h = grind (arith, nat_tests)
 
 printable_good : (byte : ℕ) → is_printable byte ≡ true → is_good byte ≡ true
 printable_good byte h = grind (arith, nat_tests)
-
-all_false : (p q : ℕ → Bool) → ((b : ℕ) → p b ≡ true → q b ≡ false) → (bytes : List ℕ) → list_all p bytes ≡ true → All (λ b. q b ≡ false) bytes
-all_false p q more [] h = All-nil (λ b. q b ≡ false)
-all_false p q more (b ∷ bytes) h =
-    let parts = and_parts (p b) (list_all p bytes) h in
-    All-cons (λ b. q b ≡ false) b bytes (more b parts.0) (all_false p q more bytes parts.1)
 
 no_return_at : (line : List ℕ) (at : ℕ) → list_all is_printable line ≡ true → (slice_index line at == 13) ≡ false
 no_return_at [] at h = refl
@@ -60,33 +48,11 @@ line_first line rest h =
     ap lines_of_parts (slice_split_at (λ b. b == 10) line 10 rest (all_false is_printable (λ b. b == 10) no_newline line h) refl)
     ∙ more_lines line rest ∙ ap (λ t. t ∷ lines rest) (no_strip line h)
 
-before_all : (w rest : List ℕ) → list_all is_word_byte w ≡ true → before_comment (w ++ rest) ≡ w ++ before_comment rest
-before_all [] rest h = refl
-before_all (b ∷ w) rest h =
-    let parts = and_parts (is_word_byte b) (list_all is_word_byte w) h in
-    take_while-cons (λ byte. not (byte == 35)) b (w ++ rest)
-    ∙ ap (λ t. cond t (b ∷ before_comment (w ++ rest)) []) (no_mark b parts.0)
-    ∙ ap (λ t. b ∷ t) (before_all w rest parts.1)
-
-before_word : (w : List ℕ) → list_all is_word_byte w ≡ true → before_comment w ≡ w
-before_word w h = ap before_comment (sym (append-nil w)) ∙ before_all w [] h ∙ append-nil w
-
-is_some_word : List ℕ → Bool
-is_some_word word = nat_lt 0 (length word)
-
 words_front : (w rest : List ℕ) → IsWord w → words_of (w ++ 32 ∷ rest) ≡ w ∷ words_of rest
-unfolding words_of is_some_word
-words_front w rest h =
-    ap (λ t. filter (λ word. nat_lt 0 (length word)) (slice_split is_blank t)) (before_all w (32 ∷ rest) h.bytes ∙ ap (λ t. w ++ t) (take_while-cons (λ byte. not (byte == 35)) 32 rest))
-    ∙ ap (filter (λ word. nat_lt 0 (length word))) (slice_split_at is_blank w 32 (before_comment rest) (all_false is_word_byte is_blank no_blank w h.bytes) refl)
-    ∙ ap (λ t. cond t (w ∷ filter (λ word. nat_lt 0 (length word)) (slice_split is_blank (before_comment rest))) (filter (λ word. nat_lt 0 (length word)) (slice_split is_blank (before_comment rest)))) (lt-ltb 0 (length w) h.some)
+words_front w rest h = words_blank w 32 rest h.bytes refl ∙ ap (λ t. cond t (w ∷ words_of rest) (words_of rest)) (lt-ltb 0 (length w) h.some)
 
 words_last : (w : List ℕ) → IsWord w → words_of w ≡ w ∷ []
-unfolding words_of
-words_last w h =
-    ap (λ t. filter (λ word. nat_lt 0 (length word)) (slice_split is_blank t)) (before_word w h.bytes)
-    ∙ ap (filter (λ word. nat_lt 0 (length word))) (slice_split_none is_blank w (all_false is_word_byte is_blank no_blank w h.bytes))
-    ∙ ap (λ t. cond t (w ∷ []) []) (lt-ltb 0 (length w) h.some)
+words_last w h = words_end w h.bytes ∙ ap (λ t. cond t (w ∷ []) []) (lt-ltb 0 (length w) h.some)
 
 -- the words of words with one space between
 pub words_read : (w : List ℕ) (ws : List (List ℕ)) → IsWord w → All IsWord ws → words_of (w ++ spaced ws) ≡ w ∷ ws

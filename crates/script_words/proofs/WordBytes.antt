@@ -1,5 +1,5 @@
 -- The bytes of a printed word.
-use Rattle.std.proofs.Common.{◌≡◌, ℕ, ◌+◌, ◌≤◌, ◌<◌, ◌^◌, ◌/◌, ◌%◌, Bool, true, false, not, ◌&&◌, ◌==◌, List, [], ◌∷◌, ◌++◌, length, nat_le, ℤ, unsigned_abs, refl, ◌∙◌, arith, length-append, rules}
+use Rattle.std.proofs.Common.{◌≡◌, ℕ, ◌+◌, ◌≤◌, ◌<◌, ◌^◌, ◌/◌, ◌%◌, Bool, true, false, not, ◌&&◌, List, [], ◌∷◌, ◌++◌, length, nat_le, ℤ, unsigned_abs, refl, ◌∙◌, arith, length-append, rules}
 use Rattle.std.specs.List.{list_all}
 use Rattle.std.specs.Char.{is_ascii_digit, is_ascii_alphabetic}
 use Rattle.std.specs.Fmt.{decimal, sign_text}
@@ -17,10 +17,7 @@ use Rattle.std.specs.Str.Parse.{digits_value}
 use Rattle.std.proofs.lemmas.Int.{ints}
 use Rattle.std.proofs.lemmas.Str.Parse.{IsNumeralModel, numerals_by_value}
 use Rattle.desk_names.specs.Name.{is_name, has_form, is_name_byte, is_reserved}
-
--- a byte that stands in a word: printable, no blank, no comment's mark
-abbrev pub is_word_byte : ℕ → Bool
-is_word_byte byte = nat_le 33 byte && nat_le byte 126 && not (byte == 35)
+use Rattle.script_words.proofs.LineWords.{is_word_byte, all_weaker}
 
 -- a word: some such bytes
 pub record IsWord (word : List ℕ) : Type 0 where
@@ -30,13 +27,6 @@ pub record IsWord (word : List ℕ) : Type 0 where
 name_byte : (byte : ℕ) → is_name_byte byte ≡ true → is_word_byte byte ≡ true
 unfolding is_name_byte
 name_byte byte h = grind (arith, nat_tests)
-
--- what holds of each byte, and what follows from it
-pub all_weaker : (p q : ℕ → Bool) → ((b : ℕ) → p b ≡ true → q b ≡ true) → (bytes : List ℕ) → list_all p bytes ≡ true → list_all q bytes ≡ true
-all_weaker p q more [] h = refl
-all_weaker p q more (b ∷ bytes) h =
-    let parts = and_parts (p b) (list_all p bytes) h in
-    and_from (q b) (list_all q bytes) (more b parts.0) (all_weaker p q more bytes parts.1)
 
 alphabetic : (byte : ℕ) → is_ascii_alphabetic byte ≡ true → is_name_byte byte ≡ true
 unfolding is_name_byte

@@ -1,7 +1,7 @@
 //! The words of a script: a text in lines, a line in words, and what one further word of a command says, both ways:
 //! bytes to a field or its fault, and a field to bytes.
-//! Offers `next_line`, `has_good_bytes`, `words_of`, `word_at`, `word_said`, `names_new`, `field_of`, `number_of`, `text_at`,
-//! `action_text`, `push_word` and `LineFault`.
+//! Offers `next_line`, `good_words_of`, `word_at`, `word_said`, `names_new`, `field_of`, `number_of`, `text_at`, `action_text`,
+//! `push_word` and `LineFault`.
 #![tactic(auto)]
 
 mod laws;
@@ -11,7 +11,7 @@ mod word;
 mod word_text;
 
 pub use laws::words_law;
-pub use line::{has_good_bytes, next_line, word_at, words_of};
+pub use line::{good_words_of, next_line, word_at};
 pub use line_fault::LineFault;
 pub use word::{field_of, names_new, number_of, number_of_word, weight_of_word, word_said};
 pub use word_text::{action_text, push_word, text_at};

@@ -10,8 +10,8 @@ ghost use Rattle.session_lang.specs.Statement.{Known, ArePlain, PlainOf, names_w
 
 use desk_names::{MOST_NAMES, NameId, Names, is_name};
 use script_words::{
-    LineFault, field_of, has_good_bytes, names_new, number_of, number_of_word, weight_of_word,
-    word_at, word_said, words_of,
+    LineFault, field_of, good_words_of, names_new, number_of, number_of_word, weight_of_word,
+    word_at, word_said,
 };
 use session_commands::{Command, Kind, Parts, ScriptKind, Verb};
 
@@ -305,9 +305,8 @@ pub(crate) fn read_line<'a>(
     ensures grows { Grows names.old names.new }
     ensures kept { Keeps result names.old names.new }
 {
-    if !has_good_bytes(line) {
+    if !good_words_of(line, words)? {
         return Err(LineFault::Kind(ScriptKind::Byte));
     }
-    words_of(line, words)?;
     words_line(words.as_slice(), names, begun, inside)
 }

@@ -1,6 +1,6 @@
 // The line of an ask.
-ghost use Rattle.std.specs.Prelude.{◌≡◌, ◌++◌, OnOk, OnErr, option_copied};
-ghost use Rattle.desk_terms.specs.Asked.{Shows};
+ghost use Rattle.std.specs.Prelude.{◌≡◌, ◌<◌, ◌++◌, OnOk, OnErr, option_copied, codes, decimal};
+ghost use Rattle.desk_terms.specs.Asked.{Shows, mark_word};
 ghost use Rattle.desk_terms.specs.Reading.{Outcome, outcome_in};
 ghost use Rattle.price_report.specs.Front.{KeepsFront};
 ghost use Rattle.price_report.specs.Line.{value_text, answer_text, asked_line};
@@ -72,36 +72,73 @@ fn push_asked(
 {
     line.extend_from_slice(namer.name(name))?;
     line.push(b' ')?;
-    push_answer(alloc, outcome, mark, namer, line)?;
-    push_count(runs, line)?;
-    line.push(b'\n')?;
+    push_answer(alloc, outcome, mark, runs, namer, line)?;
     Ok(())
 }
 
-// Appends a value and the mark, or the cause.
+// Appends a value and the mark, or the cause; then the count and a newline.
 #[tactic(auto, using(crate::proofs::Fronts::front_on, crate::proofs::Fronts::front_same))]
 fn push_answer(
     alloc: Global,
     outcome: &Result<&Value, Cause>,
     mark: Mark,
+    runs: u64,
     namer: &Namer<'_>,
     line: &mut Vec<u8>,
 ) -> Result<(), AllocError>
-    ensures ok { OnOk result (line.new.items
-        ≡ line.old.items ++ answer_text namer.now.names.now namer.now.of_object.now (outcome_in outcome.now) mark) }
+    ensures ok { OnOk result (line.new.items ≡ line.old.items
+        ++ (answer_text namer.now.names.now namer.now.of_object.now (outcome_in outcome.now) mark ++ codes " " ++ decimal runs ++ codes "\n")) }
     ensures err { OnErr result (KeepsFront line.old.items line.new.items) }
 {
     match outcome {
         Ok(value) => {
             push_value(alloc, value, line)?;
-            line.push(b' ')?;
-            line.extend_from_slice(mark.word())
+            push_mark(mark, runs, line)
         }
         Err(cause) => {
             line.extend_from_slice(b"refused ")?;
-            cause_text(alloc, cause, namer, line)
+            cause_text(alloc, cause, namer, line)?;
+            push_runs(runs, line)?;
+            Ok(())
         }
     }
+}
+
+// Appends the mark, the count and a newline. Most values are fresh, with a count of one digit: of these the bytes are
+// appended at once.
+#[tactic(auto, using(crate::proofs::Fronts::front_on, crate::proofs::Fronts::front_same))]
+fn push_mark(mark: Mark, runs: u64, line: &mut Vec<u8>) -> Result<(), AllocError>
+    ensures ok { OnOk result (line.new.items ≡ line.old.items
+        ++ (codes " " ++ mark_word mark ++ codes " " ++ decimal runs ++ codes "\n")) }
+    ensures err { OnErr result (KeepsFront line.old.items line.new.items) }
+{
+    if mark == Mark::Fresh && runs < 10 {
+        return push_fresh(runs as u8, line);
+    }
+    line.push(b' ')?;
+    line.extend_from_slice(mark.word())?;
+    push_runs(runs, line)
+}
+
+// Appends the mark of a fresh value, a count of one digit and a newline.
+#[tactic(auto, using(std::proofs::lemmas::Fmt::decimal_digit, crate::proofs::Fronts::front_same))]
+fn push_fresh(runs: u8, line: &mut Vec<u8>) -> Result<(), AllocError>
+    requires { runs < 10 }
+    ensures ok { OnOk result (line.new.items ≡ line.old.items ++ (codes " fresh " ++ decimal runs ++ codes "\n")) }
+    ensures err { OnErr result (KeepsFront line.old.items line.new.items) }
+{
+    line.extend_from_slice(&[b' ', b'f', b'r', b'e', b's', b'h', b' ', b'0' + runs, b'\n'])
+}
+
+// Appends the count and a newline.
+#[tactic(auto, using(crate::proofs::Fronts::front_on, crate::proofs::Fronts::front_same))]
+fn push_runs(runs: u64, line: &mut Vec<u8>) -> Result<(), AllocError>
+    ensures ok { OnOk result (line.new.items ≡ line.old.items ++ (codes " " ++ decimal runs ++ codes "\n")) }
+    ensures err { OnErr result (KeepsFront line.old.items line.new.items) }
+{
+    push_count(runs, line)?;
+    line.push(b'\n')?;
+    Ok(())
 }
 
 // Appends an amount or a curve.

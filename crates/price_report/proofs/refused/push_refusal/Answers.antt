@@ -1,10 +1,5 @@
-use Rattle.std.proofs.Common.{Result, Ok, Err, OnErr}
-use Rattle.price_report.proofs.Fronts.{front_on}
+use Rattle.price_report.proofs.Fronts.{front_on, on_err}
 use Rattle.price_report.proofs.refused.push_refusal.Goals as goal
-
-on_err : {T E P : Type 0} (r : Result T E) → P → OnErr r P
-on_err (Ok x) p = tt
-on_err (Err e) p = p
 
 -- what stood before the refusal's word is kept, so what stood before the space is, and so on
 pub returns-in_err-push_detail-clause-err : goal.returns-in_err-push_detail-clause-err

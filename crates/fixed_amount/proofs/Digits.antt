@@ -1,12 +1,12 @@
 -- Lemmas on the digits that a text begins with, and on the last digits of a number.
-use Rattle.std.proofs.Common.{◌≡◌, ℕ, zero, suc, ◌+◌, ◌-◌, ◌*◌, ◌/◌, ◌%◌, ◌^◌, ◌<◌, ◌≤◌, Bool, true, false, List, [], ◌∷◌, ◌++◌, length, take, drop, refl, arith, get_or, append_assoc, length-append, add-one, nat_le, decimal, ap, ◌∙◌}
+use Rattle.std.proofs.Common.{◌≡◌, ℕ, zero, suc, ◌+◌, ◌-◌, ◌*◌, ◌/◌, ◌%◌, ◌^◌, ◌<◌, ◌≤◌, Bool, true, false, List, [], ◌∷◌, ◌++◌, length, take, drop, refl, arith, get_or, length-append, nat_le, decimal, ap, sym, ◌∙◌, take_all}
 use Rattle.std.specs.Str.Parse.{digits_value}
 use Rattle.std.proofs.lemmas.Nat.{mod_below}
 use Rattle.std.proofs.lemmas.Int.Digits.{digits_value_push}
 use Rattle.std.proofs.Math.Arith.{mod-mul}
 use Rattle.std.proofs.Math.Numerals.{one-add}
 use Rattle.std.proofs.lemmas.Bool.{and_parts, and_from, leb-true, le-ltb, lt-ltb, le-leb, true_from_ne_false, both_ways}
-use Rattle.std.proofs.lemmas.List.{drop-drop}
+use Rattle.std.proofs.lemmas.List.{drop-drop, take-append-drop, append-nil, length-take-le}
 use Rattle.std.proofs.lemmas.List.Folds.{list_all_at, list_all-append}
 use Rattle.std.specs.Char.{is_ascii_digit, digit_value}
 use Rattle.std.specs.List.{list_all, prefix_len}
@@ -49,6 +49,21 @@ pub prefix_len-all : {X : Type 0} (p : X → Bool) (xs rest : List X) → list_a
 prefix_len-all p [] rest all none = none
 prefix_len-all p (x ∷ xs) rest all none = let h = and_parts (p x) (list_all p xs) all in
     rw (h.0, one-add, prefix_len-all p xs rest h.1 none)
+
+-- digits before what begins with none are counted
+pub count_at : {X : Type 0} (p : X → Bool) (xs : List X) (i : ℕ) → i ≤ length xs → list_all p (take i xs) ≡ true → prefix_len p (drop i xs) ≡ 0 → prefix_len p xs ≡ i
+count_at p xs i le all none = sym (ap (prefix_len p) (take-append-drop i xs)) ∙ prefix_len-all p (take i xs) (drop i xs) all none ∙ length-take-le i xs le
+
+-- where all are counted, all pass
+pub all_counted : {X : Type 0} (p : X → Bool) (xs : List X) → prefix_len p xs ≡ length xs → list_all p xs ≡ true
+all_counted p xs e = sym (ap (list_all p) (ap (λ n. take n xs) e ∙ take_all (length xs) xs (omega arith))) ∙ list_all-front p xs
+
+-- and where not all are, one does not
+pub not_all_counted : {X : Type 0} (p : X → Bool) (xs : List X) → prefix_len p xs < length xs → list_all p xs ≡ false
+not_all_counted p xs less = by (list_all p xs) refl where
+  by : (b : Bool) → list_all p xs ≡ b → list_all p xs ≡ false
+  by true h = let whole : prefix_len p xs ≡ length xs = sym (ap (prefix_len p) (append-nil xs)) ∙ prefix_len-all p xs [] h refl in absurd (omega (arith, whole))
+  by false h = h
 
 -- what follows the digits that a text begins with begins with none
 pub prefix_len-behind : {X : Type 0} (p : X → Bool) (xs : List X) → prefix_len p (drop (prefix_len p xs) xs) ≡ 0

@@ -8,3 +8,4 @@ pub mod Reading
 pub mod DecimalLaws
 pub mod Printed
 pub mod Exact
+pub mod Parts

@@ -1,5 +1,5 @@
 // Decimal text read as a whole number of units.
-ghost use Rattle.std.specs.Prelude.{◌≡◌, ℕ, ℤ, List, [], ◌↔◌, Ok, Err, ◌+◌, ◌-◌, ◌^◌, ◌<◌, ◌≤◌, min, true, length};
+ghost use Rattle.std.specs.Prelude.{◌≡◌, ℕ, ℤ, List, [], ◌↔◌, Ok, Err, ◌+◌, ◌-◌, ◌^◌, ◌<◌, ◌≤◌, min, length, take};
 ghost use Rattle.std.specs.Str.Parse.{digits_value};
 ghost use Rattle.fixed_amount.specs.declared.decimal.DecimalFault.TheVariants.{Empty, Char, Places, Range};
 ghost use Rattle.fixed_amount.specs.Decimal.{WritesUnits, HasManyPlaces, IsOutOfRange, IsFirstFault};
@@ -29,29 +29,28 @@ fn read_whole(at: usize, negative: bool, text: &[u8], places: u8) -> Result<i64,
     requires room { at + length text.now < 2 ^ 64 }
     ensures { result ≡ whole_value at negative text.now places }
 {
-    let count = leading_digits(text);
+    let (count, whole) = leading_number(text);
     if count == 0 {
         return Err(DecimalFault::Char(at));
     }
-    let (whole, rest) = text.split_at(count);
+    let (_, rest) = text.split_at(count);
     read_point(at + count, negative, whole, rest, places)
 }
 
-// What stands behind the whole part, `at` bytes into the text.
+// What stands behind the whole part, `at` bytes into the text. The digits of that part write the number `whole`.
 fn read_point(
     at: usize,
     negative: bool,
-    whole: &[u8],
+    whole: u64,
     text: &[u8],
     places: u8,
 ) -> Result<i64, DecimalFault>
     requires few { places ≤ 18 }
     requires room { at + length text.now < 2 ^ 64 }
-    requires digits { all_digits whole.now ≡ true }
-    ensures { result ≡ point_value at negative whole.now text.now places }
+    ensures { (digits : List ℕ) → whole ≡ min (digits_value 10 digits) (2 ^ 64 - 1) → result ≡ point_value at negative digits text.now places }
 {
     match text {
-        [] => units(negative, whole, text, places),
+        [] => units(negative, whole, 0, 0, places),
         [b'.', fraction @ ..] => read_fraction(at + 1, negative, whole, fraction, places),
         _ => Err(DecimalFault::Char(at)),
     }
@@ -61,49 +60,63 @@ fn read_point(
 fn read_fraction(
     at: usize,
     negative: bool,
-    whole: &[u8],
+    whole: u64,
     text: &[u8],
     places: u8,
 ) -> Result<i64, DecimalFault>
     requires few { places ≤ 18 }
     requires room { at + length text.now < 2 ^ 64 }
-    requires digits { all_digits whole.now ≡ true }
-    ensures { result ≡ fraction_value at negative whole.now text.now places }
+    ensures { (digits : List ℕ) → whole ≡ min (digits_value 10 digits) (2 ^ 64 - 1) → result ≡ fraction_value at negative digits text.now places }
 {
-    if !text.is_empty() && is_digits(text) {
-        return units(negative, whole, text, places);
+    let (count, part) = leading_number(text);
+    if count < text.len() {
+        return Err(DecimalFault::Char(at + count));
     }
-    Err(DecimalFault::Char(at + leading_digits(text)))
+    if count == 0 {
+        return Err(DecimalFault::Char(at));
+    }
+    units(negative, whole, part, count, places)
 }
 
-// Each byte is a digit.
-fn is_digits(text: &[u8]) -> bool
-    ensures { result ≡ all_digits text.now }
+// How many digits the text begins with, and the number that they write, or the greatest of 64 bits where it is beyond that.
+// Each digit is looked at once.
+fn leading_number(text: &[u8]) -> (usize, u64)
+    ensures count { result.0 ≡ digit_count text.now }
+    ensures bound { result.0 ≤ length text.now }
+    ensures number { result.1 ≡ min (digits_value 10 (take (digit_count text.now) text.now)) (2 ^ 64 - 1) }
 {
-    text.iter().all(|byte| byte.is_ascii_digit())
+    let mut count = 0;
+    let mut number: u64 = 0;
+    for byte in text {
+        if !byte.is_ascii_digit() {
+            return (count, number);
+        }
+        number = number
+            .saturating_mul(10)
+            .saturating_add((*byte - b'0') as u64);
+        count += 1;
+    }
+    (count, number)
 }
 
-// How many digits the text begins with.
-fn leading_digits(text: &[u8]) -> usize
-    ensures value { result ≡ digit_count text.now }
-    ensures bound { result ≤ length text.now }
-{
-    text.iter().take_while(|byte| byte.is_ascii_digit()).count()
-}
-
-// The units that the digits of a whole part and of a fraction write.
-fn units(negative: bool, whole: &[u8], fraction: &[u8], places: u8) -> Result<i64, DecimalFault>
+// The units that the numbers of a whole part and of a fraction write, the fraction of so many digits.
+fn units(
+    negative: bool,
+    whole: u64,
+    part: u64,
+    count: usize,
+    places: u8,
+) -> Result<i64, DecimalFault>
     requires few { places ≤ 18 }
-    requires whole_digits { all_digits whole.now ≡ true }
-    requires fraction_digits { all_digits fraction.now ≡ true }
-    ensures { result ≡ in_units negative whole.now fraction.now places }
+    ensures { (digits fraction : List ℕ) → whole ≡ min (digits_value 10 digits) (2 ^ 64 - 1) → part ≡ min (digits_value 10 fraction) (2 ^ 64 - 1) → count ≡ length fraction
+        → result ≡ in_units negative digits fraction places }
 {
-    if fraction.len() > places as usize {
+    if count > places as usize {
         return Err(DecimalFault::Places);
     }
-    let missing = places - fraction.len() as u8;
-    let size = capped_number(whole) as u128 * power_of_ten(places) as u128
-        + capped_number(fraction) as u128 * power_of_ten(missing) as u128;
+    let missing = places - count as u8;
+    let size = whole as u128 * power_of_ten(places) as u128
+        + part as u128 * power_of_ten(missing) as u128;
     ranged(negative, size)
 }
 
@@ -125,20 +138,6 @@ fn ranged(negative: bool, size: u128) -> Result<i64, DecimalFault>
         return Err(DecimalFault::Range);
     }
     Ok(size as i64)
-}
-
-// The number that the digits write, or the greatest of 64 bits where it is beyond that.
-fn capped_number(digits: &[u8]) -> u64
-    requires { all_digits digits.now ≡ true }
-    ensures { result ≡ min (digits_value 10 digits.now) (2 ^ 64 - 1) }
-{
-    let mut number: u64 = 0;
-    for digit in digits {
-        number = number
-            .saturating_mul(10)
-            .saturating_add((*digit - b'0') as u64);
-    }
-    number
 }
 
 /// Law: what `decimal_value` answers, by the grammar. Each answer comes exactly where the text is of its kind.

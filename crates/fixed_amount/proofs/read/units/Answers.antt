@@ -1,14 +1,15 @@
-use Rattle.std.proofs.Common.{◌≡◌, ◌∙◌, arith, ◌-◌, ◌^◌, ◌<◌, length, nat_lt, false}
+use Rattle.std.proofs.Common.{◌≡◌, ◌∙◌, arith, ◌-◌, ◌^◌, ◌<◌, length, nat_lt, false, ap}
 use Rattle.std.proofs.lemmas.Bool.{le-ltb}
 use Rattle.std.specs.Str.Parse.{digits_value}
 use Rattle.fixed_amount.proofs.Ranges.{in_range_capped}
 use Rattle.fixed_amount.proofs.read.units.Goals as goal
 
 pub returns : goal.returns
-returns c =
+returns c = λ digits fraction whole part count.
     let a = c.args in
-    let few : nat_lt a.places (length a.fraction.now) ≡ false = le-ltb _ _ (omega arith) in
-    let is = rw (c.capped_number.ensures, c.power_of_ten.ensures.value, c.capped_number-2.ensures, c.power_of_ten-2.ensures.value) at c.ranged.ensures in
+    let few : nat_lt a.places (length fraction) ≡ false = le-ltb _ _ (omega (arith, count)) in
+    let is = rw (whole, part, c.power_of_ten.ensures.value, c.power_of_ten-2.ensures.value, count) at c.ranged.ensures in
     let hp : 0 < 10 ^ a.places = omega arith in
-    let hq : 0 < 10 ^ (a.places - length a.fraction.now) = omega arith in
-    rw few (is ∙ in_range_capped a.negative (digits_value 10 a.whole.now) (digits_value 10 a.fraction.now) (10 ^ a.places) (10 ^ (a.places - length a.fraction.now)) hp hq)
+    let same : 10 ^ (a.places - a.count) ≡ 10 ^ (a.places - length fraction) = ap (λ n. 10 ^ (a.places - n)) count in
+    let hq : 0 < 10 ^ (a.places - length fraction) = omega (arith, same) in
+    rw few (is ∙ in_range_capped a.negative (digits_value 10 digits) (digits_value 10 fraction) (10 ^ a.places) (10 ^ (a.places - length fraction)) hp hq)

@@ -11,7 +11,7 @@ mod word;
 mod word_text;
 
 pub use laws::words_law;
-pub use line::{good_words_of, next_line, word_at};
+pub use line::{first_words, next_line, word_at};
 pub use line_fault::LineFault;
 pub use word::{field_of, names_new, number_of, number_of_word, weight_of_word, word_said};
 pub use word_text::{action_text, push_word, text_at};

@@ -59,28 +59,35 @@ fn begins_comment(byte: u8, after: &[u8]) -> bool
     byte == b'#' && has_good_bytes(after)
 }
 
-/// Puts the words of a line, as parts of it, in the place of those that `words` has, and tells whether each byte of the line
-/// may stand in a script. Where one may not, `words` has some of the words. Each byte is looked at once.
-pub fn good_words_of<'a>(line: &'a [u8], words: &mut Vec<&'a [u8]>) -> Result<bool, AllocError>
-    ensures good { IfOk result (λ good. good ≡ list_all is_good line.now) }
-    ensures words { IfOk result (λ good. good ≡ true → map (λ word. word.now) words.new.items ≡ words_of line.now) }
+/// Puts the words of a text's first line, as parts of it, in the place of those that `words` has; tells whether each byte of the line
+/// may stand in a script, and what stands behind the line. Where one may not, `words` has some of the words. Each byte is looked at once.
+pub fn first_words<'a>(text: &'a [u8], words: &mut Vec<&'a [u8]>) -> Result<(bool, &'a [u8]), AllocError>
 {
     words.clear();
-    let mut rest = line;
+    let mut rest = text;
     while !rest.is_empty() {
         let (word, behind) = rest.split_at(word_len(rest));
         keep_word(word, words)?;
         match behind {
-            [] => return Ok(true),
+            [] => return Ok((true, behind)),
+            [b'\n', after @ ..] => return Ok((true, after)),
             [byte, after @ ..] => {
                 if !is_blank(*byte) {
-                    return Ok(begins_comment(*byte, after));
+                    return Ok(tail_of(behind));
                 }
                 rest = after;
             }
         }
     }
-    Ok(true)
+    Ok((true, rest))
+}
+
+fn tail_of(text: &[u8]) -> (bool, &[u8]) {
+    let (tail, after) = next_line(text);
+    match tail {
+        [] => (true, after),
+        [byte, more @ ..] => (begins_comment(*byte, more), after),
+    }
 }
 
 /// The word at the place, or no bytes where there is none.

@@ -15,7 +15,7 @@ use crate::ScriptFault;
 use crate::statement::read_line;
 use crate::steps::{Step, action_names_of, actions_of, add, all_linked, first_lacking, is_open};
 use desk_names::Names;
-use script_words::{LineFault, next_line};
+use script_words::{LineFault, first_words};
 use session_commands::{CommandList, Script, ScriptKind};
 use std::alloc::Global;
 
@@ -42,9 +42,9 @@ fn at_number(number: u32, fault: LineFault) -> ScriptFault
 }
 
 // Reads one line and puts its statement behind the others; tells the line of the block that stands open after it.
-fn take_line<'a>(
-    line: &'a [u8],
-    words: &mut Vec<&'a [u8]>,
+fn take_line(
+    good: bool,
+    words: &[&[u8]],
     number: u32,
     names: &mut Names,
     begun: &mut Names,
@@ -60,7 +60,7 @@ fn take_line<'a>(
         (names_left (record { names = names.old; begun = begun.old }) open_at number (line.now ∷ rest)) }
     ensures grows { Grows names.old names.new }
 {
-    match read_line(line, words, names, begun, is_open(open_at)) {
+    match read_line(good, words, names, begun, is_open(open_at)) {
         Ok(statement) => Ok(add(commands, steps, number, statement, open_at)?),
         Err(fault) => Err(at_number(number, fault)),
     }
@@ -86,10 +86,10 @@ fn read_lines(
     let mut number = 1;
     let mut rest = text;
     while !rest.is_empty() {
-        let (line, after) = next_line(rest);
+        let (good, after) = first_words(rest, &mut words)?;
         open_at = take_line(
-            line,
-            &mut words,
+            good,
+            &words,
             number,
             names,
             begun,

@@ -10,7 +10,7 @@ ghost use Rattle.session_lang.specs.Statement.{Known, ArePlain, PlainOf, names_w
 
 use desk_names::{MOST_NAMES, NameId, Names, is_name};
 use script_words::{
-    LineFault, field_of, good_words_of, names_new, number_of, number_of_word, weight_of_word,
+    LineFault, field_of, names_new, number_of, number_of_word, weight_of_word,
     word_at, word_said,
 };
 use session_commands::{Command, Kind, Parts, ScriptKind, Verb};
@@ -293,9 +293,9 @@ fn words_line(
 /// What a line says, or its first fault. The names of a line without a fault get numbers, in order; one with a fault
 /// adds none. `words` is left with the words of the line: a vector for all lines is made once.
 #[tactic(auto, unfolding(crate::specs::Statement::line_meaning), using(script_words::proofs::Interning::grows_same))]
-pub(crate) fn read_line<'a>(
-    line: &'a [u8],
-    words: &mut Vec<&'a [u8]>,
+pub(crate) fn read_line(
+    good: bool,
+    words: &[&[u8]],
     names: &mut Names,
     begun: &mut Names,
     inside: bool,
@@ -305,8 +305,8 @@ pub(crate) fn read_line<'a>(
     ensures grows { Grows names.old names.new }
     ensures kept { Keeps result names.old names.new }
 {
-    if !good_words_of(line, words)? {
+    if !good {
         return Err(LineFault::Kind(ScriptKind::Byte));
     }
-    words_line(words.as_slice(), names, begun, inside)
+    words_line(words, names, begun, inside)
 }

@@ -176,6 +176,19 @@ impl ops::Deref for String {
     fn deref(&self) -> &str { &self.0 }
 }
 
+pub mod rc {
+    use super::alloc::{AllocError, AllocFailed, Global};
+    #[derive(Debug)]
+    pub struct Rc<T>(::std::rc::Rc<T>);
+    impl<T> Rc<T> {
+        #[inline(always)]
+        pub fn new(_: Global, value: T) -> Result<Self, AllocFailed<T>> { Ok(Rc(::std::rc::Rc::new(value))) }
+        #[inline(always)]
+        pub fn clone(&self) -> Result<Self, AllocError> { Ok(Rc(::std::rc::Rc::clone(&self.0))) }
+        #[inline(always)]
+        pub fn as_ref(&self) -> &T { &self.0 }
+    }
+}
 pub mod collections {
     use super::alloc::*;
     use ::std::collections as std_collections;

@@ -88,7 +88,7 @@ fn built(
         → result ≡ due.curve_of owner reference (due.nodes_of (due.coupons_of terms.now.cal reference) (origin reference) 1 [] terms.now.helpers rates.now) }
 {
     match nodes_from(alloc, &terms.cal, reference, terms.helpers.items(), rates) {
-        Ok(nodes) => Ok(CurveValue::new(owner, reference, nodes)),
+        Ok(nodes) => Ok(CurveValue::shared(alloc, owner, reference, nodes)),
         Err(fault) => Err(fault),
     }
 }

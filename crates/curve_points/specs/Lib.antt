@@ -1,4 +1,5 @@
 pub mod Curve
+pub mod Hold
 pub mod Segment
 pub mod Point
 pub mod Implied

@@ -3,9 +3,11 @@ ghost use Rattle.std.specs.Prelude.{◌↔◌, IsTrue};
 ghost use Rattle.curve_points.specs.Curve.{IsRisingFrom};
 
 use crate::NodeList;
+use crate::held::HeldNodes;
 use day_number::Day;
 use desk_names::ObjId;
 use fixed_amount::Discount;
+use std::alloc::Global;
 use std::marker::Model;
 
 /// The discount factor 1, in units of 10^-12.
@@ -27,7 +29,7 @@ pub struct CurveNode {
 pub struct CurveValue {
     pub(crate) owner: ObjId,
     pub(crate) reference: Day,
-    pub(crate) nodes: NodeList,
+    pub(crate) nodes: HeldNodes,
 }
 
 impl Model for CurveValue {
@@ -54,7 +56,21 @@ impl CurveValue {
         CurveValue {
             owner,
             reference,
-            nodes,
+            nodes: HeldNodes::own(nodes),
+        }
+    }
+
+    /// The same curve, whose copies share its nodes where memory for that is there.
+    pub fn shared(alloc: Global, owner: ObjId, reference: Day, nodes: NodeList) -> CurveValue
+        requires { IsRisingFrom reference nodes }
+        ensures owner { result.owner ≡ owner }
+        ensures reference { result.reference ≡ reference }
+        ensures nodes { result.nodes ≡ nodes }
+    {
+        CurveValue {
+            owner,
+            reference,
+            nodes: HeldNodes::shared(alloc, nodes),
         }
     }
 

@@ -8,6 +8,7 @@
 
 mod copies;
 mod curves;
+mod held;
 mod laws;
 mod node_lists;
 mod points;

@@ -7,6 +7,7 @@ ghost use Rattle.curve_points.specs.Segment.{one};
 ghost use Rattle.curve_points.specs.Point.{discount_at};
 ghost use Rattle.curve_points.specs.Implied as due;
 
+use crate::held::HeldNodes;
 use crate::points::wide;
 use crate::{CurveNode, CurveValue, MOST, NodeList, ONE, PointFault, discount};
 use day_number::Day;
@@ -80,7 +81,7 @@ fn seen_by(
         Ok(nodes) => Ok(CurveValue {
             owner,
             reference,
-            nodes,
+            nodes: HeldNodes::shared(alloc, nodes),
         }),
         Err(fault) => Err(fault),
     }

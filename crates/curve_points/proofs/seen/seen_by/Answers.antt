@@ -24,11 +24,11 @@ pub seen_nodes-requires : goal.seen_nodes-requires
 seen_nodes-requires c = rising c.before
 
 pub invariant_of-result : goal.invariant_of-result
-invariant_of-result c = subst (λ (ns : List CurveNode). IsRisingFrom c.args.reference ns) (sym (kept_are (all_seen c.args.factor c.split_at.result.1.now) c.in-Ok.nodes c.in-Ok.ensures.given))
-    (rising_seen c.args.factor c.args.reference c.split_at.result.1.now (rising c.before.before.before))
+invariant_of-result c = rw c.shared.ensures (subst (λ (ns : List CurveNode). IsRisingFrom c.args.reference ns) (sym (kept_are (all_seen c.args.factor c.split_at.result.1.now) c.in-Ok.nodes c.in-Ok.ensures.given))
+    (rising_seen c.args.factor c.args.reference c.split_at.result.1.now (rising c.before.before.before.before)))
 
 pub returns-in-Ok-clause-given : goal.returns-in-Ok-clause-given
-returns-in-Ok-clause-given c = curve_from c.args.owner c.args.reference c.args.factor c.args.curve.now.nodes c.split_at.result.1.now c.in-Ok.nodes (later c.before.before.before) c.in-Ok.ensures.given
+returns-in-Ok-clause-given c = rw c.shared.ensures (curve_from c.args.owner c.args.reference c.args.factor c.args.curve.now.nodes c.split_at.result.1.now c.in-Ok.nodes (later c.before.before.before.before) c.in-Ok.ensures.given)
 
 pub returns-in-Err-clause-given : goal.returns-in-Err-clause-given
 returns-in-Err-clause-given c = fault_from c.args.owner c.args.reference c.args.factor c.args.curve.now.nodes c.split_at.result.1.now c.in-Err.fault (later c.before.before.before) c.in-Err.ensures.given

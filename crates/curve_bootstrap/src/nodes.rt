@@ -111,13 +111,15 @@ fn least_root(
     requires rate { unsigned_abs rate ≤ 10 ^ 10 }
     ensures { IsRoot (split_excess last.now end rate settled coupons.now) result }
 {
-    if excess_at(last, end, rate, settled, coupons, 0) >= 0 {
+    let below = excess_at(last, end, rate, settled, coupons, 0);
+    if below >= 0 {
         return None;
     }
-    if excess_at(last, end, rate, settled, coupons, MOST_FACTOR) < 0 {
+    let above = excess_at(last, end, rate, settled, coupons, MOST_FACTOR);
+    if above < 0 {
         return None;
     }
-    let guess = guess_of(last, end, rate, settled, coupons);
+    let guess = guess_of(below, above);
     let root = halved(last, end, rate, settled, coupons, guess);
     Some(factor_of(root))
 }
@@ -167,17 +169,11 @@ fn halved(
     high
 }
 
-// A place near which the excess turns, as if it rose evenly from 0 to the greatest factor. Any answer will do.
-fn guess_of(last: &CurveNode, end: Day, rate: i128, settled: i128, coupons: &[Coupon]) -> i128
-    requires few { length coupons.now ≤ 801 }
-    requires after { AreAfter last.now.day coupons.now }
-    requires up_to { AreUpTo end coupons.now }
-    requires settled { pos 0 ≤ℤ settled }
-    requires settled_high { settled ≤ℤ pos (801 * (8 * 10 ^ 24)) }
-    requires rate { unsigned_abs rate ≤ 10 ^ 10 }
-{
-    let below = excess_at(last, end, rate, settled, coupons, 0).unsigned_abs() / CUT;
-    let above = excess_at(last, end, rate, settled, coupons, MOST_FACTOR).unsigned_abs() / CUT;
+// A place near which the excess turns, as if it rose evenly from its value at 0 to that at the greatest factor. Any answer
+// will do.
+fn guess_of(least: i128, greatest: i128) -> i128 {
+    let below = least.unsigned_abs() / CUT;
+    let above = greatest.unsigned_abs() / CUT;
     let all = below + above;
     if all == 0 {
         return 0;

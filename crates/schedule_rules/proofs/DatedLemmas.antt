@@ -7,7 +7,7 @@ use Rattle.schedule_rules.specs.declared.plans.Plan.{Plan}
 use Rattle.schedule_rules.specs.declared.faults.PlanFault.{PlanFault}
 use Rattle.schedule_rules.specs.declared.faults.PlanFault.TheVariants.{Order, Tenor as TenorFault, Stub, TooMany, DateRange, Collapsed, NoMemory}
 use Rattle.schedule_rules.specs.Raw.{put_into}
-use Rattle.schedule_rules.specs.Schedule.{day_and, each_of, rising_or_fault, unless, dated, schedule, Gives, IsMemory}
+use Rattle.schedule_rules.specs.Schedule.{day_and, each_of, rising_or_fault, ended_or_fault, on_ok, unless, dated, schedule, Gives, IsMemory}
 use Rattle.schedule_rules.specs.Terms.{fault_of_terms}
 use Rattle.schedule_rules.proofs.RawLemmas.{put_into-one, put_into-none}
 
@@ -38,6 +38,15 @@ put_each-stop makes days rest raw e =
 pub put_each-end : (makes : ℤ → Option ℤ) (days : List ℤ) → put_each days (each_of makes []) ≡ Ok days
 unfolding each_of
 put_each-end makes days = ap Ok (put_into-none days)
+
+-- no days are made where the start has no adjusted day, or the end has none
+pub start_none : (o : Option (List ℤ)) (end : Option ℤ) → on_ok (rising_or_fault o) (λ (days : List ℤ). ended_or_fault days None end) ≡ Err DateRange
+start_none None end = refl
+start_none (Some days) end = refl
+
+pub end_none : (o : Option (List ℤ)) (start : ℤ) → on_ok (rising_or_fault o) (λ (days : List ℤ). ended_or_fault days (Some start) None) ≡ Err DateRange
+end_none None start = refl
+end_none (Some days) start = refl
 
 -- the days from a place on
 pub days_here : (days : List ℤ) (at : ℕ) (day : ℤ) → at < length days → day ≡ get_or days at day → drop at days ≡ day ∷ drop (at + 1) days

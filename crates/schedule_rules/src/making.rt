@@ -1,5 +1,5 @@
 // Schedules made from plans.
-ghost use Rattle.std.specs.Prelude.{◌≡◌, ◌⊎◌, ◌-◌, Ok, Err, None, IfOk, IfErr, IfSome, length, slice_get};
+ghost use Rattle.std.specs.Prelude.{◌≡◌, ◌⊎◌, ◌-◌, Ok, Err, Some, None, IfOk, IfErr, IfSome, length, slice_get};
 ghost use Rattle.holiday_calendars.specs.Calendar.{is_business_day};
 ghost use Rattle.schedule_rules.specs.Terms as terms;
 ghost use Rattle.schedule_rules.specs.Schedule as schedule;
@@ -36,18 +36,19 @@ pub fn make(alloc: Global, plan: &Plan<'_>) -> Result<Schedule, PlanFault>
 }
 
 // The schedule of a plan whose terms have no fault.
+#[tactic(auto, using(crate::proofs::DatedLemmas::start_none, crate::proofs::DatedLemmas::end_none))]
 fn dated(alloc: Global, plan: &Plan<'_>) -> Result<Schedule, PlanFault>
     requires { terms.fault_of_terms plan.now ≡ None }
     ensures { schedule.Gives (λ dates. dates) (schedule.dated (is_business_day plan.now.cal.now) plan.now) result }
 {
     let raw = raw_days(alloc, plan)?;
-    let days = adjusted_days(alloc, plan, raw.days())?;
     let Some(start) = adjusted_raw(plan, plan.start) else {
         return Err(PlanFault::DateRange);
     };
     let Some(end) = adjusted_raw(plan, plan.end) else {
         return Err(PlanFault::DateRange);
     };
+    let days = adjusted_days(alloc, plan, raw.days(), start, end)?;
     if end <= start {
         return Err(PlanFault::Collapsed);
     }
@@ -68,14 +69,37 @@ fn adjusted_raw(plan: &Plan<'_>, day: Day) -> Option<Day>
     adjust(plan.cal, day, conv).ok()
 }
 
-// The adjusted days, in the order of time and each once.
-fn adjusted_days(alloc: Global, plan: &Plan<'_>, raw: &[Day]) -> Result<DaySet, PlanFault>
+// A raw day adjusted, where there is such a day. The adjusted start and the adjusted end are not worked out again.
+fn adjusted_by_ends(plan: &Plan<'_>, day: Day, start: Day, end: Day) -> Option<Day>
+    requires start { schedule.adjusted_raw (is_business_day plan.now.cal.now) plan.now plan.now.start ≡ Some start }
+    requires end { schedule.adjusted_raw (is_business_day plan.now.cal.now) plan.now plan.now.end ≡ Some end }
+    ensures { result ≡ schedule.adjusted_raw (is_business_day plan.now.cal.now) plan.now day }
+{
+    if day == plan.start {
+        return Some(start);
+    }
+    if day == plan.end {
+        return Some(end);
+    }
+    adjusted_raw(plan, day)
+}
+
+// The adjusted days, in the order of time and each once, by the adjusted start and the adjusted end.
+fn adjusted_days(
+    alloc: Global,
+    plan: &Plan<'_>,
+    raw: &[Day],
+    start: Day,
+    end: Day,
+) -> Result<DaySet, PlanFault>
+    requires start { schedule.adjusted_raw (is_business_day plan.now.cal.now) plan.now plan.now.start ≡ Some start }
+    requires end { schedule.adjusted_raw (is_business_day plan.now.cal.now) plan.now plan.now.end ≡ Some end }
     ensures { let business = is_business_day plan.now.cal.now in
         schedule.Gives (λ days. days) (schedule.adjusted_or_fault business plan.now raw.now) result }
 {
     let mut days = DaySet::with_room(alloc, raw.len())?;
     for day in raw {
-        let Some(found) = adjusted_raw(plan, *day) else {
+        let Some(found) = adjusted_by_ends(plan, *day, start, end) else {
             return Err(PlanFault::DateRange);
         };
         days.insert(found)?;

@@ -11,7 +11,7 @@ loop-day-preserved c =
     let later = drop (c.loop-day.day-index + 1) c.args.raw.now in
     record {
       rest = ap (λ days. put_each days (each_of makes later)) c.in_ok-insert.ensures
-          ∙ sym (put_each-more makes c.loop-day.days later c.day-item.result c.in-Some.found (sym c.adjusted_raw.ensures ∙ c.in-Some.is))
+          ∙ sym (put_each-more makes c.loop-day.days later c.day-item.result c.in-Some.found (sym c.adjusted_by_ends.ensures ∙ c.in-Some.is))
           ∙ ap (λ days. put_each c.loop-day.days (each_of makes days)) (sym turn)
           ∙ c.loop-day.invariant.rest;
     }
@@ -22,7 +22,7 @@ returns-in_default c =
     let turn = days_here c.args.raw.now c.loop-day.day-index c.day-item.result c.loop-day-test.true c.day-item.is in
     sym c.loop-day.invariant.rest
     ∙ ap (λ days. put_each c.loop-day.days (each_of makes days)) turn
-    ∙ put_each-stop makes c.loop-day.days (drop (c.loop-day.day-index + 1) c.args.raw.now) c.day-item.result (sym c.adjusted_raw.ensures ∙ c.in_default.is)
+    ∙ put_each-stop makes c.loop-day.days (drop (c.loop-day.day-index + 1) c.args.raw.now) c.day-item.result (sym c.adjusted_by_ends.ensures ∙ c.in_default.is)
 
 pub returns : goal.returns
 returns c =

@@ -1,5 +1,6 @@
 -- The adjusted days of a schedule.
-use Rattle.std.proofs.Common.{◌≡◌, Bool, List, [], ◌∷◌, Option, Some, None, Result, Ok, Err, refl, sym, ap, ◌∙◌, ℤ, IfOk, IfErr, ◌⊎◌, inl, inr}
+use Rattle.std.proofs.Common.{◌≡◌, ℕ, suc, ◌+◌, ◌<◌, ◌≤◌, arith, length, get_or, drop, drop_of_length-le, Bool, List, [], ◌∷◌, Option, Some, None, Result, Ok, Err, refl, sym, ap, ◌∙◌, ℤ, IfOk, IfErr, ◌⊎◌, inl, inr}
+use Rattle.std.proofs.Math.Seq.{drop-cons}
 use Rattle.std.specs.BTreeSet.{insert_key}
 use Rattle.std.specs.Ordering.{int_cmp}
 use Rattle.schedule_rules.specs.declared.plans.Plan.{Plan}
@@ -37,6 +38,15 @@ put_each-stop makes days rest raw e =
 pub put_each-end : (makes : ℤ → Option ℤ) (days : List ℤ) → put_each days (each_of makes []) ≡ Ok days
 unfolding each_of
 put_each-end makes days = ap Ok (put_into-none days)
+
+-- the days from a place on
+pub days_here : (days : List ℤ) (at : ℕ) (day : ℤ) → at < length days → day ≡ get_or days at day → drop at days ≡ day ∷ drop (at + 1) days
+days_here days at day h is =
+    let next : suc at ≡ at + 1 = omega arith in
+    rw (← next) (drop-cons days at day h ∙ ap (λ (d : ℤ). d ∷ drop (suc at) days) (sym is))
+
+pub days_done : (days : List ℤ) (at : ℕ) → length days ≤ at → drop at days ≡ []
+days_done days at done = drop_of_length-le days done
 
 -- what a call gives is the definition's, or it is refused for want of memory
 gives-ok : {X : Type 0} (view : X → List ℤ) (due : Result (List ℤ) PlanFault) (r : Result X PlanFault) → Gives view due r → IfOk r (λ x. due ≡ Ok (view x))

@@ -2,6 +2,7 @@ pub mod DatedLemmas
 pub mod EndsLaw
 pub mod MonthLemmas
 pub mod MoveLemmas
+pub mod PlaceLemmas
 pub mod PlanLemmas
 pub mod RawLaw
 pub mod RawLemmas

@@ -33,7 +33,7 @@ turned a b e = grind (arith, ints)
 equal : (a b : ℤ) → Equal ≡ int_cmp a b → a ≡ b
 equal a b e = grind (arith, ints)
 
-all_after : (days : List ℤ) (a b : ℤ) → int_cmp a b ≡ Less → AllAfter b days → AllAfter a days
+pub all_after : (days : List ℤ) (a b : ℤ) → int_cmp a b ≡ Less → AllAfter b days → AllAfter a days
 all_after [] a b e h = tt
 all_after (x ∷ xs) a b e h = (less_trans a b x e h.0, all_after xs a b e h.1)
 
@@ -54,7 +54,7 @@ rises-match Equal xs x day e h rest = h
 rises-match Greater xs x day e h rest =
     (all-insert (λ y. int_cmp x y ≡ Less) xs day h.0 (turned day x e), rest)
 
-rises-insert : (days : List ℤ) (day : ℤ) → Rises days → Rises (insert_key int_cmp days day)
+pub rises-insert : (days : List ℤ) (day : ℤ) → Rises days → Rises (insert_key int_cmp days day)
 unfolding IsStrictlySortedBy
 rises-insert [] day h = (tt, tt)
 rises-insert (x ∷ xs) day h =

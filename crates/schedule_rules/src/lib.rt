@@ -5,6 +5,7 @@
 #![tactic(auto)]
 
 mod checks;
+mod day_sets;
 mod faults;
 mod laws;
 mod making;

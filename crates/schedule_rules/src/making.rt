@@ -1,17 +1,16 @@
 // Schedules made from plans.
 ghost use Rattle.std.specs.Prelude.{◌≡◌, ◌⊎◌, ◌-◌, Ok, Err, None, IfOk, IfErr, IfSome, length, slice_get};
-ghost use Rattle.std.specs.BTreeSet.{keys};
 ghost use Rattle.holiday_calendars.specs.Calendar.{is_business_day};
 ghost use Rattle.schedule_rules.specs.Terms as terms;
 ghost use Rattle.schedule_rules.specs.Schedule as schedule;
 
 use crate::checks::fault_of_terms;
+use crate::day_sets::DaySet;
 use crate::raw_days::raw_days;
 use crate::{Plan, PlanFault, Schedule};
 use day_number::Day;
 use day_shift::adjust;
 use std::alloc::Global;
-use std::collections::BTreeSet;
 
 /// The schedule of a plan: start and end, the stubs' days, and the steps of whole tenors from the seed, which is `last`
 /// or the end backward and `first` or the start forward; each is adjusted, and those before the adjusted end are listed
@@ -42,7 +41,7 @@ fn dated(alloc: Global, plan: &Plan<'_>) -> Result<Schedule, PlanFault>
     ensures { schedule.Gives (λ dates. dates) (schedule.dated (is_business_day plan.now.cal.now) plan.now) result }
 {
     let raw = raw_days(alloc, plan)?;
-    let days = adjusted_days(alloc, plan, &raw)?;
+    let days = adjusted_days(alloc, plan, raw.days())?;
     let Some(start) = adjusted_raw(plan, plan.start) else {
         return Err(PlanFault::DateRange);
     };
@@ -53,7 +52,7 @@ fn dated(alloc: Global, plan: &Plan<'_>) -> Result<Schedule, PlanFault>
         return Err(PlanFault::Collapsed);
     }
     Ok(Schedule {
-        days: ended(alloc, &days, end)?,
+        days: ended(alloc, days.days(), end)?,
     })
 }
 
@@ -70,15 +69,11 @@ fn adjusted_raw(plan: &Plan<'_>, day: Day) -> Option<Day>
 }
 
 // The adjusted days, in the order of time and each once.
-fn adjusted_days(
-    alloc: Global,
-    plan: &Plan<'_>,
-    raw: &BTreeSet<Day>,
-) -> Result<BTreeSet<Day>, PlanFault>
+fn adjusted_days(alloc: Global, plan: &Plan<'_>, raw: &[Day]) -> Result<DaySet, PlanFault>
     ensures { let business = is_business_day plan.now.cal.now in
-        schedule.Gives keys (schedule.adjusted_or_fault business plan.now raw.now.keys) result }
+        schedule.Gives (λ days. days) (schedule.adjusted_or_fault business plan.now raw.now) result }
 {
-    let mut days = BTreeSet::new(alloc);
+    let mut days = DaySet::with_room(alloc, raw.len())?;
     for day in raw {
         let Some(found) = adjusted_raw(plan, *day) else {
             return Err(PlanFault::DateRange);
@@ -89,10 +84,10 @@ fn adjusted_days(
 }
 
 // The days before the end, followed by the end.
-fn ended(alloc: Global, days: &BTreeSet<Day>, end: Day) -> Result<Vec<Day>, PlanFault>
-    ensures { schedule.Gives (λ list. list.items) (Ok (schedule.ended end days.now.keys)) result }
+fn ended(alloc: Global, days: &[Day], end: Day) -> Result<Vec<Day>, PlanFault>
+    ensures { schedule.Gives (λ list. list.items) (Ok (schedule.ended end days.now)) result }
 {
-    let mut list = Vec::new(alloc);
+    let mut list = Vec::with_capacity(alloc, days.len())?;
     for day in days {
         if !(end <= *day) {
             list.push(*day)?;

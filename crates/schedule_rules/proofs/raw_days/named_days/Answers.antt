@@ -3,5 +3,5 @@ use Rattle.schedule_rules.proofs.raw_days.named_days.Goals as goal
 
 pub returns : goal.returns
 returns c =
-    let same = named_put c.args.plan.now c.new.result.keys c.in_ok-put.field-0.keys c.in_ok-ends.ends.keys c.in_ok-put-2.field-0.keys c.new.ensures.empty c.in_ok-put.ensures c.in_ok-ends.ensures c.in_ok-put-2.ensures in
+    let same = named_put c.args.plan.now c.in_ok-with_room.field-0 c.in_ok-put.field-0 c.in_ok-ends.ends c.in_ok-put-2.field-0 c.in_ok-with_room.ensures c.in_ok-put.ensures c.in_ok-ends.ensures c.in_ok-put-2.ensures in
     rw (← same) c.put-4.ensures

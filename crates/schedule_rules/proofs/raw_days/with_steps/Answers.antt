@@ -13,8 +13,8 @@ returns-in_default c =
     let plan = c.args.plan.now in
     let seed : IsDayNumber (seed_by plan.rule plan) = rw (c.number.ensures.value ∙ c.seed.ensures) at c.number.ensures.range in
     let end = steps-end (suc (most_steps plan) - c.loop-day.k) plan c.loop-day.k (in_order plan c.requires) seed (sym c.step.ensures ∙ c.in_default.is) in
-    ap few_or_fault (sym c.loop-day.invariant.rest ∙ ap (put_into c.loop-day.days.keys) end ∙ put_into-none c.loop-day.days.keys)
-    ∙ few c.loop-day.days.keys (omega (arith, c.len.ensures.len, c.loop-day-test.true))
+    ap few_or_fault (sym c.loop-day.invariant.rest ∙ ap (put_into c.loop-day.days) end ∙ put_into-none c.loop-day.days)
+    ∙ few c.loop-day.days (omega (arith, c.len.ensures, c.loop-day-test.true))
 
 -- a step that is inside has room
 room : (c : goal.In_ok-insert) → c.loop-day.k ≤ most_steps c.args.plan.now
@@ -50,16 +50,16 @@ loop-day-preserved c =
     record {
       low = omega arith;
       high = omega (arith, here);
-      rest = ap (put_into c.insert.new.self.keys) next
-          ∙ ap (λ days. put_into days rest) c.in_ok-insert.ensures.keys
-          ∙ sym (put_into-one c.loop-day.days.keys rest c.in-Some.day)
-          ∙ ap (put_into c.loop-day.days.keys) (sym more) ∙ c.loop-day.invariant.rest;
+      rest = ap (put_into c.insert.new.self) next
+          ∙ ap (λ days. put_into days rest) c.in_ok-insert.ensures
+          ∙ sym (put_into-one c.loop-day.days rest c.in-Some.day)
+          ∙ ap (put_into c.loop-day.days) (sym more) ∙ c.loop-day.invariant.rest;
     }
 
 pub returns : goal.returns
 returns c =
     let plan = c.args.plan.now in
     let rest = steps_from plan c.loop-day.k (suc (most_steps plan) - c.loop-day.k) in
-    let all = put_into c.loop-day.days.keys rest in
+    let all = put_into c.loop-day.days rest in
     ap few_or_fault (sym c.loop-day.invariant.rest)
-    ∙ many all (omega (arith, length-put rest c.loop-day.days.keys, c.len.ensures.len, c.loop-day-test.false))
+    ∙ many all (omega (arith, length-put rest c.loop-day.days, c.len.ensures, c.loop-day-test.false))

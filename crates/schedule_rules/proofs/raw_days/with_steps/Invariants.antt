@@ -7,8 +7,8 @@ abbrev pub invariant-loop-day : goal.invariant-loop-day
 invariant-loop-day l = record {
   low : 1 ≤ l.k;
   high : l.k ≤ suc (most_steps l.plan);
-  rest : put_into l.days.keys (steps_from l.plan l.k (suc (most_steps l.plan) - l.k))
-      ≡ put_into l.fn.given.keys (steps_from l.plan 1 (most_steps l.plan));
+  rest : put_into l.days (steps_from l.plan l.k (suc (most_steps l.plan) - l.k))
+      ≡ put_into l.fn.given (steps_from l.plan 1 (most_steps l.plan));
 }
 
 abbrev pub decreases-loop-day : goal.decreases-loop-day

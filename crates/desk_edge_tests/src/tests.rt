@@ -1,11 +1,12 @@
 // What no clause says: the system's files and writers, and that ample memory is found.
 use desk_edge::{
-    CallList, Failed, FileList, FileShelf, MOST, MemoryFile, MemoryShelf, OutSink, ReadFault,
-    Shelf, Sink, read_whole, write_whole,
+    CallList, Failed, FileList, FileShelf, MemoryFile, MemoryShelf, OutSink, ReadFault, Shelf,
+    Sink, read_whole, write_whole,
 };
 use std::io::{ErrorKind, Write};
 use std::test::Fail;
 use std::{fs, io};
+use text_limits::MOST_BYTES;
 
 const TEXT: &[u8] = b"[quotes]\nk = 2.5\n";
 
@@ -14,7 +15,7 @@ fn a_file_of_8_mib_is_read(rt: HostRuntime) -> Result<(), Fail> {
     let alloc = rt.alloc();
     let mut files = FileList::new(alloc);
     let path = String::from_str(alloc, "m")?;
-    files.push(MemoryFile::new(path, vec![in alloc; 7u8; MOST]?))?;
+    files.push(MemoryFile::new(path, vec![in alloc; 7u8; MOST_BYTES]?))?;
     let mut shelf = MemoryShelf::new(files, 1_048_576, CallList::new(alloc));
     let mut out = Vec::new(alloc);
     assert_eq!(rt; read_whole(&mut shelf, "m", &mut out), Ok(true));

@@ -11,7 +11,7 @@ use Rattle.desk_terms.specs.Asked.{Shows}
 use Rattle.desk_terms.specs.Reading.{Outcome, Calc}
 use Rattle.desk_terms.specs.Bench.{counted, logged}
 use Rattle.desk_model.specs.declared.kept.Kept.{Kept}
-use Rattle.desk_model.specs.State.{State, kept_at, last_of, last_answer, held, seen, is_frozen, is_late, is_clear, mark_of}
+use Rattle.desk_model.specs.State.{State, kept_at, last_of, last_answer, held_outcome, seen_outcome, is_frozen, is_late, is_clear, mark_of}
 use Rattle.desk_model.specs.Links.{IsLinked}
 use Rattle.desk_model.specs.Visit.{Visit, log_of, is_idle, stored, runs, asked}
 use Rattle.desk_model.proofs.Shown.{free_held, seen_held, shows_last}
@@ -43,12 +43,12 @@ module _ (s : State) (o : ℕ) where
       ∙ sym (ap (λ (b : Bool). if b then Frozen else if is_late s o then Late else if is_clear s o then Fresh else Unclear) thawed
       ∙ ap (λ (b : Bool). if b then Late else if is_clear s o then Fresh else Unclear) early)
 
-  pub not_held : (kept_at s o).frozen ≡ false → is_late s o ≡ false → held s o ≡ None
+  pub not_held : (kept_at s o).frozen ≡ false → is_late s o ≡ false → held_outcome s o ≡ None
   unfolding is_frozen
   not_held thawed early = free_held s o thawed early
 
-  held_last : (is_frozen s o || is_late s o) ≡ true → held s o ≡ Some (last_answer s o)
-  unfolding held
+  held_last : (is_frozen s o || is_late s o) ≡ true → held_outcome s o ≡ Some (last_answer s o)
+  unfolding held_outcome
   held_last is = ap (λ (b : Bool). if b then Some (last_answer s o) else None) is
 
 module _ (calc : Calc) (s : State) (o : ℕ) (count0 : ℕ) (log0 : Option (List (ℕ × Bool))) where
@@ -57,7 +57,7 @@ module _ (calc : Calc) (s : State) (o : ℕ) (count0 : ℕ) (log0 : Option (List
   log_none (Some entries) = ap Some (sym (append-nil entries))
 
   -- an idle object ends it at once
-  idle_asks : MayAsk calc s o → is_idle s [] o ≡ true → (answer : Asked) → Shows answer.cause (kept_at s o).last (seen calc s o) → answer.mark ≡ mark_of s o → answer.runs ≡ 0
+  idle_asks : MayAsk calc s o → is_idle s [] o ≡ true → (answer : Asked) → Shows answer.cause (kept_at s o).last (seen_outcome calc s o) → answer.mark ≡ mark_of s o → answer.runs ≡ 0
       → Asks calc o s s answer count0 count0 log0 log0
   unfolding runs asked stored
   idle_asks may idle answer shown mark number =
@@ -80,8 +80,8 @@ module _ (calc : Calc) (s : State) (o : ℕ) (count0 : ℕ) (log0 : Option (List
       → answer ≡ record { cause = lacking o (kept_at s o).last; mark = mark; runs = 0 } → Asks calc o s s answer count0 count0 log0 log0
   held_asks may is mark marks answer said =
       let last = held_last s o is in
-      idle_asks may (or_left (is_some (held s o)) _ (ap is_some last)) answer
-      (subst (λ (a : Asked). Shows a.cause (kept_at s o).last (seen calc s o)) (sym said)
+      idle_asks may (or_left (is_some (held_outcome s o)) _ (ap is_some last)) answer
+      (subst (λ (a : Asked). Shows a.cause (kept_at s o).last (seen_outcome calc s o)) (sym said)
       (subst (Shows (lacking o (kept_at s o).last) (kept_at s o).last) (sym (seen_held calc s may.whole.links o (last_answer s o) last)) (lacks (kept_at s o).last)))
       (ap (λ (a : Asked). a.mark) said ∙ sym marks) (ap (λ (a : Asked). a.runs) said)
 
@@ -95,13 +95,13 @@ module _ (calc : Calc) (s : State) (o : ℕ) (count0 : ℕ) (log0 : Option (List
   late_asks may thawed late = held_asks may (or_right (is_frozen s o) (is_late s o) late) Late (late_mark s o thawed late)
 
   -- so does a current one that is neither
-  pub current_asks : MayAsk calc s o → held s o ≡ None → (kept_at s o).current ≡ true → (mark : Mark) → mark ≡ mark_of s o → (answer : Asked)
+  pub current_asks : MayAsk calc s o → held_outcome s o ≡ None → (kept_at s o).current ≡ true → (mark : Mark) → mark ≡ mark_of s o → (answer : Asked)
       → answer ≡ record { cause = None; mark = mark; runs = 0 } → Asks calc o s s answer count0 count0 log0 log0
   current_asks may free current mark marks answer said =
       let last = current_last calc s o may free current in
-      idle_asks may (or_right (is_some (held s o)) _ (or_left (kept_at s o).current false current)) answer
-      (subst (λ (a : Asked). Shows a.cause (kept_at s o).last (seen calc s o)) (sym said)
-      (subst (λ (l : Option Value). Shows None l (seen calc s o)) (sym last.1)
+      idle_asks may (or_right (is_some (held_outcome s o)) _ (or_left (kept_at s o).current false current)) answer
+      (subst (λ (a : Asked). Shows a.cause (kept_at s o).last (seen_outcome calc s o)) (sym said)
+      (subst (λ (l : Option Value). Shows None l (seen_outcome calc s o)) (sym last.1)
       (shows_last calc s may.whole.links (fit_of calc s o may) may.sound.current o current free ∙ ap (last_of o) last.1)))
       (ap (λ (a : Asked). a.mark) said ∙ marks) (ap (λ (a : Asked). a.runs) said)
 

@@ -7,7 +7,7 @@ use Rattle.desk_terms.specs.Reading.{Outcome, Calc}
 use Rattle.desk_model.specs.declared.entry.Entry.{Entry}
 use Rattle.desk_model.specs.declared.entry.Entry.TheVariants.{Gives, Needs, Refuses}
 use Rattle.desk_model.specs.Uses.{uses}
-use Rattle.desk_model.specs.State.{State, seen, now}
+use Rattle.desk_model.specs.State.{State, seen_outcome, now}
 use Rattle.desk_model.specs.Visit.{Visit, Walk, after_visit, settle_all, settle_walk, is_idle, visit_by}
 use Rattle.desk_model.proofs.Steps.{finish, then_on}
 
@@ -43,7 +43,7 @@ unfolding visit_by
 visit_extends calc s zero calls o = itself calls
 visit_extends calc s (suc n) calls o = by_idle (is_idle s calls o) (visit_extends calc s n)
   where
-    by_idle : (b : Bool) → ((calls : List (ℕ × Outcome)) (x : ℕ) → Extends calls (visit_by calc s n calls x).calls) → Extends calls (if b then record { calls = calls; outcome = seen calc s o } else settle_walk (now calc s o) o (settle_all (visit_by calc s n) calls (uses s.market o))).calls
+    by_idle : (b : Bool) → ((calls : List (ℕ × Outcome)) (x : ℕ) → Extends calls (visit_by calc s n calls x).calls) → Extends calls (if b then record { calls = calls; outcome = seen_outcome calc s o } else settle_walk (now calc s o) o (settle_all (visit_by calc s n) calls (uses s.market o))).calls
     by_idle true each = itself calls
     by_idle false each = walk_extends (now calc s o) o calls (settle_all (visit_by calc s n) calls (uses s.market o)) (settle_extends (visit_by calc s n) each calls (uses s.market o))
 

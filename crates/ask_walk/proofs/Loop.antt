@@ -24,7 +24,7 @@ use Rattle.desk_model.specs.Fresh.{inputs_by, reading_over, priced}
 use Rattle.desk_model.specs.Links.{AreOfKind, is_lazy_at, IsRanged, IsWhole}
 use Rattle.desk_model.specs.Laws.{AreValues}
 use Rattle.desk_model.proofs.Valued.{seen_values}
-use Rattle.desk_model.specs.State.{State, kept_at, unpriced, last_of, held, seen, each_kept, is_frozen, is_late}
+use Rattle.desk_model.specs.State.{State, kept_at, unpriced, last_of, held_outcome, seen_outcome, each_kept, is_frozen, is_late}
 use Rattle.desk_model.specs.Visit.{Visit, log_of, value_among, has_value, is_idle, with_value, or_value, stored, visit_by, runs, asked}
 use Rattle.desk_model.specs.Next.{and_next, and_answer, next_of}
 use Rattle.desk_model.proofs.Bounds.{Ranks, ranks_of}
@@ -126,7 +126,7 @@ lazy_terms (Some terms) is = (terms, refl)
 -- what stands at each turn of the loop: what was computed, and what is still to be finished, the last of the stack first
 pub record Asking (calc : Calc) (s : State) (o : ℕ) (count0 : ℕ) (log0 : Option (List (ℕ × Bool))) (stack : List ℕ) (kept : List Kept) (number count : ℕ) (log : Option (List (ℕ × Bool))) : Type 0 where
   pub may : MayAsk calc s o
-  pub free : held s o ≡ None
+  pub free : held_outcome s o ≡ None
   pub ranks : Ranks s.market
   pub calls : List (ℕ × Outcome)
   pub stores : kept ≡ (stored s calls).kept
@@ -152,26 +152,26 @@ pub hand_idle : (calc : Calc) (s : State) (calls : List (ℕ × Outcome)) → Is
 unfolding is_frozen is_at_hand
 hand_idle calc s calls whole fit closed top early y among = elim (cases_Bool (has_value calls y)) [
   | inl has ↦ ap (λ (k : Kept). k.current || k.frozen) (got calc s whole calls closed y has)
-      ∙ sym (or_right (is_some (held s y)) _ (or_right (kept_at s y).current (has_value calls y) has))
+      ∙ sym (or_right (is_some (held_outcome s y)) _ (or_right (kept_at s y).current (has_value calls y) has))
   | inr none ↦ ap (λ (k : Kept). k.current || k.frozen) (stored_not s calls y none) ∙ by_frozen none (cases_Bool (kept_at s y).frozen)
 ]
   where
     by_frozen : has_value calls y ≡ false → (((kept_at s y).frozen ≡ true) ⊎ ((kept_at s y).frozen ≡ false))
-        → ((kept_at s y).current || (kept_at s y).frozen) ≡ (is_some (held s y) || ((kept_at s y).current || has_value calls y))
+        → ((kept_at s y).current || (kept_at s y).frozen) ≡ (is_some (held_outcome s y) || ((kept_at s y).current || has_value calls y))
     by_frozen none (inl frozen) = or_right (kept_at s y).current (kept_at s y).frozen frozen
         ∙ sym (ap (λ (h : Option Outcome). is_some h || ((kept_at s y).current || has_value calls y)) (fit.frozen y frozen))
     by_frozen none (inr thawed) = or_no (kept_at s y).current (kept_at s y).frozen thawed ∙ sym (or_no (kept_at s y).current (has_value calls y) none)
         ∙ sym (ap (λ (h : Option Outcome). is_some h || ((kept_at s y).current || has_value calls y)) (fit.above top y early (needs_near s.market top y among) thawed))
 
 -- what is seen of an object is a value that it may have
-pub values_of : (calc : Calc) (s : State) (o : ℕ) → MayAsk calc s o → AreValues s.market (seen calc s)
+pub values_of : (calc : Calc) (s : State) (o : ℕ) → MayAsk calc s o → AreValues s.market (seen_outcome calc s)
 values_of calc s o may = seen_values calc may.fits s may.whole may.kinds may.ranged
 
 pub fit_of : (calc : Calc) (s : State) (o : ℕ) → MayAsk calc s o → HoldsFit s
 fit_of calc s o may = holds_fit s may.whole.links (thawed_forwarder s may.whole)
 
 -- an object that is current and not held has a last value
-pub current_last : (calc : Calc) (s : State) (o : ℕ) → MayAsk calc s o → held s o ≡ None → (kept_at s o).current ≡ true → (value : Value) × ((kept_at s o).last ≡ Some value)
+pub current_last : (calc : Calc) (s : State) (o : ℕ) → MayAsk calc s o → held_outcome s o ≡ None → (kept_at s o).current ≡ true → (value : Value) × ((kept_at s o).last ≡ Some value)
 current_last calc s o may not_held current = elim (may.sound.current o current) [
   | inl source ↦ absurd ((fit_of calc s o may).source o source not_held)
   | inr priced ↦ (priced.value, priced.last)
@@ -187,7 +187,7 @@ few calc s o count0 log0 stack kept number count log a = let b = a.bound in let 
 
 module _ (calc : Calc) (s : State) (o : ℕ) (count0 : ℕ) (log0 : Option (List (ℕ × Bool))) where
   -- the loop begins
-  pub begins : MayAsk calc s o → held s o ≡ None → (kept_at s o).current ≡ false → Asking calc s o count0 log0 (o ∷ []) s.kept 0 count0 log0
+  pub begins : MayAsk calc s o → held_outcome s o ≡ None → (kept_at s o).current ≡ false → Asking calc s o count0 log0 (o ∷ []) s.kept 0 count0 log0
   unfolding stored
   begins may not_held stale = record {
     may = may;
@@ -334,7 +334,7 @@ module _ (calc : Calc) (s : State) (o : ℕ) (count0 : ℕ) (log0 : Option (List
         root_less : (Among o (reverse (stack ++ top ∷ [])) ⊎ (is_idle s a.calls o ≡ true)) → Among o (reverse stack) ⊎ (is_idle s (a.calls ++ (top, Ok value) ∷ []) o ≡ true)
         root_less (inr idle) = inr (idle_grows s a.calls (a.calls ++ (top, Ok value) ∷ []) o (grows_more a.calls top (Ok value)) idle)
         root_less (inl among) = elim (Among_cons (subst (Among o) (turned stack top) among)) [
-          | inl same ↦ inr (or_right (is_some (held s o)) _ (or_right (kept_at s o).current _ (ap (has_value (a.calls ++ (top, Ok value) ∷ [])) same ∙ has_last a.calls top (Ok value) refl)))
+          | inl same ↦ inr (or_right (is_some (held_outcome s o)) _ (or_right (kept_at s o).current _ (ap (has_value (a.calls ++ (top, Ok value) ∷ [])) same ∙ has_last a.calls top (Ok value) refl)))
           | inr more ↦ inl more
         ]
           where
@@ -351,7 +351,7 @@ module _ (calc : Calc) (s : State) (o : ℕ) (count0 : ℕ) (log0 : Option (List
         still_busy x among =
             let up = rising_of.0 x among in
             let other : (top == x) ≡ false = ne_eqb top x (λ (same : top ≡ x). let e = ap a.ranks.0 same in omega arith) in
-            ap (λ (b : Bool). is_some (held s x) || ((kept_at s x).current || b)) (has_more a.calls top x (Ok value) ∙ or_no (has_value a.calls x) (top == x) other) ∙ busy_of x (inr among)
+            ap (λ (b : Bool). is_some (held_outcome s x) || ((kept_at s x).current || b)) (has_more a.calls top x (Ok value) ∙ or_no (has_value a.calls x) (top == x) other) ∙ busy_of x (inr among)
 
     -- how the ask ends with a refusal
     ends_with : (calls : List (ℕ × Outcome)) (cause : Cause) (after : List Kept) (given : Mark) (answer : Asked) (counted_now : ℕ) (logged_now : Option (List (ℕ × Bool)))
@@ -361,10 +361,10 @@ module _ (calc : Calc) (s : State) (o : ℕ) (count0 : ℕ) (log0 : Option (List
     unfolding runs asked stored
     ends_with calls cause after given answer counted_now logged_now visit stores is counts logs =
         let run : runs calc s o ≡ calls = ap (λ (v : Visit). v.calls) visit in
-        let sees : seen calc s o ≡ Err cause = sym (visit_outcome calc s a.may.whole.links (suc (length s.market.objects)) [] o) ∙ ap (λ (v : Visit). v.outcome) visit in
+        let sees : seen_outcome calc s o ≡ Err cause = sym (visit_outcome calc s a.may.whole.links (suc (length s.market.objects)) [] o) ∙ ap (λ (v : Visit). v.outcome) visit in
         record {
           state = ap (λ (k : List Kept). record s { kept = k }) (stores ∙ ap (λ (c : List (ℕ × Outcome)). (stored s c).kept) (sym run));
-          shown = subst (λ (b : Asked). Shows b.cause (kept_at (record s { kept = after }) o).last (seen calc s o)) (sym is) sees;
+          shown = subst (λ (b : Asked). Shows b.cause (kept_at (record s { kept = after }) o).last (seen_outcome calc s o)) (sym is) sees;
           mark = ap (λ (b : Asked). b.mark) is;
           number = ap (λ (b : Asked). b.runs) is ∙ ap length (sym run);
           count = counts ∙ ap (λ (c : List (ℕ × Outcome)). counted count0 (length c)) (sym run);
@@ -411,8 +411,8 @@ module _ (calc : Calc) (s : State) (o : ℕ) (count0 : ℕ) (log0 : Option (List
     pub fits : (inputs : List input.Input) (terms : Terms) → next_of (is_at_hand kept) (answer_of kept) (uses s.market top) ≡ Ready inputs → terms_at s.market top ≡ Some terms → IsWellFormed (reading_at s.market top terms inputs)
     fits inputs terms next there =
         let w = walk_ready calc s (length s.market.objects) a.calls (answer_of kept) inputs (uses s.market top) answers (sym step_is ∙ next) in
-        well_formed s.market a.may.kinds (seen calc s) (values_of calc s o a.may) top terms inputs (subst IsRanged there (a.may.ranged top)) (subst (AreOfKind s.market) there (a.may.kinds top)) (subst (λ (t : Option Terms). is_lazy (role_of t) ≡ true) there top_lazy)
-        (subst (λ (t : Option Terms). inputs_by (seen calc s) (uses_of (input_at s.market) s.market top t) ≡ Ok inputs) there w.1)
+        well_formed s.market a.may.kinds (seen_outcome calc s) (values_of calc s o a.may) top terms inputs (subst IsRanged there (a.may.ranged top)) (subst (AreOfKind s.market) there (a.may.kinds top)) (subst (λ (t : Option Terms). is_lazy (role_of t) ≡ true) there top_lazy)
+        (subst (λ (t : Option Terms). inputs_by (seen_outcome calc s) (uses_of (input_at s.market) s.market top t) ≡ Ok inputs) there w.1)
 
     -- what a computation leaves
     pub faulted : (inputs : List input.Input) (after : List Kept) (cause : Option Cause) (number2 count2 : ℕ) (log2 : Option (List (ℕ × Bool))) (given : Mark) (answer : Asked) → next_of (is_at_hand kept) (answer_of kept) (uses s.market top) ≡ Ready inputs
@@ -460,15 +460,15 @@ module _ (calc : Calc) (s : State) (o : ℕ) (count0 : ℕ) (log0 : Option (List
       let value = root_value a.root in
       record {
         state = state;
-        shown = subst (λ (b : Asked). Shows b.cause (kept_at (record s { kept = kept }) o).last (seen calc s o)) (sym is)
-            (subst (λ (l : Option Value). Shows None l (seen calc s o)) (sym (ap (λ (t : State). (kept_at t o).last) state ∙ asked_last calc s o value.0 a.may.whole (fit_of calc s o a.may) a.may.sound.current a.free value.1)) value.1);
+        shown = subst (λ (b : Asked). Shows b.cause (kept_at (record s { kept = kept }) o).last (seen_outcome calc s o)) (sym is)
+            (subst (λ (l : Option Value). Shows None l (seen_outcome calc s o)) (sym (ap (λ (t : State). (kept_at t o).last) state ∙ asked_last calc s o value.0 a.may.whole (fit_of calc s o a.may) a.may.sound.current a.free value.1)) value.1);
         mark = ap (λ (b : Asked). b.mark) is;
         number = ap (λ (b : Asked). b.runs) is ∙ a.counts ∙ ap length (sym run);
         count = a.count_is ∙ ap (λ (c : List (ℕ × Outcome)). counted count0 (length c)) (sym run);
         log = a.log_is ∙ ap (λ (c : List (ℕ × Outcome)). logged log0 (log_of c)) (sym run);
       }
     where
-      root_value : (Among o [] ⊎ (is_idle s a.calls o ≡ true)) → (value : Value) × (seen calc s o ≡ Ok value)
+      root_value : (Among o [] ⊎ (is_idle s a.calls o ≡ true)) → (value : Value) × (seen_outcome calc s o ≡ Ok value)
       root_value (inl none) = absurd none
       root_value (inr idle) = elim (cases_Bool (has_value a.calls o)) [
         | inl has ↦ let r = a.closed o has in (r.value, r.seen)

@@ -14,7 +14,7 @@ use Rattle.desk_model.specs.declared.entry.Entry.TheVariants.{Gives, Needs, Refu
 use Rattle.desk_model.specs.Market.{edges}
 use Rattle.desk_model.specs.Uses.{uses}
 use Rattle.desk_model.specs.Fresh.{answer_by, priced_by}
-use Rattle.desk_model.specs.State.{State, kept_at, unpriced, last_of, last_answer, is_frozen, is_source, is_late, held, seen, now, each_kept}
+use Rattle.desk_model.specs.State.{State, kept_at, unpriced, last_of, last_answer, is_frozen, is_source, is_late, held_outcome, seen_outcome, now, each_kept}
 use Rattle.desk_model.specs.Links.{IsWhole}
 use Rattle.desk_model.specs.Visit.{Visit, Walk, value_in, or_value, value_among, has_value, with_value, is_idle, after_visit, settle_all, settle, settle_walk, visit_by, stored}
 use Rattle.desk_model.proofs.Stores.{each_at, each_past}
@@ -116,8 +116,8 @@ module _ (calc : Calc) (s : State) (whole : IsWhole s) (calls : List (ℕ × Out
   held_flag x = ap (λ (b : Bool). b || is_late (stored s calls) x) (frozen_stored s calls x) ∙ ap (λ (b : Bool). is_frozen s x || b) (late_stored s calls x)
 
   -- what is held stays held, at the same value
-  pub held_then : (x : ℕ) → held (stored s calls) x ≡ held s x
-  unfolding held
+  pub held_then : (x : ℕ) → held_outcome (stored s calls) x ≡ held_outcome s x
+  unfolding held_outcome
   held_then x = ap (λ (b : Bool). if b then Some (last_answer (stored s calls) x) else None) (held_flag x) ∙ by_flag (cases_Bool (is_frozen s x || is_late s x))
     where
       by_flag : (((is_frozen s x || is_late s x) ≡ true) ⊎ ((is_frozen s x || is_late s x) ≡ false))
@@ -128,8 +128,8 @@ module _ (calc : Calc) (s : State) (whole : IsWhole s) (calls : List (ℕ × Out
         | inl has ↦ absurd (some_none (sym (ap (λ (b : Bool). if b then Some (last_answer s x) else None) is) ∙ (closed x has).free))
       ])
 
-  pub seen_then : (x : ℕ) → seen calc (stored s calls) x ≡ seen calc s x
-  unfolding seen stored
+  pub seen_then : (x : ℕ) → seen_outcome calc (stored s calls) x ≡ seen_outcome calc s x
+  unfolding seen_outcome stored
   seen_then x = ap (λ (h : ℕ → Option Outcome). answer_by calc s.market h (suc (length s.market.objects)) x) (λ i y. held_then y i)
 
   pub now_then : (x : ℕ) → now calc (stored s calls) x ≡ now calc s x
@@ -149,7 +149,7 @@ module _ (calc : Calc) (s : State) (whole : IsWhole s) (calls : List (ℕ × Out
   pub idle_then : (c : List (ℕ × Outcome)) (x : ℕ) → is_idle (stored s calls) c x ≡ is_idle s (calls ++ c) x
   idle_then c x =
       ap (λ (h : Option Outcome). is_some h || ((kept_at (stored s calls) x).current || has_value c x)) (held_then x)
-      ∙ ap (λ (b : Bool). is_some (held s x) || b) (ap (λ (b : Bool). b || has_value c x) (current_then x)
+      ∙ ap (λ (b : Bool). is_some (held_outcome s x) || b) (ap (λ (b : Bool). b || has_value c x) (current_then x)
       ∙ or_moved (kept_at s x).current (has_value calls x) (has_value c x)
       ∙ ap (λ (b : Bool). (kept_at s x).current || b) (sym (has_append calls c x)))
     where
@@ -167,7 +167,7 @@ module _ (calc : Calc) (s : State) (whole : IsWhole s) (calls : List (ℕ × Out
       ∙ by_idle (is_idle (stored s calls) c x)
     where
       idle : Visit
-      idle = record { calls = calls ++ c; outcome = seen calc s x }
+      idle = record { calls = calls ++ c; outcome = seen_outcome calc s x }
 
       walked : Walk
       walked = settle_all (visit_by calc s n) (calls ++ c) (uses s.market x)
@@ -175,6 +175,6 @@ module _ (calc : Calc) (s : State) (whole : IsWhole s) (calls : List (ℕ × Out
       walked_then : Walk
       walked_then = settle_all (visit_by calc (stored s calls) n) c (uses s.market x)
 
-      by_idle : (b : Bool) → (if b then idle else settle_walk (now calc s x) x (resumed_walk calls walked_then)) ≡ resumed_visit calls (if b then record { calls = c; outcome = seen calc (stored s calls) x } else settle_walk (now calc (stored s calls) x) x walked_then)
+      by_idle : (b : Bool) → (if b then idle else settle_walk (now calc s x) x (resumed_walk calls walked_then)) ≡ resumed_visit calls (if b then record { calls = c; outcome = seen_outcome calc (stored s calls) x } else settle_walk (now calc (stored s calls) x) x walked_then)
       by_idle true = ap (λ (r : Outcome). record { calls = calls ++ c; outcome = r }) (sym (seen_then x))
       by_idle false = ap (λ (r : Outcome). settle_walk r x (resumed_walk calls walked_then)) (sym (now_then x)) ∙ settle_goes_on calls (now calc (stored s calls) x) x walked_then.calls walked_then.refusal

@@ -19,7 +19,7 @@ use Rattle.desk_model.specs.Market.{Market, terms_at, role_of, is_lazy}
 use Rattle.desk_model.specs.Uses.{input_at, uses_of, uses, needs, reading_at}
 use Rattle.desk_model.specs.Fresh.{inputs_by, reading_over, priced}
 use Rattle.desk_model.specs.Links.{AreOfKind, is_lazy_at, IsRanged, IsLinked}
-use Rattle.desk_model.specs.State.{State, kept_at, unpriced, is_late, least_source, held, seen, now, each_kept}
+use Rattle.desk_model.specs.State.{State, kept_at, unpriced, is_late, least_source, held_outcome, seen_outcome, now, each_kept}
 use Rattle.desk_model.specs.Visit.{Visit, Walk, log_of, has_value, value_among, with_value, is_idle, after_visit, settle_all, settle_walk, visit_by, runs, stored, asked}
 use Rattle.desk_model.specs.Next.{next_of}
 use Rattle.desk_model.specs.Recalc.{inputs_walk, reruns}
@@ -192,11 +192,11 @@ module _ (calc : Calc) (s : State) (o : ℕ) (count0 : ℕ) (log0 : Option (List
     ends_refused later cause after answer count2 log2 walk stores is counts logs =
         let run : reruns calc s o ≡ later = ap (λ (w : Walk). (settle_walk (now calc s o) o w).calls) walk in
         let inputs : (inputs_walk calc s o).calls ≡ later = ap (λ (w : Walk). w.calls) walk in
-        let refused : refusal_of (inputs_by (seen calc s) (uses s.market o)) ≡ Some cause =
-        sym (walk_refusal (visit_by calc s (length s.market.objects)) (seen calc s) (visit_outcome calc s a.may.whole.links (length s.market.objects)) [] (uses s.market o)) ∙ ap (λ (w : Walk). w.refusal) walk in
+        let refused : refusal_of (inputs_by (seen_outcome calc s) (uses s.market o)) ≡ Some cause =
+        sym (walk_refusal (visit_by calc s (length s.market.objects)) (seen_outcome calc s) (visit_outcome calc s a.may.whole.links (length s.market.objects)) [] (uses s.market o)) ∙ ap (λ (w : Walk). w.refusal) walk in
         subst (λ (b : Asked). Reprices calc o s after b count0 count2 log0 log2) (sym is) (record {
           price = (
-            priced_refused calc s.market o (terms_at s.market o) (inputs_by (seen calc s) (uses s.market o)) cause refused,
+            priced_refused calc s.market o (terms_at s.market o) (inputs_by (seen_outcome calc s) (uses s.market o)) cause refused,
             stores ∙ ap (λ (c : List (ℕ × Outcome)). (stored s c).kept) (sym inputs),
           );
           mark = refl;
@@ -214,7 +214,7 @@ module _ (calc : Calc) (s : State) (o : ℕ) (count0 : ℕ) (log0 : Option (List
 
     -- all inputs are at hand
     module _ (inputs : List input.Input) (next : next_of (is_at_hand kept) (answer_of kept) (uses s.market o) ≡ Ready inputs) where
-      all_ready : (settle_all (visit_by calc s (length s.market.objects)) a.calls (uses s.market o) ≡ record { calls = a.calls; refusal = None }) × (inputs_by (seen calc s) (uses s.market o) ≡ Ok inputs)
+      all_ready : (settle_all (visit_by calc s (length s.market.objects)) a.calls (uses s.market o) ≡ record { calls = a.calls; refusal = None }) × (inputs_by (seen_outcome calc s) (uses s.market o) ≡ Ok inputs)
       all_ready = walk_ready calc s (length s.market.objects) a.calls (answer_of kept) inputs (uses s.market o) answers (sym step_is ∙ next)
 
       walk_is : inputs_walk calc s o ≡ record { calls = a.calls; refusal = None }
@@ -222,9 +222,9 @@ module _ (calc : Calc) (s : State) (o : ℕ) (count0 : ℕ) (log0 : Option (List
 
       -- the inputs are those that the terms ask for
       pub settled_fits : (terms : Terms) → terms_at s.market o ≡ Some terms → IsWellFormed (reading_at s.market o terms inputs)
-      settled_fits terms there = well_formed s.market a.may.kinds (seen calc s) (values_of calc s o a.may) o terms inputs (subst IsRanged there (a.may.ranged o)) (subst (AreOfKind s.market) there (a.may.kinds o))
+      settled_fits terms there = well_formed s.market a.may.kinds (seen_outcome calc s) (values_of calc s o a.may) o terms inputs (subst IsRanged there (a.may.ranged o)) (subst (AreOfKind s.market) there (a.may.kinds o))
           (subst (λ (t : Option Terms). is_lazy (role_of t) ≡ true) there a.may.lazy)
-          (subst (λ (t : Option Terms). inputs_by (seen calc s) (uses_of (input_at s.market) s.market o t) ≡ Ok inputs) there all_ready.1)
+          (subst (λ (t : Option Terms). inputs_by (seen_outcome calc s) (uses_of (input_at s.market) s.market o t) ≡ Ok inputs) there all_ready.1)
 
       price_is : (terms : Terms) → terms_at s.market o ≡ Some terms → now calc s o ≡ calc (reading_at s.market o terms inputs)
       unfolding now
@@ -287,15 +287,15 @@ module _ (calc : Calc) (s : State) (o : ℕ) (count0 : ℕ) (log0 : Option (List
       busy : (is_idle s a.calls y ≡ false) × Among y (needs s.market o)
       busy = first_busy calc s (length s.market.objects) a.calls (answer_of kept) y (uses s.market o) first
 
-      free : (held s y ≡ None) × ((kept_at s y).current ≡ false) × (has_value a.calls y ≡ false)
+      free : (held_outcome s y ≡ None) × ((kept_at s y).current ≡ false) × (has_value a.calls y ≡ false)
       free = not_idle s a.calls y busy.0
 
       pub needed_lazy : is_lazy_at s.market y ≡ true
       needed_lazy = needs_lazy s.market a.may.kinds o y busy.1
 
-      pub needed_free : held (record s { kept = kept }) y ≡ None
+      pub needed_free : held_outcome (record s { kept = kept }) y ≡ None
       unfolding stored
-      needed_free = ap (λ (k : List Kept). held (record s { kept = k }) y) a.stores ∙ held_then calc s a.may.whole a.calls a.closed y ∙ free.0
+      needed_free = ap (λ (k : List Kept). held_outcome (record s { kept = k }) y) a.stores ∙ held_then calc s a.may.whole a.calls a.closed y ∙ free.0
 
       pub needed_stale : is_now kept y ≡ false
       needed_stale = ap (λ (k : List Kept). is_now k y) a.stores ∙ ap (λ (k : Kept). k.current) (stored_not s a.calls y free.2) ∙ free.1
@@ -335,7 +335,7 @@ module _ (calc : Calc) (s : State) (o : ℕ) (count0 : ℕ) (log0 : Option (List
       unfolding runs stored
       calls_are = ap (λ (v : Visit). v.calls) visit_is
 
-      outcome_is : (visit_by calc s (length s.market.objects) a.calls y).outcome ≡ seen calc s y
+      outcome_is : (visit_by calc s (length s.market.objects) a.calls y).outcome ≡ seen_outcome calc s y
       outcome_is = visit_outcome calc s a.may.whole.links (length s.market.objects) a.calls y
 
       walk_then : inputs_walk calc s o ≡ after_visit (visit_by calc s (length s.market.objects) a.calls y).calls (visit_by calc s (length s.market.objects) a.calls y).outcome (λ later. settle_all (visit_by calc s (length s.market.objects)) later (uses s.market o))
@@ -394,8 +394,8 @@ module _ (calc : Calc) (s : State) (o : ℕ) (count0 : ℕ) (log0 : Option (List
             ∙ ap (logged log0) (ap (λ (t : State). log_of a.calls ++ log_of (runs calc t y)) then_state ∙ sym (log_append a.calls (runs calc (stored s a.calls) y)))
             ∙ ap (λ (c : List (ℕ × Outcome)). logged log0 (log_of c)) (sym calls_are)
 
-        seen_is : seen calc (record s { kept = kept }) y ≡ seen calc s y
-        seen_is = ap (λ (t : State). seen calc t y) then_state ∙ seen_then calc s a.may.whole a.calls a.closed y
+        seen_is : seen_outcome calc (record s { kept = kept }) y ≡ seen_outcome calc s y
+        seen_is = ap (λ (t : State). seen_outcome calc t y) then_state ∙ seen_then calc s a.may.whole a.calls a.closed y
 
         lazy_then : (x : ℕ) → has_value (visit_by calc s (length s.market.objects) a.calls y).calls x ≡ true → is_lazy (role_of (terms_at s.market x)) ≡ true
         lazy_then x has = elim (or_cases (has_value a.calls x) _ (sym (has_append a.calls (runs calc (stored s a.calls) y) x) ∙ ap (λ (c : List (ℕ × Outcome)). has_value c x) (sym calls_are) ∙ has)) [
@@ -408,7 +408,7 @@ module _ (calc : Calc) (s : State) (o : ℕ) (count0 : ℕ) (log0 : Option (List
         unfolding stored asked
         settling_on none few =
             let value = shown_value answer.cause _ _ w.shown none in
-            let is : seen calc s y ≡ Ok value.0 = sym seen_is ∙ value.1 in
+            let is : seen_outcome calc s y ≡ Ok value.0 = sym seen_is ∙ value.1 in
             let fewer = fewer_open value.0 is in
             let long = ap length new_is ∙ stored_length s (visit_by calc s (length s.market.objects) a.calls y).calls in
             let same = ap length a.stores ∙ stored_length s a.calls in (
@@ -429,11 +429,11 @@ module _ (calc : Calc) (s : State) (o : ℕ) (count0 : ℕ) (log0 : Option (List
               fewer,
             )
           where
-            fewer_open : (value : Value) → seen calc s y ≡ Ok value → open_of new + 1 ≤ open_of kept
+            fewer_open : (value : Value) → seen_outcome calc s y ≡ Ok value → open_of new + 1 ≤ open_of kept
             fewer_open value is =
                 let state : new ≡ (stored (record s { kept = kept }) (runs calc (record s { kept = kept }) y)).kept = ap (λ (t : State). t.kept) w.state in
                 let idle = runs_idle calc (record s { kept = kept }) a.may.whole.links y value (seen_is ∙ is) in
-                let has = or_false (kept_at (record s { kept = kept }) y).current _ (or_false (is_some (held (record s { kept = kept }) y)) _ idle (ap is_some needed_free)) needed_stale in
+                let has = or_false (kept_at (record s { kept = kept }) y).current _ (or_false (is_some (held_outcome (record s { kept = kept }) y)) _ idle (ap is_some needed_free)) needed_stale in
                 let within : y < length kept = (let l = lazy_within s.market y needed_lazy in let e = a.may.whole.length in let f = ap length a.stores in let g = stored_length s a.calls in omega arith) in
                 let at_y : 0 + y ≡ y = omega arith in
                 let one = open_one (value_among (runs calc (record s { kept = kept }) y)) 0 y kept within needed_stale (ap (has_value (runs calc (record s { kept = kept }) y)) at_y ∙ has) in
@@ -443,7 +443,7 @@ module _ (calc : Calc) (s : State) (o : ℕ) (count0 : ℕ) (log0 : Option (List
         pub settling_refused : is_some answer.cause ≡ true → (said : Asked) → said ≡ record { cause = answer.cause; mark = Recalc; runs = number + answer.runs } → Reprices calc o s new said count0 count2 log0 log2
         settling_refused some said is =
             let cause = shown_cause answer.cause _ _ w.shown some in
-            let refused : seen calc s y ≡ Err cause.0 = sym seen_is ∙ cause.2 in
+            let refused : seen_outcome calc s y ≡ Err cause.0 = sym seen_is ∙ cause.2 in
             ends_refused (visit_by calc s (length s.market.objects) a.calls y).calls cause.0 new said count2 log2
             (walk_then ∙ ap (λ (r : Outcome). after_visit (visit_by calc s (length s.market.objects) a.calls y).calls r (λ later. settle_all (visit_by calc s (length s.market.objects)) later (uses s.market o))) (outcome_is ∙ refused))
             new_is

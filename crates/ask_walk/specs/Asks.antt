@@ -14,7 +14,7 @@ use Rattle.desk_terms.specs.Bench.{counted, logged}
 use Rattle.desk_model.specs.declared.kept.Kept.{Kept}
 use Rattle.desk_model.specs.Market.{Market, terms_at}
 use Rattle.desk_model.specs.Uses.{reading_at}
-use Rattle.desk_model.specs.State.{State, kept_at, unpriced, seen, shows, mark_of, is_frozen, is_late}
+use Rattle.desk_model.specs.State.{State, kept_at, unpriced, seen_outcome, shows, mark_of, is_frozen, is_late}
 use Rattle.desk_model.specs.Visit.{log_of, with_value, runs, stored, asked}
 use Rattle.desk_model.specs.Links.{IsWhole, IsKinded, AreRanged, is_lazy_at}
 use Rattle.desk_model.specs.Sound.{IsSound}
@@ -32,7 +32,7 @@ pub record Asks (calc : Calc) (o : ℕ) (old new : State) (answer : Asked) (coun
 -- A walk that computed what an ask of o computes, and that was answered with this mark.
 pub record Walks (calc : Calc) (o : ℕ) (old new : State) (given : Mark) (answer : Asked) (count_old count_new : ℕ) (log_old log_new : Option (List (ℕ × Bool))) : Type 0 where
   pub state : new ≡ asked calc o old
-  pub shown : Shows answer.cause (kept_at new o).last (seen calc old o)
+  pub shown : Shows answer.cause (kept_at new o).last (seen_outcome calc old o)
   pub mark : answer.mark ≡ given
   pub number : answer.runs ≡ length (runs calc old o)
   pub count : count_new ≡ counted count_old (length (runs calc old o))

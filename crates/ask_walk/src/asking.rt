@@ -7,7 +7,7 @@ ghost use Rattle.desk_terms.specs.Reading.{IsWellFormed};
 ghost use Rattle.desk_model.specs.Market.{terms_at};
 ghost use Rattle.desk_model.specs.Links.{IsLinked, is_lazy_at, IsWhole};
 ghost use Rattle.desk_model.specs.Uses.{reading_at};
-ghost use Rattle.desk_model.specs.State.{unpriced, held};
+ghost use Rattle.desk_model.specs.State.{unpriced, held_outcome};
 ghost use Rattle.object_store.specs.declared.market.Market.{Market};
 ghost use Rattle.object_store.specs.Market.{market_in, state_in, state_after};
 ghost use Rattle.object_store.specs.Slots.{is_now, is_at_hand};
@@ -46,7 +46,7 @@ impl Books {
         ensures stops { OnErr result (Stops (B.calc bench.old) object (state_in market.now self.old.store) (state_in market.now self.new.store)
             (B.count bench.old) (B.count bench.new) (B.log bench.old) (B.log bench.new)) }
         ensures stays { Stays (B.calc bench.old) (state_in market.now self.new.store) }
-        ensures ready { (held (state_in market.now self.old.store) object ≢ None) ⊎ (is_now self.old.store.kept object ≡ true) → IsOk result }
+        ensures ready { (held_outcome (state_in market.now self.old.store) object ≢ None) ⊎ (is_now self.old.store.kept object ≡ true) → IsOk result }
         ensures empty { IsEmpty (length market.now.objects) self.new.scratch }
         ensures shape { self.new.store.shape ≡ self.old.store.shape }
         ensures registry { registry_of self.new.store ≡ registry_of self.old.store }
@@ -91,7 +91,7 @@ impl Books {
         bench: &mut B,
     ) -> Result<Asked, AllocError>
         requires may { MayAsk (B.calc bench.old) (state_in market.now self.old.store) object }
-        requires free { held (state_in market.now self.old.store) object ≡ None }
+        requires free { held_outcome (state_in market.now self.old.store) object ≡ None }
         requires stale { is_now self.old.store.kept object ≡ false }
         requires remembers { Remembers (market_in market.now) self.old.scratch.entries }
         requires begun { Begun market.now.objects self.old.store.kept self.old.scratch.positions }

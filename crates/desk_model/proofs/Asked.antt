@@ -15,7 +15,7 @@ use Rattle.desk_model.specs.Market.{Market, terms_in, edges, is_forwarder, terms
 use Rattle.desk_model.specs.declared.slot.Slot.TheVariants.{Free}
 use Rattle.desk_model.specs.Uses.{uses, needs}
 use Rattle.desk_model.specs.Fresh.{inputs_by, reading_over, priced}
-use Rattle.desk_model.specs.State.{State, kept_at, unpriced, last_of, last_answer, is_frozen, is_source, is_late, held, seen, now}
+use Rattle.desk_model.specs.State.{State, kept_at, unpriced, last_of, last_answer, is_frozen, is_source, is_late, held_outcome, seen_outcome, now}
 use Rattle.desk_model.specs.Sound.{has_source, is_ready, IsPriced, AreSound, HasNoSourceWhereOff, IsSound}
 use Rattle.desk_model.specs.Links.{is_lazy_at, IsWhole}
 use Rattle.desk_model.specs.Laws.{AreValues}
@@ -58,9 +58,9 @@ priced_there calc m o None (Err cause) value e is = cc
 priced_there calc m o (Some t) r value e is = cc
 
 -- an idle object that is not held and got no value is current
-pub idle_current : (s : State) (calls : List (ℕ × Outcome)) (y : ℕ) → is_idle s calls y ≡ true → held s y ≡ None
+pub idle_current : (s : State) (calls : List (ℕ × Outcome)) (y : ℕ) → is_idle s calls y ≡ true → held_outcome s y ≡ None
     → has_value calls y ≡ false → (kept_at s y).current ≡ true
-idle_current s calls y idle free none = elim (or_cases (kept_at s y).current (has_value calls y) (or_false (is_some (held s y)) _ idle (ap is_some free))) [
+idle_current s calls y idle free none = elim (or_cases (kept_at s y).current (has_value calls y) (or_false (is_some (held_outcome s y)) _ idle (ap is_some free))) [
   | inl current ↦ current
   | inr has ↦ absurd (false≢true (sym none ∙ has))
 ]
@@ -77,7 +77,7 @@ module _ (calc : Calc) (s : State) (whole : IsWhole s) (calls : List (ℕ × Out
   unfolding now
   got_within o has = elim (cases_lt o (length s.market.objects)) [
     | inl within ↦ let e = whole.length in omega arith
-    | inr past ↦ let r = closed o has in absurd (priced_there calc s.market o (terms_at s.market o) (inputs_by (seen calc s) (uses s.market o)) r.value (sym (seen_free calc s whole.links o r.free) ∙ r.seen) (ap terms_in (get_or_past s.market.objects o Free past)))
+    | inr past ↦ let r = closed o has in absurd (priced_there calc s.market o (terms_at s.market o) (inputs_by (seen_outcome calc s) (uses s.market o)) r.value (sym (seen_free calc s whole.links o r.free) ∙ r.seen) (ap terms_in (get_or_past s.market.objects o Free past)))
   ]
 
   pub got : (o : ℕ) (has : has_value calls o ≡ true)
@@ -102,7 +102,7 @@ module _ (calc : Calc) (s : State) (whole : IsWhole s) (calls : List (ℕ × Out
   module _ (fit : HoldsFit s) (sound : AreSound calc s) where
     -- what is idle, beneath an object that is not held, is ready then, and has what is seen as its last value
     pub ready_then : (o y : ℕ) → is_late s o ≡ false → Among y (needs s.market o) → is_idle s calls y ≡ true
-        → (is_ready (stored s calls) y ≡ true) × (last_answer (stored s calls) y ≡ seen calc s y)
+        → (is_ready (stored s calls) y ≡ true) × (last_answer (stored s calls) y ≡ seen_outcome calc s y)
     ready_then o y early among idle = elim (cases_Bool (has_value calls y)) [
       | inl has ↦ (or_right _ _ (ap (λ (k : Kept). k.current) (got y has)), ap (λ (k : Kept). last_of y k.last) (got y has) ∙ sym (closed y has).seen)
       | inr none ↦
@@ -143,7 +143,7 @@ module _ (calc : Calc) (s : State) (whole : IsWhole s) (calls : List (ℕ × Out
         record {
           value = r.value;
           last = ap (λ (k : Kept). k.last) (got o has);
-          price = same_price calc s.market (last_answer (stored s calls)) (seen calc s) o (λ y among. (ready_then o y (early_of s o r.free) among (r.needs y among)).1)
+          price = same_price calc s.market (last_answer (stored s calls)) (seen_outcome calc s) o (λ y among. (ready_then o y (early_of s o r.free) among (r.needs y among)).1)
               ∙ (sym (seen_free calc s whole.links o r.free) ∙ r.seen);
           ready = λ y among. (ready_then o y (early_of s o r.free) among (r.needs y among)).0;
         }
@@ -188,7 +188,7 @@ module _ (calc : Calc) (s : State) (whole : IsWhole s) (calls : List (ℕ × Out
     sources_stored none off o = (same_flags o).1 ∙ none off o
 
     pub whole_stored : ((x : ℕ) → has_value calls x ≡ true → is_lazy_at s.market x ≡ true)
-        → AreValues s.market (seen calc s) → IsWhole (stored s calls)
+        → AreValues s.market (seen_outcome calc s) → IsWhole (stored s calls)
     unfolding stored
     whole_stored lazy values = record {
       length = stored_length s calls ∙ whole.length;
@@ -227,7 +227,7 @@ sound_stored calc s calls whole closed fit sound = record {
 
 -- an object that is asked for and seen with a value, and that is not held, has that value as its last one after the ask
 pub asked_last : (calc : Calc) (s : State) (o : ℕ) (value : Value) → IsWhole s → HoldsFit s → AreSound calc s
-    → held s o ≡ None → seen calc s o ≡ Ok value → (kept_at (asked calc o s) o).last ≡ Some value
+    → held_outcome s o ≡ None → seen_outcome calc s o ≡ Ok value → (kept_at (asked calc o s) o).last ≡ Some value
 unfolding asked
 asked_last calc s o value whole fit sound free is = elim (cases_Bool (has_value (runs calc s o) o)) [
   | inl has ↦

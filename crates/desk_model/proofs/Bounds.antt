@@ -9,7 +9,7 @@ use Rattle.desk_model.specs.Market.{Market, terms_at, edges}
 use Rattle.desk_model.specs.Uses.{uses, needed, needs}
 use Rattle.desk_model.specs.declared.entry.Entry.TheVariants.{Gives, Needs, Refuses}
 use Rattle.desk_model.specs.Fresh.{and_inputs, and_value, inputs_by, reading_over, reading_by, priced, priced_by, or_priced, answer_by, fresh}
-use Rattle.desk_model.specs.State.{State, held, seen, now}
+use Rattle.desk_model.specs.State.{State, held_outcome, seen_outcome, now}
 use Rattle.desk_model.specs.Links.{IsLinked}
 use Rattle.desk_model.proofs.Locality.{needs_fall}
 
@@ -63,9 +63,9 @@ fresh_is calc m links o =
 
 -- what is seen of an object is what it is held at, or its price over what is seen
 pub seen_is : (calc : Calc) (s : State) → IsLinked s.market → (o : ℕ)
-    → seen calc s o ≡ or_priced (held s o) (now calc s o)
-unfolding seen now answer_by
+    → seen_outcome calc s o ≡ or_priced (held_outcome s o) (now calc s o)
+unfolding seen_outcome now answer_by
 seen_is calc s links o =
     let r = ranks_of s.market links in
-    ap (or_priced (held s o)) (same_price calc s.market _ _ o
-    (λ x among. let fall = needs_fall s.market r.0 r.1 o x among in let low = r.2 o in answer_steps calc s.market (held s) r.0 r.1 (length s.market.objects) (suc (length s.market.objects)) x (omega arith) (omega arith)))
+    ap (or_priced (held_outcome s o)) (same_price calc s.market _ _ o
+    (λ x among. let fall = needs_fall s.market r.0 r.1 o x among in let low = r.2 o in answer_steps calc s.market (held_outcome s) r.0 r.1 (length s.market.objects) (suc (length s.market.objects)) x (omega arith) (omega arith)))

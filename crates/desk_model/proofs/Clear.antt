@@ -9,7 +9,7 @@ use Rattle.desk_terms.specs.Reading.{Calc}
 use Rattle.desk_model.specs.Market.{edges, is_forwarder}
 use Rattle.desk_model.specs.Uses.{needs}
 use Rattle.desk_model.specs.Fresh.{fresh}
-use Rattle.desk_model.specs.State.{State, is_frozen, is_source, is_late, is_held_back, is_clear, held, seen, now, shows}
+use Rattle.desk_model.specs.State.{State, is_frozen, is_source, is_late, is_held_back, is_clear, held_outcome, seen_outcome, now, shows}
 use Rattle.desk_model.specs.Links.{IsLinked}
 use Rattle.desk_model.proofs.Locality.{needs_near, needs_fall}
 use Rattle.desk_model.proofs.Bounds.{same_price, ranks_of, fresh_is}
@@ -23,7 +23,7 @@ module _ (s : State) (links : IsLinked s.market) where
       let p = or_parts (is_held_back s o) _ (not-true _ clear) in
       false≢true (sym p.1 ∙ below_true (edges s.market) (is_held_back s) (λ x. true) r.0 r.1 (suc (length s.market.objects)) o (r.2 o) below)
 
-  clear_free : (o : ℕ) → is_clear s o ≡ true → held s o ≡ None
+  clear_free : (o : ℕ) → is_clear s o ≡ true → held_outcome s o ≡ None
   unfolding is_clear is_late
   clear_free o clear =
       let p = or_parts (is_held_back s o) _ (not-true _ clear) in
@@ -40,24 +40,24 @@ module _ (s : State) (links : IsLinked s.market) where
       (false_from_ne_true _ (λ deep. below_back o (meets_on (edges s.market) (is_held_back s) (λ z. true) y o refl (only_below (edges s.market) (is_held_back s) (λ z. true) (suc (length s.market.objects)) y deep) path) clear)))
 
   clear_by : (calc : Calc) (n o : ℕ) → (ranks_of s.market links).0 o < n → is_clear s o ≡ true
-      → seen calc s o ≡ fresh calc s.market o
+      → seen_outcome calc s o ≡ fresh calc s.market o
   unfolding now
   clear_by calc zero o p clear = absurd (omega arith)
   clear_by calc (suc n) o p clear =
       seen_free calc s links o (clear_free o clear)
-      ∙ same_price calc s.market (seen calc s) (fresh calc s.market) o (λ y among. let fall = needs_fall s.market (ranks_of s.market links).0 (ranks_of s.market links).1 o y among in clear_by calc n y (omega arith) (clear_needs o y clear among))
+      ∙ same_price calc s.market (seen_outcome calc s) (fresh calc s.market) o (λ y among. let fall = needs_fall s.market (ranks_of s.market links).0 (ranks_of s.market links).1 o y among in clear_by calc n y (omega arith) (clear_needs o y clear among))
       ∙ sym (fresh_is calc s.market links o)
 
   -- THE HEADLINE'S CLAUSE
-  pub clear_fresh : (calc : Calc) (o : ℕ) → is_clear s o ≡ true → seen calc s o ≡ fresh calc s.market o
+  pub clear_fresh : (calc : Calc) (o : ℕ) → is_clear s o ≡ true → seen_outcome calc s o ≡ fresh calc s.market o
   clear_fresh calc o clear = clear_by calc (suc ((ranks_of s.market links).0 o)) o (omega arith) clear
 
   -- what an ask shows is what is seen
-  pub shows_seen : (calc : Calc) (o : ℕ) → shows calc s o ≡ seen calc s o
+  pub shows_seen : (calc : Calc) (o : ℕ) → shows calc s o ≡ seen_outcome calc s o
   unfolding shows
   shows_seen calc o = by_clear (is_clear s o) (λ is. clear_fresh calc o is)
     where
-      by_clear : (b : Bool) → (b ≡ true → seen calc s o ≡ fresh calc s.market o)
-          → (if b then fresh calc s.market o else seen calc s o) ≡ seen calc s o
+      by_clear : (b : Bool) → (b ≡ true → seen_outcome calc s o ≡ fresh calc s.market o)
+          → (if b then fresh calc s.market o else seen_outcome calc s o) ≡ seen_outcome calc s o
       by_clear true same = sym (same refl)
       by_clear false same = refl

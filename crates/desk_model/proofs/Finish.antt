@@ -8,7 +8,7 @@ use Rattle.desk_terms.specs.Reading.{Outcome, Calc}
 use Rattle.desk_model.specs.Market.{terms_at}
 use Rattle.desk_model.specs.Uses.{uses}
 use Rattle.desk_model.specs.Fresh.{reading_over, priced}
-use Rattle.desk_model.specs.State.{State, kept_at, held, seen, now}
+use Rattle.desk_model.specs.State.{State, kept_at, held_outcome, seen_outcome, now}
 use Rattle.desk_model.specs.Links.{IsLinked}
 use Rattle.desk_model.specs.Visit.{Visit, Walk, has_value, after_visit, settle_all, settle_walk, is_idle, visit_by}
 use Rattle.desk_model.specs.Next.{next_of}
@@ -24,13 +24,13 @@ pub finish_all : (calc : Calc) (s : State) → IsLinked s.market → (o : ℕ)
 unfolding finish
 finish_all calc s links o = by_outcome (visit_by calc s (suc (length s.market.objects)) [] o) (visit_outcome calc s links (suc (length s.market.objects)) [] o)
   where
-    pack : (v : Visit) (r : Outcome) → v.outcome ≡ r → seen calc s o ≡ r
-        → then_on v.calls r (λ later. record { calls = later; outcome = seen calc s o }) ≡ record { calls = v.calls; outcome = r }
+    pack : (v : Visit) (r : Outcome) → v.outcome ≡ r → seen_outcome calc s o ≡ r
+        → then_on v.calls r (λ later. record { calls = later; outcome = seen_outcome calc s o }) ≡ record { calls = v.calls; outcome = r }
     pack v (Ok value) e e2 = ap (λ (r : Outcome). record { calls = v.calls; outcome = r }) e2
     pack v (Err cause) e e2 = refl
 
-    by_outcome : (v : Visit) → v.outcome ≡ seen calc s o
-        → then_on v.calls v.outcome (λ later. record { calls = later; outcome = seen calc s o }) ≡ v
+    by_outcome : (v : Visit) → v.outcome ≡ seen_outcome calc s o
+        → then_on v.calls v.outcome (λ later. record { calls = later; outcome = seen_outcome calc s o }) ≡ v
     by_outcome v e = pack v v.outcome refl (sym e)
 
 module _ (calc : Calc) (s : State) (links : IsLinked s.market) where
@@ -56,7 +56,7 @@ module _ (calc : Calc) (s : State) (links : IsLinked s.market) where
         ∙ ap (λ (v : Visit). then_on v.calls v.outcome (finish calc s o xs)) (sym (busy_visit calc s L calls x busy))
       where
         still_busy : (later : List (ℕ × Outcome)) → has_value later x ≡ has_value calls x → is_idle s later x ≡ false
-        still_busy later same = ap (λ (b : Bool). is_some (held s x) || ((kept_at s x).current || b)) same ∙ busy
+        still_busy later same = ap (λ (b : Bool). is_some (held_outcome s x) || ((kept_at s x).current || b)) same ∙ busy
 
         by_outcome : (v : Visit) (r : Outcome) → is_idle s v.calls x ≡ false
             → then_on v.calls r (finish calc s o (x ∷ xs))
@@ -78,7 +78,7 @@ module _ (calc : Calc) (s : State) (links : IsLinked s.market) where
         → next_of (is_idle s calls) answer (uses s.market x) ≡ Ready inputs
         → priced calc (reading_over s.market x (terms_at s.market x) (Ok inputs)) ≡ Ok value
         → (finish calc s o (x ∷ xs) calls ≡ finish calc s o xs (calls ++ (x, Ok value) ∷ []))
-        × IsClosed calc s (calls ++ (x, Ok value) ∷ []) × (seen calc s x ≡ Ok value)
+        × IsClosed calc s (calls ++ (x, Ok value) ∷ []) × (seen_outcome calc s x ≡ Ok value)
     unfolding finish
     finish_value inputs value ready is =
         let p = visit_price inputs ready in

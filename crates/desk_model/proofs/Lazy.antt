@@ -9,7 +9,7 @@ use Rattle.desk_model.specs.declared.entry.Entry.{Entry}
 use Rattle.desk_model.specs.declared.entry.Entry.TheVariants.{Gives, Needs, Refuses}
 use Rattle.desk_model.specs.Market.{terms_at, role_of, is_lazy}
 use Rattle.desk_model.specs.Uses.{uses, needed, needs}
-use Rattle.desk_model.specs.State.{State, seen, now}
+use Rattle.desk_model.specs.State.{State, seen_outcome, now}
 use Rattle.desk_model.specs.Links.{IsWhole}
 use Rattle.desk_model.specs.Laws.{AreValues}
 use Rattle.desk_model.specs.Visit.{Visit, has_value, after_visit, settle_all, settle, settle_walk, is_idle, visit_by, runs, asked}
@@ -55,7 +55,7 @@ module _ (calc : Calc) (s : State) (kinds : (o x : ℕ) → Among x (needs s.mar
 
       by_idle : (b : Bool)
           → (has_value (settle_all (visit_by calc s n) calls (uses s.market o)).calls x ≡ true → (has_value calls x ≡ true) ⊎ (is_lazy (role_of (terms_at s.market x)) ≡ true))
-          → has_value (if b then record { calls = calls; outcome = seen calc s o } else settle_walk (now calc s o) o (settle_all (visit_by calc s n) calls (uses s.market o))).calls x ≡ true
+          → has_value (if b then record { calls = calls; outcome = seen_outcome calc s o } else settle_walk (now calc s o) o (settle_all (visit_by calc s n) calls (uses s.market o))).calls x ≡ true
           → (has_value calls x ≡ true) ⊎ (is_lazy (role_of (terms_at s.market x)) ≡ true)
       by_idle true more e = inl e
       by_idle false more e = by_refusal (settle_all (visit_by calc s n) calls (uses s.market o)).calls (settle_all (visit_by calc s n) calls (uses s.market o)).refusal more e
@@ -66,7 +66,7 @@ module _ (calc : Calc) (s : State) (kinds : (o x : ℕ) → Among x (needs s.mar
   runs_lazy o lazy x e = elim (visit_gets (suc (length s.market.objects)) o lazy [] x e) [ inl none ↦ absurd (false≢true none) | inr is ↦ is ]
 
   pub whole_asked : (o : ℕ) → is_lazy (role_of (terms_at s.market o)) ≡ true → IsWhole s → HoldsFit s → AreSound calc s
-      → AreValues s.market (seen calc s) → IsWhole (asked calc o s)
+      → AreValues s.market (seen_outcome calc s) → IsWhole (asked calc o s)
   unfolding asked
   whole_asked o lazy whole fit sound values = whole_stored calc s whole (runs calc s o) (runs_closed calc s whole.links o) fit sound (runs_lazy o lazy) values
 

@@ -14,7 +14,7 @@ use Rattle.desk_model.specs.declared.slot.Slot.TheVariants.{Free, Today, Watcher
 use Rattle.desk_model.specs.Market.{Market, slot_at, terms_in, is_watcher, is_forwarder, edges_of, edges, or_number, least_where}
 use Rattle.desk_model.specs.Uses.{input_by, input_at}
 use Rattle.desk_model.specs.Fresh.{answer_by}
-use Rattle.desk_model.specs.State.{State, unpriced, is_frozen, is_source, is_late, is_late_of, is_held_back, least_source, held, seen}
+use Rattle.desk_model.specs.State.{State, unpriced, is_frozen, is_source, is_late, is_late_of, is_held_back, least_source, held_outcome, seen_outcome}
 use Rattle.desk_model.specs.Told.{registered, subjects, forwards, told}
 use Rattle.desk_model.specs.Links.{IsLinked, IsWhole, CanTell, reaches}
 use Rattle.desk_model.specs.Sound.{has_source}
@@ -94,9 +94,9 @@ module _ (s : State) (whole : IsWhole s) where
 
 -- no bound matters
 pub seen_steps : (calc : Calc) (s : State) → IsLinked s.market → (n o : ℕ) → length s.market.objects < n
-    → answer_by calc s.market (held s) n o ≡ seen calc s o
-unfolding seen
-seen_steps calc s links n o more = let r = ranks_of s.market links in let low = r.2 o in answer_steps calc s.market (held s) r.0 r.1 n (suc (length s.market.objects)) o (omega arith) low
+    → answer_by calc s.market (held_outcome s) n o ≡ seen_outcome calc s o
+unfolding seen_outcome
+seen_steps calc s links n o more = let r = ranks_of s.market links in let low = r.2 o in answer_steps calc s.market (held_outcome s) r.0 r.1 n (suc (length s.market.objects)) o (omega arith) low
 
 pub input_steps : (m : Market) → IsLinked m → (n o : ℕ) → length m.objects < n → input_by m n o ≡ input_at m o
 unfolding input_at

@@ -13,7 +13,7 @@ use Rattle.desk_model.specs.declared.kept.Kept.{Kept}
 use Rattle.desk_model.specs.Market.{terms_at}
 use Rattle.desk_model.specs.Uses.{uses, needs}
 use Rattle.desk_model.specs.Fresh.{inputs_by, reading_over, priced, priced_by}
-use Rattle.desk_model.specs.State.{State, kept_at, unpriced, last_of, last_answer, is_frozen, is_source, is_late, seen, now}
+use Rattle.desk_model.specs.State.{State, kept_at, unpriced, last_of, last_answer, is_frozen, is_source, is_late, seen_outcome, now}
 use Rattle.desk_model.specs.Told.{tell}
 use Rattle.desk_model.specs.Sound.{has_source, is_ready, IsSoundAt, AreSound, HasNoSourceWhereOff, IsSound, IsAsBefore}
 use Rattle.desk_model.specs.Laws.{AreValues}
@@ -56,7 +56,7 @@ as_outcome v = Ok v
 some_is : (v w : Value) → Some v ≡ Some w → v ≡ w
 some_is v w e = cc
 
-module _ (calc : Calc) (s : State) (x : ℕ) (whole : IsWhole s) (kinds : IsKinded s.market) (lazy : is_lazy_at s.market x ≡ true) (fit : HoldsFit s) (sound : IsSound calc s) (early : is_late s x ≡ false) (values : AreValues s.market (seen calc s)) (own : (value : Value) → now calc s x ≡ Ok value → IsValued (terms_at s.market x) x value) where
+module _ (calc : Calc) (s : State) (x : ℕ) (whole : IsWhole s) (kinds : IsKinded s.market) (lazy : is_lazy_at s.market x ≡ true) (fit : HoldsFit s) (sound : IsSound calc s) (early : is_late s x ≡ false) (values : AreValues s.market (seen_outcome calc s)) (own : (value : Value) → now calc s x ≡ Ok value → IsValued (terms_at s.market x) x value) where
   -- the inputs
   walk_on : WalksOn calc s [] (inputs_walk calc s x) (uses s.market x)
   unfolding inputs_walk
@@ -72,8 +72,8 @@ module _ (calc : Calc) (s : State) (x : ℕ) (whole : IsWhole s) (kinds : IsKind
   -- where it is priced, no input refused
   no_refusal : (value : Value) → now calc s x ≡ Ok value → (inputs_walk calc s x).refusal ≡ None
   unfolding inputs_walk now
-  no_refusal value is = walk_refusal (visit_by calc s (length s.market.objects)) (seen calc s) (λ calls y. visit_outcome calc s whole.links (length s.market.objects) calls y) [] (uses s.market x)
-      ∙ priced_ok (terms_at s.market x) (inputs_by (seen calc s) (uses s.market x)) is
+  no_refusal value is = walk_refusal (visit_by calc s (length s.market.objects)) (seen_outcome calc s) (λ calls y. visit_outcome calc s whole.links (length s.market.objects) calls y) [] (uses s.market x)
+      ∙ priced_ok (terms_at s.market x) (inputs_by (seen_outcome calc s) (uses s.market x)) is
     where
       priced_ok : (t : Option Terms) (r : Result (List input.Input) Cause)
           → priced calc (reading_over s.market x t r) ≡ Ok value → refusal_of r ≡ None
@@ -120,7 +120,7 @@ module _ (calc : Calc) (s : State) (x : ℕ) (whole : IsWhole s) (kinds : IsKind
       ∙ bare_there y (near_apart s.market x whole.links y near)
 
   input_then : (value : Value) → now calc s x ≡ Ok value → (y : ℕ) → Among y (needs s.market x)
-      → (is_ready (with_inputs calc s x) y ≡ true) × (last_answer (with_inputs calc s x) y ≡ seen calc s y)
+      → (is_ready (with_inputs calc s x) y ≡ true) × (last_answer (with_inputs calc s x) y ≡ seen_outcome calc s y)
   input_then value is y among = ready_then calc s whole (inputs_walk calc s x).calls walk_on.closed fit sound.current x y early among (walk_on.idle (no_refusal value is) y among)
 
   -- the object itself, where it got a value
@@ -137,9 +137,9 @@ module _ (calc : Calc) (s : State) (x : ℕ) (whole : IsWhole s) (kinds : IsKind
     where
       price_at : (b : Bool)
           → priced_by calc (notified_as b x (with_itself calc s x)).market (last_answer (notified_as b x (with_itself calc s x))) x ≡ Ok value
-      price_at true = same_price calc s.market (last_answer (notified_as true x (with_itself calc s x))) (seen calc s) x (λ y among. ap (λ (k : Kept). last_of y k.last) (stays_beneath true y (needs_near s.market x y among)) ∙ (input_then value is y among).1)
+      price_at true = same_price calc s.market (last_answer (notified_as true x (with_itself calc s x))) (seen_outcome calc s) x (λ y among. ap (λ (k : Kept). last_of y k.last) (stays_beneath true y (needs_near s.market x y among)) ∙ (input_then value is y among).1)
           ∙ is
-      price_at false = same_price calc s.market (last_answer (notified_as false x (with_itself calc s x))) (seen calc s) x (λ y among. ap (λ (k : Kept). last_of y k.last) (stays_beneath false y (needs_near s.market x y among)) ∙ (input_then value is y among).1)
+      price_at false = same_price calc s.market (last_answer (notified_as false x (with_itself calc s x))) (seen_outcome calc s) x (λ y among. ap (λ (k : Kept). last_of y k.last) (stays_beneath false y (needs_near s.market x y among)) ∙ (input_then value is y among).1)
           ∙ is
 
       ready_at : (b : Bool) (y : ℕ) → Among y (needs (notified_as b x (with_itself calc s x)).market x)

@@ -13,7 +13,7 @@ use Rattle.desk_model.specs.Market.{edges}
 use Rattle.desk_model.specs.Uses.{uses, needed}
 use Rattle.desk_model.specs.declared.entry.Entry.TheVariants.{Gives, Needs, Refuses}
 use Rattle.desk_model.specs.Fresh.{input_of, and_inputs, and_value, inputs_by}
-use Rattle.desk_model.specs.State.{State, seen, now}
+use Rattle.desk_model.specs.State.{State, seen_outcome, now}
 use Rattle.desk_model.specs.Visit.{Visit, has_value, after_visit, settle_all, settle, settle_walk, is_idle, visit_by}
 use Rattle.desk_model.specs.Next.{and_next, and_answer, next_of}
 use Rattle.desk_model.specs.declared.entry.Next.TheVariants.{Ready, First, Stops}
@@ -27,20 +27,20 @@ then_on calls (Err cause) rest = record { calls = calls; outcome = Err cause }
 
 -- what is left of an ask of o, where these objects are still to be finished, the first of them first
 unfoldable pub finish : Calc → State → ℕ → List ℕ → List (ℕ × Outcome) → Visit
-finish calc s o [] calls = record { calls = calls; outcome = seen calc s o }
+finish calc s o [] calls = record { calls = calls; outcome = seen_outcome calc s o }
 finish calc s o (x ∷ xs) calls = then_on (visit_by calc s (suc (length s.market.objects)) calls x).calls (visit_by calc s (suc (length s.market.objects)) calls x).outcome (finish calc s o xs)
 
 -- a visit of an idle object computes nothing
 pub idle_visit : (calc : Calc) (s : State) (n : ℕ) (calls : List (ℕ × Outcome)) (x : ℕ) → is_idle s calls x ≡ true
-    → visit_by calc s n calls x ≡ record { calls = calls; outcome = seen calc s x }
+    → visit_by calc s n calls x ≡ record { calls = calls; outcome = seen_outcome calc s x }
 unfolding visit_by
 idle_visit calc s zero calls x idle = refl
-idle_visit calc s (suc n) calls x idle = ap (λ (b : Bool). if b then record { calls = calls; outcome = seen calc s x } else settle_walk (now calc s x) x (settle_all (visit_by calc s n) calls (uses s.market x))) idle
+idle_visit calc s (suc n) calls x idle = ap (λ (b : Bool). if b then record { calls = calls; outcome = seen_outcome calc s x } else settle_walk (now calc s x) x (settle_all (visit_by calc s n) calls (uses s.market x))) idle
 
 pub busy_visit : (calc : Calc) (s : State) (n : ℕ) (calls : List (ℕ × Outcome)) (x : ℕ) → is_idle s calls x ≡ false
     → visit_by calc s (suc n) calls x ≡ settle_walk (now calc s x) x (settle_all (visit_by calc s n) calls (uses s.market x))
 unfolding visit_by
-busy_visit calc s n calls x busy = ap (λ (b : Bool). if b then record { calls = calls; outcome = seen calc s x } else settle_walk (now calc s x) x (settle_all (visit_by calc s n) calls (uses s.market x))) busy
+busy_visit calc s n calls x busy = ap (λ (b : Bool). if b then record { calls = calls; outcome = seen_outcome calc s x } else settle_walk (now calc s x) x (settle_all (visit_by calc s n) calls (uses s.market x))) busy
 
 abbrev inputs_in : Next → Result (List input.Input) Cause
 inputs_in (Ready inputs) = Ok inputs
@@ -50,7 +50,7 @@ inputs_in (Stops cause) = Err cause
 module _ (calc : Calc) (s : State) (n : ℕ) where
   -- the walk over an entry that is idle
   walk_idle : (calls : List (ℕ × Outcome)) (x : ℕ) (value : Value) (entries : List Entry) → is_idle s calls x ≡ true
-      → seen calc s x ≡ Ok value
+      → seen_outcome calc s x ≡ Ok value
       → settle_all (visit_by calc s n) calls (Needs x ∷ entries) ≡ settle_all (visit_by calc s n) calls entries
   walk_idle calls x value entries idle is =
       ap (λ (v : Visit). after_visit v.calls v.outcome (λ later. settle_all (visit_by calc s n) later entries)) (idle_visit calc s n calls x idle)
@@ -59,11 +59,11 @@ module _ (calc : Calc) (s : State) (n : ℕ) where
   -- the answers of what is idle are what is seen
   abbrev pub Answers : List (ℕ × Outcome) → (ℕ → Outcome) → List Entry → Type 0
   Answers calls answer entries = (x : ℕ) → Among x (needed entries) → is_idle s calls x ≡ true
-      → answer x ≡ seen calc s x
+      → answer x ≡ seen_outcome calc s x
 
   -- an entry that is idle after a visit adds nothing to the walk after it
   drop_idle : (v : Visit) (x : ℕ) (entries : List Entry)
-      → ((value : Value) → v.outcome ≡ Ok value → (is_idle s v.calls x ≡ true) × ((w : Value) × (seen calc s x ≡ Ok w)))
+      → ((value : Value) → v.outcome ≡ Ok value → (is_idle s v.calls x ≡ true) × ((w : Value) × (seen_outcome calc s x ≡ Ok w)))
       → (r : Outcome) → v.outcome ≡ r
       → after_visit v.calls r (λ later. settle_all (visit_by calc s n) later entries) ≡ after_visit v.calls r (λ later. settle_all (visit_by calc s n) later (Needs x ∷ entries))
   drop_idle v x entries idle (Ok value) is = let i = idle value is in sym (walk_idle v.calls x i.1.0 entries i.0 i.1.1)
@@ -85,7 +85,7 @@ module _ (calc : Calc) (s : State) (n : ℕ) where
   -- An object that has to be computed first may be visited before the walk begins.
   pub walk_first : (calls : List (ℕ × Outcome)) (answer : ℕ → Outcome) (y : ℕ) (entries : List Entry)
       → Answers calls answer entries → next_of (is_idle s calls) answer entries ≡ First y
-      → ((value : Value) → (visit_by calc s n calls y).outcome ≡ Ok value → ((x : ℕ) → is_idle s calls x ≡ true → is_idle s (visit_by calc s n calls y).calls x ≡ true) × (is_idle s (visit_by calc s n calls y).calls y ≡ true) × (seen calc s y ≡ Ok value))
+      → ((value : Value) → (visit_by calc s n calls y).outcome ≡ Ok value → ((x : ℕ) → is_idle s calls x ≡ true → is_idle s (visit_by calc s n calls y).calls x ≡ true) × (is_idle s (visit_by calc s n calls y).calls y ≡ true) × (seen_outcome calc s y ≡ Ok value))
       → settle_all (visit_by calc s n) calls entries ≡ after_visit (visit_by calc s n calls y).calls (visit_by calc s n calls y).outcome (λ later. settle_all (visit_by calc s n) later entries)
   walk_first calls answer y [] answers is after = absurd (cc)
   walk_first calls answer y (Gives i ∷ entries) answers is after = walk_first calls answer y entries answers (first_of (input.TheVariants.Rate i) y (next_of (is_idle s calls) answer entries) is) after
@@ -98,14 +98,14 @@ module _ (calc : Calc) (s : State) (n : ℕ) where
           → settle_all (visit_by calc s n) calls (Needs x ∷ entries) ≡ after_visit (visit_by calc s n calls y).calls (visit_by calc s n calls y).outcome (λ later. settle_all (visit_by calc s n) later (Needs x ∷ entries))
       by_idle true idle first more =
           let a = first_answer (answer x) y (next_of (is_idle s calls) answer entries) first in
-          let is_seen : seen calc s x ≡ Ok a.0.0 = sym (answers x (inl refl) idle) ∙ a.0.1 in
+          let is_seen : seen_outcome calc s x ≡ Ok a.0.0 = sym (answers x (inl refl) idle) ∙ a.0.1 in
           walk_idle calls x a.0.0 entries idle is_seen
           ∙ more a.1
           ∙ drop_idle (visit_by calc s n calls y) x entries (λ value e. ((after value e).0 x idle, (a.0.0, is_seen))) (visit_by calc s n calls y).outcome refl
       by_idle false busy first more =
           let same = first_is x y first in
           ap (λ (z : ℕ). after_visit (visit_by calc s n calls z).calls (visit_by calc s n calls z).outcome (λ later. settle_all (visit_by calc s n) later entries)) same
-          ∙ drop_idle (visit_by calc s n calls y) x entries (λ value e. let t = after value e in (subst (λ (z : ℕ). is_idle s (visit_by calc s n calls y).calls z ≡ true) (sym same) t.1, (value, ap (seen calc s) same ∙ t.2))) (visit_by calc s n calls y).outcome refl
+          ∙ drop_idle (visit_by calc s n calls y) x entries (λ value e. let t = after value e in (subst (λ (z : ℕ). is_idle s (visit_by calc s n calls y).calls z ≡ true) (sym same) t.1, (value, ap (seen_outcome calc s) same ∙ t.2))) (visit_by calc s n calls y).outcome refl
 
   ready_of : (i : input.Input) (next : Next) (inputs : List input.Input) → and_next i next ≡ Ready inputs
       → (rest : List input.Input) × (next ≡ Ready rest) × (inputs ≡ i ∷ rest)
@@ -125,7 +125,7 @@ module _ (calc : Calc) (s : State) (n : ℕ) where
   pub walk_ready : (calls : List (ℕ × Outcome)) (answer : ℕ → Outcome) (inputs : List input.Input) (entries : List Entry)
       → Answers calls answer entries → next_of (is_idle s calls) answer entries ≡ Ready inputs
       → (settle_all (visit_by calc s n) calls entries ≡ record { calls = calls; refusal = None })
-      × (inputs_by (seen calc s) entries ≡ Ok inputs)
+      × (inputs_by (seen_outcome calc s) entries ≡ Ok inputs)
   walk_ready calls answer inputs [] answers is = (refl, ap Ok (none_is is))
     where
       none_is : Ready [] ≡ Ready inputs → [] ≡ inputs
@@ -139,15 +139,15 @@ module _ (calc : Calc) (s : State) (n : ℕ) where
     where
       by_idle : (b : Bool) → is_idle s calls x ≡ b
           → (if b then and_answer (answer x) (next_of (is_idle s calls) answer entries) else First x) ≡ Ready inputs
-          → ((rest : List input.Input) → next_of (is_idle s calls) answer entries ≡ Ready rest → (settle_all (visit_by calc s n) calls entries ≡ record { calls = calls; refusal = None }) × (inputs_by (seen calc s) entries ≡ Ok rest))
+          → ((rest : List input.Input) → next_of (is_idle s calls) answer entries ≡ Ready rest → (settle_all (visit_by calc s n) calls entries ≡ record { calls = calls; refusal = None }) × (inputs_by (seen_outcome calc s) entries ≡ Ok rest))
           → (settle_all (visit_by calc s n) calls (Needs x ∷ entries) ≡ record { calls = calls; refusal = None })
-          × (and_value (seen calc s x) (inputs_by (seen calc s) entries) ≡ Ok inputs)
+          × (and_value (seen_outcome calc s x) (inputs_by (seen_outcome calc s) entries) ≡ Ok inputs)
       by_idle true idle ready more =
           let a = ready_answer (answer x) (next_of (is_idle s calls) answer entries) inputs ready in
           let same = answers x (inl refl) idle in
           let m = more a.1.0 a.1.1 in (
             walk_idle calls x a.0.0 entries idle (sym same ∙ a.0.1) ∙ m.0,
-            ap (and_value (seen calc s x)) m.1 ∙ ap (λ (r : Outcome). and_value r (Ok a.1.0)) (sym same)
+            ap (and_value (seen_outcome calc s x)) m.1 ∙ ap (λ (r : Outcome). and_value r (Ok a.1.0)) (sym same)
                 ∙ ap (λ (next : Next). and_value (answer x) (inputs_in next)) (sym a.1.1) ∙ a.2,
           )
       by_idle false busy ready more = absurd (cc)
@@ -239,7 +239,7 @@ visit_low calc s rank falls x (suc n) o lower calls = by_idle (is_idle s calls o
 
     by_idle : (b : Bool)
         → has_value (settle_all (visit_by calc s n) calls (uses s.market o)).calls x ≡ has_value calls x
-        → has_value (if b then record { calls = calls; outcome = seen calc s o } else settle_walk (now calc s o) o (settle_all (visit_by calc s n) calls (uses s.market o))).calls x ≡ has_value calls x
+        → has_value (if b then record { calls = calls; outcome = seen_outcome calc s o } else settle_walk (now calc s o) o (settle_all (visit_by calc s n) calls (uses s.market o))).calls x ≡ has_value calls x
     by_idle true e = refl
     by_idle false e = by_refusal (settle_all (visit_by calc s n) calls (uses s.market o)).calls (settle_all (visit_by calc s n) calls (uses s.market o)).refusal
         ∙ e

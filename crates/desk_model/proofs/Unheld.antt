@@ -17,7 +17,7 @@ use Rattle.desk_model.specs.declared.slot.Slot.{Slot}
 use Rattle.desk_model.specs.declared.slot.Slot.TheVariants.{Watcher, Live}
 use Rattle.desk_model.specs.Market.{edges, terms_at}
 use Rattle.desk_model.specs.Fresh.{fresh}
-use Rattle.desk_model.specs.State.{State, kept_at, unpriced, is_frozen, is_source, is_held_back, is_late, is_clear, seen, now, shows, each_kept}
+use Rattle.desk_model.specs.State.{State, kept_at, unpriced, is_frozen, is_source, is_held_back, is_late, is_clear, seen_outcome, now, shows, each_kept}
 use Rattle.desk_model.specs.Changeable.{Changeable, changeable, weight_of, with_member}
 use Rattle.desk_model.specs.Changeable.Changeable.{HasValue, HasTarget, HasFixings, HasParts, HasEngine, HasNone}
 use Rattle.desk_model.specs.Told.{told, unsettled, tell}
@@ -214,7 +214,7 @@ module _ (s : State) (none : HoldsNothing s) where
 
   shows_fresh : (calc : Calc) (o : ℕ) → shows calc s o ≡ fresh calc s.market o
   unfolding shows
-  shows_fresh calc o = ap (λ (b : Bool). if b then fresh calc s.market o else seen calc s o) (unheld_clear o)
+  shows_fresh calc o = ap (λ (b : Bool). if b then fresh calc s.market o else seen_outcome calc s o) (unheld_clear o)
 
   pub unheld_afresh : (calc : Calc) (o : ℕ) → IsAfresh calc s o
   unheld_afresh calc o = record {

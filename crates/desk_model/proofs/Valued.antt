@@ -10,7 +10,7 @@ use Rattle.desk_terms.specs.Reading.{Outcome, Calc, Fits, IsFitting}
 use Rattle.desk_model.specs.Market.{Market, terms_at, role_of, is_lazy}
 use Rattle.desk_model.specs.Uses.{input_at, uses_of, reading_at}
 use Rattle.desk_model.specs.Fresh.{inputs_by, reading_over, priced, priced_by, or_priced, answer_by}
-use Rattle.desk_model.specs.State.{State, kept_at, last_of, last_answer, is_frozen, is_late, held, seen, now}
+use Rattle.desk_model.specs.State.{State, kept_at, last_of, last_answer, is_frozen, is_late, held_outcome, seen_outcome, now}
 use Rattle.desk_model.specs.Links.{is_lazy_at, AreOfKind, IsKinded, IsValued, IsWhole, IsRanged, AreRanged}
 use Rattle.desk_model.specs.Laws.{AreValues}
 use Rattle.desk_model.proofs.Wants.{well_formed}
@@ -40,19 +40,19 @@ module _ (calc : Calc) (fits : IsFitting calc) (s : State) (whole : IsWhole s) (
       last_some (Some v) e = let same : v ≡ value = cc in ap Some same
   held_valued o value false otherwise more is = more is
 
-  answer_valued : (n : ℕ) → AreValues s.market (answer_by calc s.market (held s) n)
-  unfolding answer_by held
+  answer_valued : (n : ℕ) → AreValues s.market (answer_by calc s.market (held_outcome s) n)
+  unfolding answer_by held_outcome
   answer_valued zero o value lazy is = held_valued o value (is_frozen s o || is_late s o) (Err (Unset o)) (λ e. absurd (cc)) is
-  answer_valued (suc n) o value lazy is = held_valued o value (is_frozen s o || is_late s o) (priced_by calc s.market (answer_by calc s.market (held s) n) o)
-      (λ e. priced_valued calc fits s.market kinds ranged (answer_by calc s.market (held s) n) (answer_valued n) o value lazy e) is
+  answer_valued (suc n) o value lazy is = held_valued o value (is_frozen s o || is_late s o) (priced_by calc s.market (answer_by calc s.market (held_outcome s) n) o)
+      (λ e. priced_valued calc fits s.market kinds ranged (answer_by calc s.market (held_outcome s) n) (answer_valued n) o value lazy e) is
 
   -- WHAT IS SEEN of an object
-  pub seen_values : AreValues s.market (seen calc s)
-  unfolding seen
+  pub seen_values : AreValues s.market (seen_outcome calc s)
+  unfolding seen_outcome
   seen_values = answer_valued (suc (length s.market.objects))
 
   -- and its price over what is seen
   pub now_valued : (o : ℕ) → is_lazy_at s.market o ≡ true → (value : Value) → now calc s o ≡ Ok value
       → IsValued (terms_at s.market o) o value
   unfolding now
-  now_valued o lazy value is = priced_valued calc fits s.market kinds ranged (seen calc s) seen_values o value lazy is
+  now_valued o lazy value is = priced_valued calc fits s.market kinds ranged (seen_outcome calc s) seen_values o value lazy is

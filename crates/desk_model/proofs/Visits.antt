@@ -14,7 +14,7 @@ use Rattle.desk_model.specs.Market.{Market, terms_at, edges}
 use Rattle.desk_model.specs.Uses.{uses, needed, needs}
 use Rattle.desk_model.specs.declared.entry.Entry.TheVariants.{Gives, Needs, Refuses}
 use Rattle.desk_model.specs.Fresh.{input_of, and_inputs, and_value, inputs_by, reading_over, priced}
-use Rattle.desk_model.specs.State.{State, kept_at, held, seen, now}
+use Rattle.desk_model.specs.State.{State, kept_at, held_outcome, seen_outcome, now}
 use Rattle.desk_model.specs.Links.{IsLinked}
 use Rattle.desk_model.specs.Visit.{Visit, Walk, value_in, or_value, value_among, has_value, after_visit, settle_all, settle, settle_walk, is_idle, visit_by, runs}
 use Rattle.desk_model.proofs.Locality.{needs_fall}
@@ -64,27 +64,27 @@ none_of (Some x) e = absurd (cc)
 
 -- what is not idle is not held, not current, and got no value yet
 pub not_idle : (s : State) (calls : List (ℕ × Outcome)) (o : ℕ) → is_idle s calls o ≡ false
-    → (held s o ≡ None) × ((kept_at s o).current ≡ false) × (has_value calls o ≡ false)
-not_idle s calls o e = let a = or_parts (is_some (held s o)) _ e in let b = or_parts (kept_at s o).current _ a.1 in (none_of (held s o) a.0, b.0, b.1)
+    → (held_outcome s o ≡ None) × ((kept_at s o).current ≡ false) × (has_value calls o ≡ false)
+not_idle s calls o e = let a = or_parts (is_some (held_outcome s o)) _ e in let b = or_parts (kept_at s o).current _ a.1 in (none_of (held_outcome s o) a.0, b.0, b.1)
 
 module _ (calc : Calc) (s : State) (links : IsLinked s.market) where
   -- a visit ends with what is seen
-  pub visit_outcome : (n : ℕ) (calls : List (ℕ × Outcome)) (o : ℕ) → (visit_by calc s n calls o).outcome ≡ seen calc s o
+  pub visit_outcome : (n : ℕ) (calls : List (ℕ × Outcome)) (o : ℕ) → (visit_by calc s n calls o).outcome ≡ seen_outcome calc s o
   unfolding visit_by now
   visit_outcome zero calls o = refl
-  visit_outcome (suc n) calls o = by_idle (is_idle s calls o) refl (walk_refusal (visit_by calc s n) (seen calc s) (visit_outcome n) calls (uses s.market o))
+  visit_outcome (suc n) calls o = by_idle (is_idle s calls o) refl (walk_refusal (visit_by calc s n) (seen_outcome calc s) (visit_outcome n) calls (uses s.market o))
     where
       walked : Walk
       walked = settle_all (visit_by calc s n) calls (uses s.market o)
 
-      by_refusal : (refusal : Option Cause) → refusal ≡ refusal_of (inputs_by (seen calc s) (uses s.market o))
-          → held s o ≡ None → (settle (now calc s o) o walked.calls refusal).outcome ≡ seen calc s o
+      by_refusal : (refusal : Option Cause) → refusal ≡ refusal_of (inputs_by (seen_outcome calc s) (uses s.market o))
+          → held_outcome s o ≡ None → (settle (now calc s o) o walked.calls refusal).outcome ≡ seen_outcome calc s o
       by_refusal None is free = sym (seen_free calc s links o free)
-      by_refusal (Some cause) is free = sym (seen_free calc s links o free ∙ priced_refused calc s.market o (terms_at s.market o) (inputs_by (seen calc s) (uses s.market o)) cause (sym is))
+      by_refusal (Some cause) is free = sym (seen_free calc s links o free ∙ priced_refused calc s.market o (terms_at s.market o) (inputs_by (seen_outcome calc s) (uses s.market o)) cause (sym is))
 
       by_idle : (b : Bool) → is_idle s calls o ≡ b
-          → walked.refusal ≡ refusal_of (inputs_by (seen calc s) (uses s.market o))
-          → (if b then record { calls = calls; outcome = seen calc s o } else settle_walk (now calc s o) o walked).outcome ≡ seen calc s o
+          → walked.refusal ≡ refusal_of (inputs_by (seen_outcome calc s) (uses s.market o))
+          → (if b then record { calls = calls; outcome = seen_outcome calc s o } else settle_walk (now calc s o) o walked).outcome ≡ seen_outcome calc s o
       by_idle true is refusal = refl
       by_idle false is refusal = by_refusal walked.refusal refusal (not_idle s calls o is).0
 
@@ -109,8 +109,8 @@ grows_has calls later x grows has = let v = value_of_call calls x has in ap is_s
 pub record RestsOn (calc : Calc) (s : State) (calls : List (ℕ × Outcome)) (x : ℕ) : Type 0 where
   pub value : Value
   pub among : value_among calls x ≡ Some value
-  pub seen : seen calc s x ≡ Ok value
-  pub free : held s x ≡ None
+  pub seen : seen_outcome calc s x ≡ Ok value
+  pub free : held_outcome s x ≡ None
   pub stale : (kept_at s x).current ≡ false
   pub needs : (y : ℕ) → Among y (needs s.market x) → is_idle s calls y ≡ true
 
@@ -119,11 +119,11 @@ IsClosed calc s calls = (x : ℕ) → has_value calls x ≡ true → RestsOn cal
 
 pub idle_grows : (s : State) (calls later : List (ℕ × Outcome)) (o : ℕ) → Grows calls later → is_idle s calls o ≡ true
     → is_idle s later o ≡ true
-idle_grows s calls later o grows e = elim (or_cases (is_some (held s o)) _ e) [
+idle_grows s calls later o grows e = elim (or_cases (is_some (held_outcome s o)) _ e) [
   | inl is ↦ or_left _ _ is
   | inr more ↦ elim (or_cases (kept_at s o).current _ more) [
-    | inl is ↦ or_right (is_some (held s o)) _ (or_left _ _ is)
-    | inr is ↦ or_right (is_some (held s o)) _ (or_right (kept_at s o).current _ (grows_has calls later o grows is))
+    | inl is ↦ or_right (is_some (held_outcome s o)) _ (or_left _ _ is)
+    | inr is ↦ or_right (is_some (held_outcome s o)) _ (or_right (kept_at s o).current _ (grows_has calls later o grows is))
   ]
 ]
 
@@ -248,7 +248,7 @@ module _ (calc : Calc) (s : State) (links : IsLinked s.market) where
       by_refusal None is = record {
         grows = λ x value e. grows_more walk.calls o (now calc s o) x value (w.grows x value e);
         closed = closed_more is (now calc s o) refl;
-        idle = λ value e. or_right (is_some (held s o)) _ (or_right (kept_at s o).current _ (has_last walk.calls o (now calc s o) (ok_value (now calc s o) value e)));
+        idle = λ value e. or_right (is_some (held_outcome s o)) _ (or_right (kept_at s o).current _ (has_last walk.calls o (now calc s o) (ok_value (now calc s o) value e)));
       }
 
   pub visit_goes : (n o : ℕ) → (ranks_of s.market links).0 o < n → (calls : List (ℕ × Outcome)) → IsClosed calc s calls
@@ -260,7 +260,7 @@ module _ (calc : Calc) (s : State) (links : IsLinked s.market) where
     where
       by_idle : (b : Bool) → is_idle s calls o ≡ b
           → WalksOn calc s calls (settle_all (visit_by calc s n) calls (uses s.market o)) (uses s.market o)
-          → GoesOn calc s calls (if b then record { calls = calls; outcome = seen calc s o } else settle_walk (now calc s o) o (settle_all (visit_by calc s n) calls (uses s.market o))) o
+          → GoesOn calc s calls (if b then record { calls = calls; outcome = seen_outcome calc s o } else settle_walk (now calc s o) o (settle_all (visit_by calc s n) calls (uses s.market o))) o
       by_idle true is w = record { grows = λ x value e. e; closed = closed; idle = λ value e. is }
       by_idle false is w = settles_on calls o (settle_all (visit_by calc s n) calls (uses s.market o)) is w
 
@@ -270,7 +270,7 @@ module _ (calc : Calc) (s : State) (links : IsLinked s.market) where
   runs_closed o = (visit_goes (suc (length s.market.objects)) o ((ranks_of s.market links).2 o) [] (λ x e. absurd (cc))).closed
 
   -- and the object asked for is among it, or was idle, where it is seen with a value
-  pub runs_idle : (o : ℕ) (value : Value) → seen calc s o ≡ Ok value → is_idle s (runs calc s o) o ≡ true
+  pub runs_idle : (o : ℕ) (value : Value) → seen_outcome calc s o ≡ Ok value → is_idle s (runs calc s o) o ≡ true
   unfolding runs
   runs_idle o value is = (visit_goes (suc (length s.market.objects)) o ((ranks_of s.market links).2 o) [] (λ x e. absurd (cc))).idle value (visit_outcome calc s links (suc (length s.market.objects)) [] o ∙ is)
 
@@ -296,5 +296,5 @@ unfolding visit_by
 visit_steps calc s rank falls zero k o p q calls = absurd (omega arith)
 visit_steps calc s rank falls (suc n) zero o p q calls = absurd (omega arith)
 visit_steps calc s rank falls (suc n) (suc k) o p q calls =
-    ap (λ (w : Walk). if is_idle s calls o then record { calls = calls; outcome = seen calc s o } else settle_walk (now calc s o) o w)
+    ap (λ (w : Walk). if is_idle s calls o then record { calls = calls; outcome = seen_outcome calc s o } else settle_walk (now calc s o) o w)
     (walk_same (visit_by calc s n) (visit_by calc s k) calls (uses s.market o) (λ x among later. let fall = needs_fall s.market rank falls o x among in visit_steps calc s rank falls n k x (omega arith) (omega arith) later))

@@ -14,7 +14,7 @@ use Rattle.desk_model.specs.declared.slot.Slot.{Slot}
 use Rattle.desk_model.specs.Market.{Market, IsSame, slot_at, terms_in, terms_at, kind_at, is_observable, is_forwarder, edges_of, edges}
 use Rattle.desk_model.specs.Uses.{input_by, input_at, uses, needs, reading_at}
 use Rattle.desk_model.specs.Fresh.{inputs_by, priced_by, answer_by, fresh}
-use Rattle.desk_model.specs.State.{State, kept_at, last_answer, is_frozen, is_source, is_late, is_held_back, is_clear, least_source, held, seen, now, shows}
+use Rattle.desk_model.specs.State.{State, kept_at, last_answer, is_frozen, is_source, is_late, is_held_back, is_clear, least_source, held_outcome, seen_outcome, now, shows}
 use Rattle.desk_model.specs.Told.{subjects, forwards, told}
 use Rattle.desk_model.specs.Links.{is_lazy_at, IsLinked, IsRegistration, IsWhole, reaches, MayStand, serves_as, Serve, AreOfKind, IsKinded, IsValued, IsRanged, AreRanged}
 use Rattle.desk_model.specs.Sound.{has_source, IsSound, KeepsCurrent}
@@ -29,7 +29,7 @@ FreshHasNoBound = (calc : Calc) (market : Market) → IsLinked market → (n o :
 
 abbrev pub SeenHasNoBound : Type 0
 SeenHasNoBound = (calc : Calc) (state : State) → IsLinked state.market → (n o : ℕ) → length state.market.objects < n
-    → answer_by calc state.market (held state) n o ≡ seen calc state o
+    → answer_by calc state.market (held_outcome state) n o ≡ seen_outcome calc state o
 
 abbrev pub InputsHaveNoBound : Type 0
 InputsHaveNoBound = (market : Market) → IsLinked market → (n o : ℕ) → length market.objects < n
@@ -88,7 +88,7 @@ NeedsAreLazy = (market : Market) → IsKinded market → (o x : ℕ) → Among x
 -- A BENCH THAT FITS shows of each object a value that it may have.
 abbrev pub SeenIsValued : Type 0
 SeenIsValued = (calc : Calc) → IsFitting calc → (state : State) → IsWhole state → IsKinded state.market
-    → AreRanged state.market → AreValues state.market (seen calc state)
+    → AreRanged state.market → AreValues state.market (seen_outcome calc state)
 
 -- A CHANGE keeps the shape of a state, and, over data alone, all that is current.
 pub record Keeps (s t : State) : Type 0 where
@@ -179,23 +179,23 @@ StartsAreSound = (today : ℤ) (calc : Calc) → IsKept calc (start today)
 -- WHAT AN ASK SHOWS: a current object that is not held its last value, a clear one its price afresh.
 abbrev pub CurrentIsShown : Type 0
 CurrentIsShown = (calc : Calc) (s : State) → IsWhole s → IsSound calc s → (o : ℕ) → (kept_at s o).current ≡ true
-    → held s o ≡ None → seen calc s o ≡ last_answer s o
+    → held_outcome s o ≡ None → seen_outcome calc s o ≡ last_answer s o
 
 abbrev pub ClearIsFresh : Type 0
 ClearIsFresh = (calc : Calc) (s : State) → IsLinked s.market → (o : ℕ) → is_clear s o ≡ true
-    → seen calc s o ≡ fresh calc s.market o
+    → seen_outcome calc s o ≡ fresh calc s.market o
 
 abbrev pub ShownIsSeen : Type 0
-ShownIsSeen = (calc : Calc) (s : State) → IsLinked s.market → (o : ℕ) → shows calc s o ≡ seen calc s o
+ShownIsSeen = (calc : Calc) (s : State) → IsLinked s.market → (o : ℕ) → shows calc s o ≡ seen_outcome calc s o
 
 -- an object that is neither held nor without a value is worth its price over what is seen
 abbrev pub SeenIsPriced : Type 0
-SeenIsPriced = (calc : Calc) (s : State) → IsLinked s.market → (o : ℕ) → held s o ≡ None → seen calc s o ≡ now calc s o
+SeenIsPriced = (calc : Calc) (s : State) → IsLinked s.market → (o : ℕ) → held_outcome s o ≡ None → seen_outcome calc s o ≡ now calc s o
 
 -- after an ask that shows a value, the object that is not held has it as its last value
 abbrev pub AsksStore : Type 0
-AsksStore = (calc : Calc) (s : State) (o : ℕ) (value : Value) → IsWhole s → IsSound calc s → held s o ≡ None
-    → seen calc s o ≡ Ok value → (kept_at (asked calc o s) o).last ≡ Some value
+AsksStore = (calc : Calc) (s : State) (o : ℕ) (value : Value) → IsWhole s → IsSound calc s → held_outcome s o ≡ None
+    → seen_outcome calc s o ≡ Ok value → (kept_at (asked calc o s) o).last ≡ Some value
 
 -- an object is late exactly where some deferred source makes it late, and the least of these is named
 abbrev pub LateHasLeastSource : Type 0

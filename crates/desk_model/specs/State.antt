@@ -64,16 +64,16 @@ unfoldable pub is_clear : State → ℕ → Bool
 is_clear state o = not (is_held_back state o || below_by (edges state.market) (is_held_back state) (λ x. true) (suc (length state.market.objects)) o)
 
 -- what an object answers without a price, whatever the market: its last value where it is frozen or late
-unfoldable pub held : State → ℕ → Option Outcome
-held state o = if is_frozen state o || is_late state o then Some (last_answer state o) else None
+unfoldable pub held_outcome : State → ℕ → Option Outcome
+held_outcome state o = if is_frozen state o || is_late state o then Some (last_answer state o) else None
 
 -- SEEN: what an ask of o answers. Whether o is current does not occur here.
-unfoldable pub seen : Calc → State → ℕ → Outcome
-seen calc state o = answer_by calc state.market (held state) (suc (length state.market.objects)) o
+unfoldable pub seen_outcome : Calc → State → ℕ → Outcome
+seen_outcome calc state o = answer_by calc state.market (held_outcome state) (suc (length state.market.objects)) o
 
 -- the price of o over what is seen of the objects that it needs
 unfoldable pub now : Calc → State → ℕ → Outcome
-now calc state o = priced_by calc state.market (seen calc state) o
+now calc state o = priced_by calc state.market (seen_outcome calc state) o
 
 -- how the answer stands to the market of its moment (this project's profile)
 unfoldable pub mark_of : State → ℕ → Mark
@@ -88,7 +88,7 @@ mark_of state o =
 
 -- WHAT AN ASK SHOWS: the price afresh where the object is clear, else what is seen
 unfoldable pub shows : Calc → State → ℕ → Outcome
-shows calc state o = if is_clear state o then fresh calc state.market o else seen calc state o
+shows calc state o = if is_clear state o then fresh calc state.market o else seen_outcome calc state o
 
 -- what is stored of each object, changed by its number
 abbrev pub each_kept : (ℕ → Kept → Kept) → ℕ → List Kept → List Kept

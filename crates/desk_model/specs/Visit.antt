@@ -8,7 +8,7 @@ use Rattle.desk_model.specs.declared.entry.Entry.{Entry}
 use Rattle.desk_model.specs.declared.entry.Entry.TheVariants.{Gives, Needs, Refuses}
 use Rattle.desk_model.specs.declared.kept.Kept.{Kept}
 use Rattle.desk_model.specs.Uses.{uses}
-use Rattle.desk_model.specs.State.{State, kept_at, held, seen, now, each_kept}
+use Rattle.desk_model.specs.State.{State, kept_at, held_outcome, seen_outcome, now, each_kept}
 
 -- the calls of the bench so far, in order, each object with what the bench answered, as a bench tells them: each object
 -- with whether it got a value
@@ -65,14 +65,14 @@ settle_walk price o walk = settle price o walk.calls walk.refusal
 
 -- nothing is computed of an object that is held or current, or that got a value in this ask
 abbrev pub is_idle : State → List (ℕ × Outcome) → ℕ → Bool
-is_idle state calls o = is_some (held state o) || ((kept_at state o).current || has_value calls o)
+is_idle state calls o = is_some (held_outcome state o) || ((kept_at state o).current || has_value calls o)
 
 -- a visit of o after these calls, over paths of at most n edges
 unfoldable pub visit_by : Calc → State → ℕ → List (ℕ × Outcome) → ℕ → Visit
-visit_by calc state zero calls o = record { calls = calls; outcome = seen calc state o }
+visit_by calc state zero calls o = record { calls = calls; outcome = seen_outcome calc state o }
 visit_by calc state (suc n) calls o =
     if is_idle state calls o
-    then record { calls = calls; outcome = seen calc state o }
+    then record { calls = calls; outcome = seen_outcome calc state o }
     else settle_walk (now calc state o) o (settle_all (visit_by calc state n) calls (uses state.market o))
 
 -- THE RUNS of an ask of o: the calls of the bench that it makes, in order

@@ -2,7 +2,7 @@
 //! price afresh, the state with its stored values, what an ask shows and computes, what each change does, and when a
 //! state is sound.
 //!
-//! `Slot`, `Kept`; `Entry`, `Next`. Words of `specs/`: `Market`, `edges`, `uses`, `fresh`; `State`, `seen`, `now`,
+//! `Slot`, `Kept`; `Entry`, `Next`. Words of `specs/`: `Market`, `edges`, `uses`, `fresh`; `State`, `seen_outcome`, `now`,
 //! `is_late`, `is_clear`, `shows`, `mark_of`; `told`, `tell`; `runs`, `asked`, `reruns`, `recalced`; the changes of
 //! `Effect`; `IsWhole`, `IsKinded`, `IsSound`, `KeepsCurrent`. Functions without a body are laws: their contracts are
 //! what is proved, for every bench and every market.

@@ -5,7 +5,7 @@ ghost use Rattle.desk_terms.specs.Reading.{Calc, AreInRange, IsFitting};
 ghost use Rattle.desk_model.specs.Market.{kind_at, terms_at, slot_at, is_given, is_watcher, is_observable, least_user};
 ghost use Rattle.desk_model.specs.Told.{is_registered, is_watching};
 ghost use Rattle.desk_model.specs.Uses.{index_at, fixings_in};
-ghost use Rattle.desk_model.specs.State.{kept_at, held, is_frozen, is_late, least_source};
+ghost use Rattle.desk_model.specs.State.{kept_at, held_outcome, is_frozen, is_late, least_source};
 ghost use Rattle.desk_model.specs.Sound.{IsSound, KeepsCurrent};
 ghost use Rattle.desk_model.specs.Links.{AreOfKind, AreRanged, IsKinded, IsWhole, Serve, is_lazy_at, reaches, serves_as};
 ghost use Rattle.desk_model.specs.Effect.{start, made, quote_set, relinked, engine_set, member_set, fixing_added, today_set, dropped, watching, registered_with, unregistered, handed_out, frozen_set, thawed, forward_set, deferred, resumed};
@@ -419,7 +419,7 @@ impl Desk {
         ensures stops { OnErr result (Stops (B.calc bench.old) object self.old self.new
             (B.count bench.old) (B.count bench.new) (B.log bench.old) (B.log bench.new)) }
         // No memory is wanted for an object that is frozen, late or current.
-        ensures ready { (held self.old object ≢ None) ⊎ ((kept_at self.old object).current ≡ true) → IsOk result }
+        ensures ready { (held_outcome self.old object ≢ None) ⊎ ((kept_at self.old object).current ≡ true) → IsOk result }
         ensures sound { IsSound (B.calc bench.old) self.new }
     {
         self.books.ask(&self.market, object, bench)

@@ -7,7 +7,7 @@ use Rattle.desk_terms.specs.declared.value.Value.TheVariants.{Money, Curve}
 use Rattle.desk_terms.specs.declared.asked.Mark.TheVariants.{Fresh, Frozen, Late, Unclear}
 use Rattle.desk_terms.specs.Reading.{Calc}
 use Rattle.desk_model.specs.declared.kept.Kept.{Kept}
-use Rattle.desk_model.specs.State.{State, kept_at, last_of, is_frozen, is_source, is_late, is_clear, mark_of, held, seen, shows}
+use Rattle.desk_model.specs.State.{State, kept_at, last_of, is_frozen, is_source, is_late, is_clear, mark_of, held_outcome, seen_outcome, shows}
 use Rattle.desk_model.specs.Sound.{IsSound}
 use Rattle.desk_model.specs.Links.{IsWhole}
 use Rattle.desk_model.specs.Laws.{Keeps}
@@ -27,7 +27,7 @@ use Rattle.session_commands.specs.declared.refusal.Refusal.{Refusal}
 use Rattle.session_model.specs.declared.place.Place.TheVariants.{Priced}
 use Rattle.session_model.specs.declared.act.Act.TheVariants as act
 use Rattle.session_model.specs.declared.act.How.TheVariants as how
-use Rattle.session_model.specs.Course.{Running, Meaning, taken, noticed, heard, all_handed_out, and_then, done, unless_none, run, runs_by, most_runs, opened, round_of}
+use Rattle.session_model.specs.Course.{Running, Meaning, taken, noticed, heard, all_handed_out, and_then, course_of, unless_none, run, runs_by, most_runs, opened, round_of}
 use Rattle.session_model.specs.Resolve.{find, with_found, resolve}
 use Rattle.session_model.specs.Standing.{Standing}
 use Rattle.session_model.specs.Turn.{done_as, effect_of, step, turn}
@@ -54,16 +54,16 @@ last_money : (o : ℕ) (last : Option Value) → money_in (last_of o last) ≡ m
 last_money o None = refl
 last_money o (Some value) = same_money value
 
-module _ (calc : Calc) (s : State) (whole : IsWhole s) (sound : IsSound calc s) (o : ℕ) (free : held s o ≡ None) where
+module _ (calc : Calc) (s : State) (whole : IsWhole s) (sound : IsSound calc s) (o : ℕ) (free : held_outcome s o ≡ None) where
   -- an object that stays as it was, and got no value
-  stale_money : (kept_at s o).current ≡ false → has_value (runs calc s o) o ≡ false → money_in (seen calc s o) ≡ None
-  stale_money stale none = elim (cases_outcome (seen calc s o)) [
+  stale_money : (kept_at s o).current ≡ false → has_value (runs calc s o) o ≡ false → money_in (seen_outcome calc s o) ≡ None
+  stale_money stale none = elim (cases_outcome (seen_outcome calc s o)) [
     | inl got ↦
         absurd (false≢true (sym stale ∙ idle_current s (runs calc s o) o (runs_idle calc s whole.links o got.0 got.1) free none))
     | inr refused ↦ ap money_in refused.1
   ]
 
-  stays_money : has_value (runs calc s o) o ≡ false → money_in (seen calc s o) ≡ shown_by (kept_at s o)
+  stays_money : has_value (runs calc s o) o ≡ false → money_in (seen_outcome calc s o) ≡ shown_by (kept_at s o)
   stays_money none = elim (cases_Bool (kept_at s o).current) [
     | inl current ↦
         let fit = holds_fit s whole.links (thawed_forwarder s whole) in
@@ -72,7 +72,7 @@ module _ (calc : Calc) (s : State) (whole : IsWhole s) (sound : IsSound calc s) 
     | inr stale ↦ stale_money stale none ∙ sym (shown_stale (kept_at s o) stale)
   ]
 
-  pub asked_money : money_in (seen calc s o) ≡ shown_by (kept_at (asked calc o s) o)
+  pub asked_money : money_in (seen_outcome calc s o) ≡ shown_by (kept_at (asked calc o s) o)
   unfolding asked
   asked_money = elim (cases_Bool (has_value (runs calc s o) o)) [
     | inl has ↦
@@ -101,7 +101,7 @@ late_by_mark true late clear e = absurd (cc)
 late_by_mark false true clear e = absurd (cc)
 late_by_mark false false clear e = refl
 
-unheld_free : (calc : Calc) (s : State) → HoldsNothing s → (o : ℕ) → held s o ≡ None
+unheld_free : (calc : Calc) (s : State) → HoldsNothing s → (o : ℕ) → held_outcome s o ≡ None
 unfolding mark_of
 unheld_free calc s none o =
     free_held s o (or_parts (is_frozen s o) (is_source s o) (none.free o)).0
@@ -163,8 +163,8 @@ module _ (calc : Calc) (r : Running Order) (name : ℕ) where
   unfolding opened
   told_none = turn_notices calc (opened r).standing name
 
-  done_next : (done (ordered calc) (opened r) (Ask name)).next ≡ handed
-  unfolding done and_then heard noticed
+  done_next : (course_of (ordered calc) (opened r) (Ask name)).next ≡ handed
+  unfolding course_of and_then heard noticed
   done_next = ap (λ (ws : List ℕ). (noticed ws handed).next) told_none
 
   handed_due : handed.round.due ≡ []
@@ -175,7 +175,7 @@ module _ (calc : Calc) (r : Running Order) (name : ℕ) where
   unfolding round_of and_then
   ask_next =
       ap (λ (q : Running Order). q.standing)
-      (runs_none (ordered calc) (most_runs r) (done (ordered calc) (opened r) (Ask name)).next
+      (runs_none (ordered calc) (most_runs r) (course_of (ordered calc) (opened r) (Ask name)).next
       (ap (λ (q : Running Order). q.round.due) done_next ∙ handed_due)
       ∙ done_next)
 

@@ -16,7 +16,7 @@ use Rattle.watch_rounds.specs.Round.{watcher_at}
 use Rattle.session_model.specs.declared.act.Act.{Act}
 use Rattle.session_model.specs.Afresh.{holds_nothing, Answers, AreAskedAfresh}
 use Rattle.session_model.specs.Change.{changed, grown}
-use Rattle.session_model.specs.Course.{Running, Meaning, Course, quiet, taken, notice, noticed, heard, all_handed_out, and_then, done, all_done, chosen, begun, commands_of, action_of, run, unless_none, runs_by, most_runs, opened, round_of}
+use Rattle.session_model.specs.Course.{Running, Meaning, Course, quiet, taken, notice, noticed, heard, all_handed_out, and_then, course_of, course_of_all, chosen, begun, commands_of, action_of, run, unless_none, runs_by, most_runs, opened, round_of}
 use Rattle.session_model.specs.Moments.{Moment, moment_of, moments_of_all, moments_of_run, none_unless_due, moments_of_runs, moments_of_round, moments}
 use Rattle.session_model.specs.Resolve.{with_found, unless, unless_used, unless_kept, unless_late, unless_taken, resolve}
 use Rattle.session_model.specs.Standing.{Standing, start_of, start_with, with_objects, object_named, name_of}
@@ -149,8 +149,8 @@ unfolding heard
 heard_standing r = noticed_standing r.standing.state.noticed (record r { standing = all_handed_out r.standing })
 
 done_plain : {P : Type 0} → (m : Meaning P) (r : Running P) (c : Command) → holds_nothing c ≡ true → IsPlain r.standing
-    → IsPlain (done m r c).next.standing
-unfolding done and_then
+    → IsPlain (course_of m r c).next.standing
+unfolding course_of and_then
 done_plain m r c is plain = subst IsPlain (sym (heard_standing (taken (turn m.calc r.standing c) r).next)) (record {
   unheld = handed_unheld (turn m.calc r.standing c).next.state (turn_unheld m.calc r.standing c is plain.unheld);
   actions = subst (λ (a : List (List Command)). All (λ action. All (λ d. holds_nothing d ≡ true) action) a)
@@ -177,7 +177,7 @@ both_plain calc course rest xs ys first second = record {
 }
 
 moment_plain : {P : Type 0} → (m : Meaning P) (r : Running P) (c : Command) → holds_nothing c ≡ true → IsPlain r.standing
-    → IsPlainCourse P m.calc (done m r c) (moment_of m r c ∷ [])
+    → IsPlainCourse P m.calc (course_of m r c) (moment_of m r c ∷ [])
 moment_plain m r c is plain = record {
   each = All-cons (λ x. AreAskedAfresh m.calc x.standing) (moment_of m r c) [] (afresh_at m.calc r.standing plain)
       (All-nil (λ x. AreAskedAfresh m.calc x.standing));
@@ -185,13 +185,13 @@ moment_plain m r c is plain = record {
 }
 
 all_plain : {P : Type 0} → (m : Meaning P) (commands : List Command) (r : Running P) → All (λ c. holds_nothing c ≡ true) commands
-    → IsPlain r.standing → IsPlainCourse P m.calc (all_done m commands r) (moments_of_all m commands r)
-unfolding all_done moments_of_all
+    → IsPlain r.standing → IsPlainCourse P m.calc (course_of_all m commands r) (moments_of_all m commands r)
+unfolding course_of_all moments_of_all
 all_plain m [] r is plain = none_plain m.calc r plain
 all_plain m (c ∷ commands) r is plain =
     let first = moment_plain m r c (All-head (λ d. holds_nothing d ≡ true) c commands is) plain in
-    both_plain m.calc (done m r c) (all_done m commands) (moment_of m r c ∷ []) (moments_of_all m commands (done m r c).next) first
-    (all_plain m commands (done m r c).next (All-tail (λ d. holds_nothing d ≡ true) c commands is) first.next)
+    both_plain m.calc (course_of m r c) (course_of_all m commands) (moment_of m r c ∷ []) (moments_of_all m commands (course_of m r c).next) first
+    (all_plain m commands (course_of m r c).next (All-tail (λ d. holds_nothing d ≡ true) c commands is) first.next)
 
 -- the commands of an action of these
 action_plain : (actions : List (List Command)) (a : ℕ) → All (λ action. All (λ c. holds_nothing c ≡ true) action) actions
@@ -241,8 +241,8 @@ round_plain : {P : Type 0} → (m : Meaning P) (r : Running P) (c : Command) →
 unfolding round_of moments_of_round
 round_plain m r c is plain =
     let first = moment_plain m (opened r) c is (opened_plain r plain) in
-    both_plain m.calc (done m (opened r) c) (runs_by m (most_runs r)) (moment_of m (opened r) c ∷ [])
-    (moments_of_runs m (most_runs r) (done m (opened r) c).next) first (runs_plain m (most_runs r) (done m (opened r) c).next first.next)
+    both_plain m.calc (course_of m (opened r) c) (runs_by m (most_runs r)) (moment_of m (opened r) c ∷ [])
+    (moments_of_runs m (most_runs r) (course_of m (opened r) c).next) first (runs_plain m (most_runs r) (course_of m (opened r) c).next first.next)
 
 rounds_plain : {P : Type 0} → (m : Meaning P) (r : Running P) (commands : List Command) → All (λ c. holds_nothing c ≡ true) commands
     → IsPlain r.standing → All (λ x. AreAskedAfresh m.calc x.standing) (moments m r commands)

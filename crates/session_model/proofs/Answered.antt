@@ -9,7 +9,7 @@ use Rattle.desk_terms.specs.declared.asked.Mark.TheVariants.{Frozen, Late}
 use Rattle.desk_terms.specs.Reading.{Calc}
 use Rattle.desk_model.specs.Market.{edges}
 use Rattle.desk_model.specs.Fresh.{answer_by, fresh}
-use Rattle.desk_model.specs.State.{State, last_answer, is_frozen, is_source, is_held_back, is_late, is_clear, held, seen, mark_of, shows}
+use Rattle.desk_model.specs.State.{State, last_answer, is_frozen, is_source, is_held_back, is_late, is_clear, held_outcome, seen_outcome, mark_of, shows}
 use Rattle.desk_model.specs.Unheld.{IsAfresh}
 use Rattle.desk_model.specs.Visit.{Visit, is_idle, visit_by, runs}
 use Rattle.desk_model.proofs.Marks.{clear_back, clear_thawed, fresh_mark}
@@ -60,15 +60,15 @@ module _ (s : State) (o : ℕ) where
   unfolding shows
   clear_afresh calc clear = record {
     mark = fresh_mark s o clear (clear_early clear);
-    value = ap (λ (b : Bool). if b then fresh calc s.market o else seen calc s o) clear;
+    value = ap (λ (b : Bool). if b then fresh calc s.market o else seen_outcome calc s o) clear;
   }
 
-  frozen_held : is_frozen s o ≡ true → held s o ≡ Some (last_answer s o)
-  unfolding held
+  frozen_held : is_frozen s o ≡ true → held_outcome s o ≡ Some (last_answer s o)
+  unfolding held_outcome
   frozen_held frozen = ap (λ (b : Bool). if b then Some (last_answer s o) else None) (or_left (is_frozen s o) (is_late s o) frozen)
 
-  late_held : is_late s o ≡ true → held s o ≡ Some (last_answer s o)
-  unfolding held
+  late_held : is_late s o ≡ true → held_outcome s o ≡ Some (last_answer s o)
+  unfolding held_outcome
   late_held late = ap (λ (b : Bool). if b then Some (last_answer s o) else None) (or_right (is_frozen s o) (is_late s o) late)
 
   frozen_mark : is_frozen s o ≡ true → mark_of s o ≡ Frozen
@@ -86,14 +86,14 @@ module _ (s : State) (o : ℕ) where
   late_unclear late = false_from_ne_true (is_clear s o) (λ clear. false≢true (sym (clear_early clear) ∙ late))
 
   -- what is held shows its last value, and nothing is computed of it
-  held_shows : (calc : Calc) → is_clear s o ≡ false → held s o ≡ Some (last_answer s o) → shows calc s o ≡ last_answer s o
-  unfolding shows seen answer_by
+  held_shows : (calc : Calc) → is_clear s o ≡ false → held_outcome s o ≡ Some (last_answer s o) → shows calc s o ≡ last_answer s o
+  unfolding shows seen_outcome answer_by
   held_shows calc unclear is = rw (unclear, is) refl
 
-  held_idle : (calc : Calc) → held s o ≡ Some (last_answer s o) → runs calc s o ≡ []
+  held_idle : (calc : Calc) → held_outcome s o ≡ Some (last_answer s o) → runs calc s o ≡ []
   unfolding runs visit_by
   held_idle calc is =
-      idle_calls (is_idle s [] o) (record { calls = []; outcome = seen calc s o }) _ (or_left (is_some (held s o)) _ (ap is_some is))
+      idle_calls (is_idle s [] o) (record { calls = []; outcome = seen_outcome calc s o }) _ (or_left (is_some (held_outcome s o)) _ (ap is_some is))
 
 module _ (calc : Calc) (p : Standing) (name object : ℕ) where
   pub asked_afresh : IsAfresh calc p.state object → IsAskedAfresh calc p name object

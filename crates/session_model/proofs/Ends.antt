@@ -8,7 +8,7 @@ use Rattle.watch_rounds.proofs.Places.{all_at}
 use Rattle.watch_rounds.proofs.Tallies.{left_noticed, left_ran, most_left}
 use Rattle.session_model.specs.Standing.{name_of}
 use Rattle.session_model.specs.Turn.{Turn, turn}
-use Rattle.session_model.specs.Course.{Running, Meaning, Course, quiet, before, and_then, taken, notice, noticed, heard, all_handed_out, done, all_done, chosen, begun, action_of, run, unless_none, runs_by}
+use Rattle.session_model.specs.Course.{Running, Meaning, Course, quiet, before, and_then, taken, notice, noticed, heard, all_handed_out, course_of, course_of_all, chosen, begun, action_of, run, unless_none, runs_by}
 use Rattle.session_model.specs.Ends.{IsPicking, HaveRunsLeft, KeepRunsLeft}
 
 taken_left : {P : Type 0} → (turn : Turn) (r : Running P) → runs_left (taken turn r).next.round ≡ runs_left r.round
@@ -24,17 +24,17 @@ heard_left : {P : Type 0} → (r : Running P) → runs_left (heard r).next.round
 unfolding heard
 heard_left r = noticed_left r.standing.state.noticed (record r { standing = all_handed_out r.standing })
 
-pub done_left : {P : Type 0} → (m : Meaning P) (r : Running P) (c : Command) → runs_left (done m r c).next.round ≡ runs_left r.round
-unfolding done and_then
+pub done_left : {P : Type 0} → (m : Meaning P) (r : Running P) (c : Command) → runs_left (course_of m r c).next.round ≡ runs_left r.round
+unfolding course_of and_then
 done_left m r c =
     heard_left (taken (turn m.calc r.standing c) r).next ∙ taken_left (turn m.calc r.standing c) r
 
 -- no command takes a run away, or gives one
 pub all_done_left : {P : Type 0} → (m : Meaning P) (commands : List Command) (r : Running P)
-    → runs_left (all_done m commands r).next.round ≡ runs_left r.round
-unfolding all_done and_then
+    → runs_left (course_of_all m commands r).next.round ≡ runs_left r.round
+unfolding course_of_all and_then
 all_done_left m [] r = refl
-all_done_left m (command ∷ commands) r = all_done_left m commands (done m r command).next ∙ done_left m r command
+all_done_left m (command ∷ commands) r = all_done_left m commands (course_of m r command).next ∙ done_left m r command
 
 pub run_left : {P : Type 0} → (m : Meaning P) (r : Running P) → chosen m r < length r.round.due → HaveRunsLeft r.round → DueWatcher
     → runs_left (run m r).next.round + 1 ≡ runs_left r.round

@@ -6,7 +6,7 @@ use Rattle.session_commands.specs.declared.command.Command.{Command}
 use Rattle.watch_rounds.specs.declared.due.DueWatcher.{DueWatcher}
 use Rattle.watch_rounds.specs.Round.{watcher_at}
 use Rattle.session_model.specs.Turn.{turn}
-use Rattle.session_model.specs.Course.{Running, Meaning, Course, quiet, taken, notice, noticed, heard, all_handed_out, and_then, done, all_done, chosen, begun, action_of, run, unless_none, runs_by, most_runs, opened, round_of}
+use Rattle.session_model.specs.Course.{Running, Meaning, Course, quiet, taken, notice, noticed, heard, all_handed_out, and_then, course_of, course_of_all, chosen, begun, action_of, run, unless_none, runs_by, most_runs, opened, round_of}
 use Rattle.session_model.specs.Rounds.{rounds, lines_of, calls_in}
 use Rattle.session_model.specs.Moments.{Moment, moment_of, moments_of_all, moments_of_run, none_unless_due, moments_of_runs, moments_of_round, moments, lines_at, calls_at, IsOfMoments}
 
@@ -51,20 +51,20 @@ pub heard_calls : {P : Type 0} → (r : Running P) → (heard r).calls ≡ []
 unfolding heard
 heard_calls r = noticed_calls r.standing.state.noticed (record r { standing = all_handed_out r.standing })
 
-done_of : {P : Type 0} → (m : Meaning P) (r : Running P) (c : Command) → IsOf P m.calc (done m r c) (moment_of m r c ∷ [])
-unfolding done and_then lines_at calls_at
+done_of : {P : Type 0} → (m : Meaning P) (r : Running P) (c : Command) → IsOf P m.calc (course_of m r c) (moment_of m r c ∷ [])
+unfolding course_of and_then lines_at calls_at
 done_of m r c = record {
   lines = sym (append-nil ((turn m.calc r.standing c).lines ++ (heard (taken (turn m.calc r.standing c) r).next).lines));
   calls = ap (λ (l : List (ℕ × Bool)). (turn m.calc r.standing c).calls ++ l) (heard_calls (taken (turn m.calc r.standing c) r).next);
 }
 
 all_of : {P : Type 0} → (m : Meaning P) (commands : List Command) (r : Running P)
-    → IsOf P m.calc (all_done m commands r) (moments_of_all m commands r)
-unfolding all_done moments_of_all
+    → IsOf P m.calc (course_of_all m commands r) (moments_of_all m commands r)
+unfolding course_of_all moments_of_all
 all_of m [] r = none_of m.calc r
 all_of m (c ∷ commands) r =
-    both_of m.calc (done m r c) (all_done m commands) (moment_of m r c ∷ []) (moments_of_all m commands (done m r c).next)
-    (done_of m r c) (all_of m commands (done m r c).next)
+    both_of m.calc (course_of m r c) (course_of_all m commands) (moment_of m r c ∷ []) (moments_of_all m commands (course_of m r c).next)
+    (done_of m r c) (all_of m commands (course_of m r c).next)
 
 run_of : {P : Type 0} → (m : Meaning P) (r : Running P) → IsOf P m.calc (run m r) (moments_of_run m r)
 unfolding run
@@ -85,8 +85,8 @@ runs_of m (suc n) r =
 round_is_of : {P : Type 0} → (m : Meaning P) (r : Running P) (c : Command) → IsOf P m.calc (round_of m r c) (moments_of_round m r c)
 unfolding round_of moments_of_round
 round_is_of m r c =
-    both_of m.calc (done m (opened r) c) (runs_by m (most_runs r)) (moment_of m (opened r) c ∷ [])
-    (moments_of_runs m (most_runs r) (done m (opened r) c).next) (done_of m (opened r) c) (runs_of m (most_runs r) (done m (opened r) c).next)
+    both_of m.calc (course_of m (opened r) c) (runs_by m (most_runs r)) (moment_of m (opened r) c ∷ [])
+    (moments_of_runs m (most_runs r) (course_of m (opened r) c).next) (done_of m (opened r) c) (runs_of m (most_runs r) (course_of m (opened r) c).next)
 
 pub transcript_of : {P : Type 0} → (m : Meaning P) (r : Running P) (commands : List Command) → IsOfMoments P m r commands
 unfolding rounds lines_of calls_in moments lines_at calls_at

@@ -77,12 +77,12 @@ unfoldable pub heard : {P : Type 0} → Running P → Course P
 heard r = noticed r.standing.state.noticed (record r { standing = all_handed_out r.standing })
 
 -- A COMMAND, at the top or in an action: its turn, then its notices
-unfoldable pub done : {P : Type 0} → Meaning P → Running P → Command → Course P
-done m r c = and_then (taken (turn m.calc r.standing c) r) heard
+unfoldable pub course_of : {P : Type 0} → Meaning P → Running P → Command → Course P
+course_of m r c = and_then (taken (turn m.calc r.standing c) r) heard
 
-unfoldable pub all_done : {P : Type 0} → Meaning P → List Command → Running P → Course P
-all_done m [] r = quiet r
-all_done m (command ∷ commands) r = and_then (done m r command) (all_done m commands)
+unfoldable pub course_of_all : {P : Type 0} → Meaning P → List Command → Running P → Course P
+course_of_all m [] r = quiet r
+course_of_all m (command ∷ commands) r = and_then (course_of m r command) (course_of_all m commands)
 
 -- the position among the due that is chosen
 abbrev pub chosen : {P : Type 0} → Meaning P → Running P → ℕ
@@ -103,7 +103,7 @@ action_of p (Some w) = commands_of p.actions (slice_index_or p.watching (name_of
 
 -- ONE RUN: the commands of the chosen watcher's action, to the last
 unfoldable pub run : {P : Type 0} → Meaning P → Running P → Course P
-run m r = all_done m (action_of r.standing (watcher_at (chosen m r) r.round)) (begun m r)
+run m r = course_of_all m (action_of r.standing (watcher_at (chosen m r) r.round)) (begun m r)
 
 abbrev pub unless_none : {P : Type 0} → List DueWatcher → Running P → Course P → Course P
 unless_none [] r course = quiet r
@@ -124,7 +124,7 @@ opened r = record r { standing = all_handed_out r.standing; round = no_round (le
 
 -- THE ROUND of a command: its turn with its notices, and the runs of the watchers that are due
 unfoldable pub round_of : {P : Type 0} → Meaning P → Running P → Command → Course P
-round_of m r command = and_then (done m (opened r) command) (runs_by m (most_runs r))
+round_of m r command = and_then (course_of m (opened r) command) (runs_by m (most_runs r))
 
 -- a session with watchers begins
 abbrev pub running : {P : Type 0} → P → Standing → Running P

@@ -6,7 +6,7 @@ use Rattle.watch_rounds.specs.declared.due.DueWatcher.{DueWatcher}
 use Rattle.watch_rounds.specs.Round.{watcher_at}
 use Rattle.session_model.specs.Standing.{Standing}
 use Rattle.session_model.specs.Turn.{turn}
-use Rattle.session_model.specs.Course.{Running, Meaning, taken, heard, done, chosen, begun, action_of, run, most_runs, opened, round_of}
+use Rattle.session_model.specs.Course.{Running, Meaning, taken, heard, course_of, chosen, begun, action_of, run, most_runs, opened, round_of}
 use Rattle.session_model.specs.Rounds.{transcript, calls_of}
 
 -- a command, the session in which it is done, and the lines that its notices write
@@ -24,7 +24,7 @@ moment_of m r c = record {
 
 unfoldable pub moments_of_all : {P : Type 0} → Meaning P → List Command → Running P → List Moment
 moments_of_all m [] r = []
-moments_of_all m (command ∷ commands) r = moment_of m r command ∷ moments_of_all m commands (done m r command).next
+moments_of_all m (command ∷ commands) r = moment_of m r command ∷ moments_of_all m commands (course_of m r command).next
 
 -- those of the run that comes next
 abbrev pub moments_of_run : {P : Type 0} → Meaning P → Running P → List Moment
@@ -40,7 +40,7 @@ moments_of_runs m zero r = []
 moments_of_runs m (suc n) r = none_unless_due r.round.due (moments_of_run m r ++ moments_of_runs m n (run m r).next)
 
 unfoldable pub moments_of_round : {P : Type 0} → Meaning P → Running P → Command → List Moment
-moments_of_round m r c = moment_of m (opened r) c ∷ moments_of_runs m (most_runs r) (done m (opened r) c).next
+moments_of_round m r c = moment_of m (opened r) c ∷ moments_of_runs m (most_runs r) (course_of m (opened r) c).next
 
 -- those of the rounds of commands
 unfoldable pub moments : {P : Type 0} → Meaning P → Running P → List Command → List Moment

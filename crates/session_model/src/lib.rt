@@ -2,7 +2,7 @@
 //! lines and the computations that it gives, whom it tells and whose actions run then, and the transcript of all its rounds.
 //!
 //! `Act` with `Change`, `Growth` and `How`, `Place`, `is_quiet`, `MOST_LIVE`, `MOST_NUMBERS`. Words of `specs/`:
-//! `Standing`, `resolve`, `changed`, `pricing_of`, `step`, `Turn`, `turn`, `Running`, `done`, `run`, `round_of`, `rounds`, `transcript`,
+//! `Standing`, `resolve`, `changed`, `pricing_of`, `step`, `Turn`, `turn`, `Running`, `course_of`, `run`, `round_of`, `rounds`, `transcript`,
 //! `calls_of`.
 //! Its functions without a body are laws: their contracts are what is proved.
 #![tactic(auto)]

@@ -8,7 +8,7 @@ use Rattle.watch_rounds.specs.declared.due.DueWatcher.{DueWatcher}
 use Rattle.watch_rounds.specs.Round.{Round, blank, runs_left, watcher_at, watcher_of, with_run}
 use Rattle.watch_rounds.proofs.Stays.{nobody_ran}
 use Rattle.session_model.specs.Standing.{name_of}
-use Rattle.session_model.specs.Course.{Running, Meaning, Course, quiet, before, and_then, done, all_done, chosen, begun, action_of, run, unless_none, runs_by, opened}
+use Rattle.session_model.specs.Course.{Running, Meaning, Course, quiet, before, and_then, course_of, course_of_all, chosen, begun, action_of, run, unless_none, runs_by, opened}
 use Rattle.session_model.proofs.Ends.{all_done_left, eight_each}
 use Rattle.session_rounds.specs.Goes.{Output, Does, Halts, Goes, Runs}
 use Rattle.session_rounds.proofs.Going.{more_none, out_more, joined, goes_on, goes_halt, goes_end}
@@ -38,31 +38,31 @@ drop_past (first ∷ rest) (suc i) is = drop_past rest i is
 
 module _ {P : Type 0} (m : Meaning P) (commands : List Command) (i : ℕ) where
   left_more : (c : Command) (r : Running P) → slice_get commands i ≡ Some c
-      → all_done m (drop i commands) r ≡ and_then (done m r c) (all_done m (drop (i + 1) commands))
-  unfolding all_done
-  left_more c r is = ap (λ (cs : List Command). all_done m cs r) (drop_read commands i c is)
+      → course_of_all m (drop i commands) r ≡ and_then (course_of m r c) (course_of_all m (drop (i + 1) commands))
+  unfolding course_of_all
+  left_more c r is = ap (λ (cs : List Command). course_of_all m cs r) (drop_read commands i c is)
 
-  left_none : (r : Running P) → slice_get commands i ≡ None → all_done m (drop i commands) r ≡ quiet r
-  unfolding all_done
-  left_none r is = ap (λ (cs : List Command). all_done m cs r) (drop_past commands i is)
+  left_none : (r : Running P) → slice_get commands i ≡ None → course_of_all m (drop i commands) r ≡ quiet r
+  unfolding course_of_all
+  left_none r is = ap (λ (cs : List Command). course_of_all m cs r) (drop_past commands i is)
 
   pub plays_on : (total : Course P) (c : Command) (r new : Running P) (out_old out_now out_new : Output)
-      → Goes P total (all_done m (drop i commands) r) out_old out_now → slice_get commands i ≡ Some c
-      → Does P (done m r c) new out_now out_new
-      → Goes P total (all_done m (drop (i + 1) commands) new) out_old out_new
+      → Goes P total (course_of_all m (drop i commands) r) out_old out_now → slice_get commands i ≡ Some c
+      → Does P (course_of m r c) new out_now out_new
+      → Goes P total (course_of_all m (drop (i + 1) commands) new) out_old out_new
   plays_on total c r new out_old out_now out_new goes is does =
-      goes_on total (done m r c) (all_done m (drop (i + 1) commands)) new out_old out_now out_new
+      goes_on total (course_of m r c) (course_of_all m (drop (i + 1) commands)) new out_old out_now out_new
       (subst (λ (t : Course P). Goes P total t out_old out_now) (left_more c r is) goes) does
 
   pub plays_halt : (total : Course P) (c : Command) (r : Running P) (out_old out_now out_new : Output)
-      → Goes P total (all_done m (drop i commands) r) out_old out_now → slice_get commands i ≡ Some c
-      → Halts P (done m r c) out_now out_new → Halts P total out_old out_new
+      → Goes P total (course_of_all m (drop i commands) r) out_old out_now → slice_get commands i ≡ Some c
+      → Halts P (course_of m r c) out_now out_new → Halts P total out_old out_new
   plays_halt total c r out_old out_now out_new goes is halts =
-      goes_halt total (done m r c) (all_done m (drop (i + 1) commands)) out_old out_now out_new
+      goes_halt total (course_of m r c) (course_of_all m (drop (i + 1) commands)) out_old out_now out_new
       (subst (λ (t : Course P). Goes P total t out_old out_now) (left_more c r is) goes) halts
 
   pub plays_end : (total : Course P) (r : Running P) (out_old out_new : Output)
-      → Goes P total (all_done m (drop i commands) r) out_old out_new → slice_get commands i ≡ None
+      → Goes P total (course_of_all m (drop i commands) r) out_old out_new → slice_get commands i ≡ None
       → Does P total r out_old out_new
   plays_end total r out_old out_new goes is =
       goes_end total r out_old out_new (subst (λ (t : Course P). Goes P total t out_old out_new) (left_none r is) goes)
@@ -70,13 +70,13 @@ module _ {P : Type 0} (m : Meaning P) (commands : List Command) (i : ℕ) where
 -- no action, no command
 pub plays_none : {P : Type 0} → (m : Meaning P) (r : Running P) (w : ℕ) (out : Output)
     → slice_index_or r.standing.watching (name_of r.standing w) None ≡ None
-    → Does P (all_done m (action_of r.standing (Some w)) r) r out out
-unfolding all_done
+    → Does P (course_of_all m (action_of r.standing (Some w)) r) r out out
+unfolding course_of_all
 plays_none {P} m r w out is = rw is (record { next = refl; out = more_none out })
 
 pub plays_some : {P : Type 0} → (m : Meaning P) (r : Running P) (w action : ℕ)
     → slice_index_or r.standing.watching (name_of r.standing w) None ≡ Some action
-    → all_done m (slice_index_or r.standing.actions action []) r ≡ all_done m (action_of r.standing (Some w)) r
+    → course_of_all m (slice_index_or r.standing.actions action []) r ≡ course_of_all m (action_of r.standing (Some w)) r
 plays_some m r w action is = rw is refl
 
 -- THE RUNS OF A ROUND
@@ -140,7 +140,7 @@ module _ {P : Type 0} (m : Meaning P) where
   pub runs_on : (start now new : Running P) (w : ℕ) (out_old out_now out_new : Output)
       → Runs P m start now out_old out_now → watcher_at (chosen m now) now.round ≡ Some w
       → runs_left (begun m now).round + 1 ≡ runs_left now.round
-      → Does P (all_done m (action_of now.standing (Some w)) (begun m now)) new out_now out_new
+      → Does P (course_of_all m (action_of now.standing (Some w)) (begun m now)) new out_now out_new
       → Runs P m start new out_old out_new
   unfolding runs_by and_then run begun
   runs_on start now new w out_old out_now out_new runs is falls does = record {
@@ -152,13 +152,13 @@ module _ {P : Type 0} (m : Meaning P) where
     out = out_more t new runs.lines runs.calls out_old out_now out_new runs.out does;
     whole = λ k j same. runs.whole (suc k) j (omega arith)
         ∙ ap (before runs.lines runs.calls) (run_first now.round.due now (and_then (run m now) (runs_by m k)) (some_due now.round.due (chosen m now) w is))
-        ∙ ap (λ (o : Option ℕ). before runs.lines runs.calls (and_then (all_done m (action_of now.standing o) (begun m now)) (runs_by m k))) is
+        ∙ ap (λ (o : Option ℕ). before runs.lines runs.calls (and_then (course_of_all m (action_of now.standing o) (begun m now)) (runs_by m k))) is
         ∙ joined runs.lines t.lines runs.calls t.calls (runs_by m k t.next)
         ∙ ap (λ (r : Running P). before (runs.lines ++ t.lines) (runs.calls ++ t.calls) (runs_by m k r)) (sym does.next);
   }
     where
       t : Course P
-      t = all_done m (action_of now.standing (Some w)) (begun m now)
+      t = course_of_all m (action_of now.standing (Some w)) (begun m now)
 
   none_left : (k : ℕ) (r : Running P) → length r.round.due ≡ 0 → runs_by m k r ≡ quiet r
   unfolding runs_by
@@ -181,19 +181,19 @@ module _ {P : Type 0} (m : Meaning P) where
   pub runs_halt : (start now : Running P) (w : ℕ) (out_old out_now out_new : Output)
       → Runs P m start now out_old out_now → watcher_at (chosen m now) now.round ≡ Some w
       → runs_left (begun m now).round + 1 ≡ runs_left now.round
-      → Halts P (all_done m (action_of now.standing (Some w)) (begun m now)) out_now out_new
+      → Halts P (course_of_all m (action_of now.standing (Some w)) (begun m now)) out_now out_new
       → (k : ℕ) → runs_left start.round ≤ k → Halts P (runs_by m k start) out_old out_new
   unfolding runs_by run begun
   runs_halt start now w out_old out_now out_new runs is falls halts k more =
       let most = runs.most in
-      goes_halt (runs_by m k start) (all_done m (action_of now.standing (Some w)) (begun m now)) (runs_by m (k - runs.number - 1)) out_old out_now out_new
+      goes_halt (runs_by m k start) (course_of_all m (action_of now.standing (Some w)) (begun m now)) (runs_by m (k - runs.number - 1)) out_old out_now out_new
       (record {
         lines = runs.lines;
         calls = runs.calls;
         out = runs.out;
         whole = runs.whole (suc (k - runs.number - 1)) k (omega arith)
             ∙ ap (before runs.lines runs.calls) (run_first now.round.due now (and_then (run m now) (runs_by m (k - runs.number - 1))) (some_due now.round.due (chosen m now) w is))
-            ∙ ap (λ (o : Option ℕ). before runs.lines runs.calls (and_then (all_done m (action_of now.standing o) (begun m now)) (runs_by m (k - runs.number - 1)))) is;
+            ∙ ap (λ (o : Option ℕ). before runs.lines runs.calls (and_then (course_of_all m (action_of now.standing o) (begun m now)) (runs_by m (k - runs.number - 1)))) is;
       }) halts
 
 -- where nobody is due nobody runs

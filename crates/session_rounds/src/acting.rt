@@ -4,7 +4,7 @@ ghost use Rattle.desk_model.specs.Sound.{IsSound};
 ghost use Rattle.session_model.specs.Standing.{IsKnown};
 ghost use Rattle.session_model.specs.Resolve.{resolve};
 ghost use Rattle.session_model.specs.Turn.{turn};
-ghost use Rattle.session_model.specs.Course.{taken, done};
+ghost use Rattle.session_model.specs.Course.{taken, course_of};
 ghost use Rattle.session_core.specs.Steps.{is_without_memory};
 ghost use Rattle.session_rounds.specs.Goes.{Does, Halts, Stays};
 ghost use Rattle.session_rounds.specs.Quiet.{IsQuiet};
@@ -29,16 +29,16 @@ impl<P: Picker> WatchedSession<P> {
         requires known { IsKnown self.old.standing command.now }
         requires sound { IsSound (B.calc bench.old) self.old.standing.state }
         ensures same { B.calc bench.new ≡ B.calc bench.old }
-        ensures ok { OnOk result (Does P (done (record { calc = B.calc bench.old; at = P.at; after = P.after }) self.old command.now)
+        ensures ok { OnOk result (Does P (course_of (record { calc = B.calc bench.old; at = P.at; after = P.after }) self.old command.now)
             self.new (record { lines = lines.old.items; count = B.count bench.old; log = B.log bench.old })
             (record { lines = lines.new.items; count = B.count bench.new; log = B.log bench.new })) }
-        ensures err { OnErr result (Halts P (done (record { calc = B.calc bench.old; at = P.at; after = P.after }) self.old command.now)
+        ensures err { OnErr result (Halts P (course_of (record { calc = B.calc bench.old; at = P.at; after = P.after }) self.old command.now)
             (record { lines = lines.old.items; count = B.count bench.old; log = B.log bench.old })
             (record { lines = lines.new.items; count = B.count bench.new; log = B.log bench.new })) }
         ensures stays { Stays (B.calc bench.old) self.old.standing self.new.standing }
         ensures running { OnOk result (self.new.standing.stopped ≡ false) }
         ensures ready { is_without_memory (resolve self.old.standing command.now) ≡ true
-            → (done (record { calc = B.calc bench.old; at = P.at; after = P.after }) self.old command.now).lines ≡ []
+            → (course_of (record { calc = B.calc bench.old; at = P.at; after = P.after }) self.old command.now).lines ≡ []
             → is_ok result ≡ true }
     {
         self.act(command, bench, lines)?;

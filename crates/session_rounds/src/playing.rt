@@ -3,7 +3,7 @@ ghost use Rattle.std.specs.Prelude.{◌≡◌, ◌≤◌, ◌<◌, ◌+◌, ◌^
 ghost use Rattle.desk_model.specs.Sound.{IsSound};
 ghost use Rattle.watch_rounds.specs.Round.{runs_left, watcher_at, with_run};
 ghost use Rattle.session_model.specs.Standing.{IsKnown, name_of};
-ghost use Rattle.session_model.specs.Course.{all_done, action_of, runs_by};
+ghost use Rattle.session_model.specs.Course.{course_of_all, action_of, runs_by};
 ghost use Rattle.session_rounds.specs.Goes.{Does, Halts, Stays, HasEnded};
 
 use crate::WatchedSession;
@@ -69,11 +69,11 @@ impl<P: Picker> WatchedSession<P> {
         requires running { self.old.standing.stopped ≡ false }
         requires sound { IsSound (B.calc bench.old) self.old.standing.state }
         ensures same { B.calc bench.new ≡ B.calc bench.old }
-        ensures ok { OnOk result (Does P (all_done (record { calc = B.calc bench.old; at = P.at; after = P.after })
+        ensures ok { OnOk result (Does P (course_of_all (record { calc = B.calc bench.old; at = P.at; after = P.after })
             (action_of self.old.standing (Some watcher)) self.old)
             self.new (record { lines = lines.old.items; count = B.count bench.old; log = B.log bench.old })
             (record { lines = lines.new.items; count = B.count bench.new; log = B.log bench.new })) }
-        ensures err { OnErr result (Halts P (all_done (record { calc = B.calc bench.old; at = P.at; after = P.after })
+        ensures err { OnErr result (Halts P (course_of_all (record { calc = B.calc bench.old; at = P.at; after = P.after })
             (action_of self.old.standing (Some watcher)) self.old)
             (record { lines = lines.old.items; count = B.count bench.old; log = B.log bench.old })
             (record { lines = lines.new.items; count = B.count bench.new; log = B.log bench.new })) }
@@ -105,11 +105,11 @@ impl<P: Picker> WatchedSession<P> {
         requires running { self.old.standing.stopped ≡ false }
         requires sound { IsSound (B.calc bench.old) self.old.standing.state }
         ensures same { B.calc bench.new ≡ B.calc bench.old }
-        ensures ok { OnOk result (Does P (all_done (record { calc = B.calc bench.old; at = P.at; after = P.after })
+        ensures ok { OnOk result (Does P (course_of_all (record { calc = B.calc bench.old; at = P.at; after = P.after })
             (slice_index_or self.old.standing.actions action []) self.old)
             self.new (record { lines = lines.old.items; count = B.count bench.old; log = B.log bench.old })
             (record { lines = lines.new.items; count = B.count bench.new; log = B.log bench.new })) }
-        ensures err { OnErr result (Halts P (all_done (record { calc = B.calc bench.old; at = P.at; after = P.after })
+        ensures err { OnErr result (Halts P (course_of_all (record { calc = B.calc bench.old; at = P.at; after = P.after })
             (slice_index_or self.old.standing.actions action []) self.old)
             (record { lines = lines.old.items; count = B.count bench.old; log = B.log bench.old })
             (record { lines = lines.new.items; count = B.count bench.new; log = B.log bench.new })) }

@@ -6,7 +6,7 @@ use Rattle.fixed_amount.specs.Decimal.{decimal_text}
 use Rattle.walks.specs.Walk.{below_by}
 use Rattle.desk_model.specs.Uses.{input_by, input_at}
 use Rattle.desk_model.specs.Fresh.{answer_by, fresh}
-use Rattle.desk_model.specs.State.{is_frozen, is_source, is_late, held, seen, now}
+use Rattle.desk_model.specs.State.{is_frozen, is_source, is_late, held_outcome, seen_outcome, now}
 use Rattle.desk_model.specs.Visit.{visit_by, runs, stored, asked}
 use Rattle.desk_model.specs.Effect.{made}
 use Rattle.market_desk.specs.Making.{with_made}
@@ -18,7 +18,7 @@ use Rattle.curve_run.specs.Pricing.{refused_line, curves_of, refused_lines, curv
 use Rattle.curve_run.proofs.rows.a_small_market_is_worked_through.Goals as goal
 
 pub returns : goal.returns
-unfolding digits date_in_year date_after date_of has_text place_of decimal_text below_by input_by input_at answer_by fresh is_frozen is_source is_late held seen now visit_by runs stored asked made with_made point_text row_text rows_text curves_rows table_text curve_text curve_calls curve_below unnamed_line objects_named lines_named named_of refused_line curves_of refused_lines curves_asking
+unfolding digits date_in_year date_after date_of has_text place_of decimal_text below_by input_by input_at answer_by fresh is_frozen is_source is_late held_outcome seen_outcome now visit_by runs stored asked made with_made point_text row_text rows_text curves_rows table_text curve_text curve_calls curve_below unnamed_line objects_named lines_named named_of refused_line curves_of refused_lines curves_asking
 returns c = record {
   curve = refl;
   refused = refl;

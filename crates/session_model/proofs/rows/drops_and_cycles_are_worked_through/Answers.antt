@@ -5,7 +5,7 @@ use Rattle.fixed_amount.specs.Decimal.{decimal_text}
 use Rattle.desk_names.specs.Names.{place_of}
 use Rattle.desk_model.specs.Uses.{input_by, input_at}
 use Rattle.desk_model.specs.Fresh.{answer_by, fresh}
-use Rattle.desk_model.specs.State.{is_frozen, is_source, is_late, is_clear, held, seen, now, mark_of, shows}
+use Rattle.desk_model.specs.State.{is_frozen, is_source, is_late, is_clear, held_outcome, seen_outcome, now, mark_of, shows}
 use Rattle.desk_model.specs.Visit.{visit_by, runs, stored, asked}
 use Rattle.desk_model.specs.Told.{told, tell, forwards}
 use Rattle.desk_model.specs.Links.{reaches}
@@ -17,12 +17,12 @@ use Rattle.session_model.specs.Standing.{named_from, is_full}
 use Rattle.session_model.specs.Resolve.{find, with_found, unless, unless_used, unless_taken, resolve}
 use Rattle.session_model.specs.Change.{changed, grown}
 use Rattle.session_model.specs.Turn.{step, effect_of, turn}
-use Rattle.session_model.specs.Course.{and_then, noticed, heard, done, runs_by, opened, round_of}
+use Rattle.session_model.specs.Course.{and_then, noticed, heard, course_of, runs_by, opened, round_of}
 use Rattle.session_model.specs.Rounds.{rounds, lines_of, calls_in}
 use Rattle.session_model.proofs.rows.drops_and_cycles_are_worked_through.Goals as goal
 
 pub returns : goal.returns
-unfolding digits below_by decimal_text place_of input_by input_at answer_by fresh is_frozen is_source is_late is_clear held seen now mark_of shows visit_by runs stored asked told tell forwards reaches made notified revised quote_set member_set dropped parts_of row_of asked_line refusal_line named_from is_full find with_found unless unless_used unless_taken resolve changed grown step effect_of turn and_then noticed heard done runs_by opened round_of rounds lines_of calls_in
+unfolding digits below_by decimal_text place_of input_by input_at answer_by fresh is_frozen is_source is_late is_clear held_outcome seen_outcome now mark_of shows visit_by runs stored asked told tell forwards reaches made notified revised quote_set member_set dropped parts_of row_of asked_line refusal_line named_from is_full find with_found unless unless_used unless_taken resolve changed grown step effect_of turn and_then noticed heard course_of runs_by opened round_of rounds lines_of calls_in
 returns c = record {
   derived = refl;
   cycle = refl;

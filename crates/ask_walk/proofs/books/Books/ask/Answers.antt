@@ -3,7 +3,7 @@ use Rattle.std.specs.Prelude.{◌↔◌, IfOk, OnErr}
 use Rattle.std.proofs.lemmas.Bool.{false≢true}
 use Rattle.std.proofs.lemmas.Result.{IfOk-weaker}
 use Rattle.desk_terms.specs.declared.asked.Asked.{Asked}
-use Rattle.desk_model.specs.State.{State, held}
+use Rattle.desk_model.specs.State.{State, held_outcome}
 use Rattle.object_store.specs.Market.{state_in}
 use Rattle.object_store.specs.Late.{IsClear}
 use Rattle.object_store.specs.Slots.{is_now}
@@ -31,7 +31,7 @@ walk-answer-requires-clause-free g c =
     let s = state_in c.args.market.now c.args.self.now.store in
     let none = sym (c.in_default.ensures.answer c.args.market.now c.requires.may.whole c.requires.joined) in
     let same = c.clear.ensures.same ∙ ap (λ (b : Books). b.store) c.ask_held.ensures.same in
-    subst (λ (v : StoreView). held (state_in c.args.market.now v) c.args.object ≡ None) (sym same) (not_held s c.args.object (asked_thawed s c.args.object none) (asked_early s c.args.object none))
+    subst (λ (v : StoreView). held_outcome (state_in c.args.market.now v) c.args.object ≡ None) (sym same) (not_held s c.args.object (asked_thawed s c.args.object none) (asked_early s c.args.object none))
 
 pub walk-answer-requires-clause-stale : goal.walk-answer-requires-clause-stale
 walk-answer-requires-clause-stale g c =

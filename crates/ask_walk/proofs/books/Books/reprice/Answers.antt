@@ -1,7 +1,7 @@
 use Rattle.std.proofs.Common.{◌≡◌, List, None, refl, sym, ◌∙◌, ap, subst, arith}
 use Rattle.desk_terms.specs.declared.asked.Mark.TheVariants.{Recalc}
 use Rattle.desk_model.specs.declared.kept.Kept.{Kept}
-use Rattle.desk_model.specs.State.{held}
+use Rattle.desk_model.specs.State.{held_outcome}
 use Rattle.object_store.specs.Market.{market_in, state_in}
 use Rattle.object_store.specs.Slots.{Registry, state_of}
 use Rattle.object_store.specs.Store.{registry_of}
@@ -34,7 +34,7 @@ walk-requires-clause-may g c =
 
 pub walk-requires-clause-free : goal.walk-requires-clause-free
 walk-requires-clause-free g c =
-    subst (λ (on : Registry). held (state_of c.args.market.now.today c.args.market.now.objects c.loop-cause.self.store.kept on) c.in-First.needed ≡ None) (sym c.loop-cause.invariant.5) (needed_free _ _ _ _ _ _ _ _ _ c.loop-cause.invariant.1 c.in-First.needed (sym c.in_ok-cause.ensures.next ∙ ap (next_with c.next.new.inputs) c.in-First.is))
+    subst (λ (on : Registry). held_outcome (state_of c.args.market.now.today c.args.market.now.objects c.loop-cause.self.store.kept on) c.in-First.needed ≡ None) (sym c.loop-cause.invariant.5) (needed_free _ _ _ _ _ _ _ _ _ c.loop-cause.invariant.1 c.in-First.needed (sym c.in_ok-cause.ensures.next ∙ ap (next_with c.next.new.inputs) c.in-First.is))
 
 pub walk-requires-clause-stale : goal.walk-requires-clause-stale
 walk-requires-clause-stale g c =

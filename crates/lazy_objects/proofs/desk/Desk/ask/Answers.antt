@@ -1,7 +1,7 @@
 use Rattle.std.proofs.Common.{◌≡◌, ◌≢◌, ◌⊎◌, true, None, sym, subst}
 use Rattle.std.specs.Prelude.{IsOk, IfOk, OnErr}
 use Rattle.desk_terms.specs.declared.asked.Asked.{Asked}
-use Rattle.desk_model.specs.State.{State, kept_at, held}
+use Rattle.desk_model.specs.State.{State, kept_at, held_outcome}
 use Rattle.ask_walk.specs.Asks.{Asks, Stops}
 use Rattle.object_store.specs.Market.{market_in, state_in}
 use Rattle.object_store.specs.Shape.{IsJoined}
@@ -30,4 +30,4 @@ pub returns-clause-sound : goal.returns-clause-sound
 returns-clause-sound g c = c.ask.ensures.stays.sound
 
 pub returns-clause-ready : goal.returns-clause-ready
-returns-clause-ready g c = subst (λ (t : State). (held t c.args.object ≢ None) ⊎ ((kept_at t c.args.object).current ≡ true) → IsOk c.ask.result) c.self.view_is c.ask.ensures.ready
+returns-clause-ready g c = subst (λ (t : State). (held_outcome t c.args.object ≢ None) ⊎ ((kept_at t c.args.object).current ≡ true) → IsOk c.ask.result) c.self.view_is c.ask.ensures.ready

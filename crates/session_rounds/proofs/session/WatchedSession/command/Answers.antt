@@ -3,14 +3,14 @@ use Rattle.std.specs.Prelude.{is_ok}
 use Rattle.std.proofs.lemmas.Bool.{false≢true}
 use Rattle.std.proofs.lemmas.Result.{err_from_is_err_and, on_ok_weaker, on_err_weaker}
 use Rattle.session_model.specs.Turn.{turn}
-use Rattle.session_model.specs.Course.{Running, taken, heard, and_then, done}
+use Rattle.session_model.specs.Course.{Running, taken, heard, and_then, course_of}
 use Rattle.session_rounds.proofs.Going.{does_both, halts_first, halts_second, does_priced, halts_priced}
 use Rattle.session_model.proofs.Moments.{heard_calls}
 use Rattle.session_rounds.proofs.Hearing.{no_front}
 use Rattle.session_rounds.proofs.session.WatchedSession.command.Goals as goal
 
 pub returns-in_err-act-clause-err : goal.returns-in_err-act-clause-err
-unfolding done
+unfolding course_of
 returns-in_err-act-clause-err g c =
     let e = err_from_is_err_and c.from_residual.result c.from_residual.ensures.1 in
     rw e.1 (halts_first (taken (turn (g.B.Bench.calc c.args.bench.now) c.args.self.now.standing c.args.command.now) c.args.self.now) heard
@@ -18,7 +18,7 @@ returns-in_err-act-clause-err g c =
     (record { lines = c.act.new.lines.items; count = g.B.Bench.count c.act.new.bench; log = g.B.Bench.log c.act.new.bench }) c.in_err-act.ensures.err)
 
 pub returns-clause-ok : goal.returns-clause-ok
-unfolding done
+unfolding course_of
 returns-clause-ok g c =
     on_ok_weaker c.hear.result (λ does. does_both (taken (turn (g.B.Bench.calc c.args.bench.now) c.args.self.now.standing c.args.command.now) c.args.self.now)
     heard c.act.new.self c.hear.new.self
@@ -30,7 +30,7 @@ returns-clause-ok g c =
     (g.B.Bench.count c.act.new.bench) (g.B.Bench.log c.act.new.bench) c.hear.new.self does)) c.hear.ensures.ok
 
 pub returns-clause-err : goal.returns-clause-err
-unfolding done
+unfolding course_of
 returns-clause-err g c =
     on_err_weaker c.hear.result (λ halts. halts_second (taken (turn (g.B.Bench.calc c.args.bench.now) c.args.self.now.standing c.args.command.now) c.args.self.now)
     heard c.act.new.self
@@ -52,7 +52,7 @@ pub returns-in_err-act-clause-ready : goal.returns-in_err-act-clause-ready
 returns-in_err-act-clause-ready g c = λ free silent. absurd (false≢true (sym (ap is_ok c.in_err-act.was) ∙ c.act.ensures.ready free))
 
 pub returns-clause-ready : goal.returns-clause-ready
-unfolding done and_then
+unfolding course_of and_then
 returns-clause-ready g c = λ free silent.
     c.hear.ensures.ready (ap (λ (r : Running g.row.P.Denot). (heard r).lines) c.in_ok-act.ensures.ok.next
     ∙ (no_front (turn (g.B.Bench.calc c.args.bench.now) c.args.self.now.standing c.args.command.now).lines _ silent).1)

@@ -4,7 +4,7 @@ use Rattle.std.proofs.lemmas.Result.{err_from_is_err_and}
 use Rattle.std.proofs.lemmas.Option.{slice_get_within}
 use Rattle.desk_terms.specs.Reading.{Calc}
 use Rattle.session_commands.specs.declared.command.Command.{Command}
-use Rattle.session_model.specs.Course.{Meaning, done, all_done}
+use Rattle.session_model.specs.Course.{Meaning, course_of, course_of_all}
 use Rattle.session_rounds.specs.Goes.{Does, Halts, Stays}
 use Rattle.session_rounds.proofs.Going.{goes_start, stays_on}
 use Rattle.session_rounds.proofs.Plays.{plays_on, plays_halt, plays_end}
@@ -29,7 +29,7 @@ loop-command-preserved g c =
     let m : Meaning g.row.P.Denot = record { calc = g.B.Bench.calc c.args.bench.now; at = g.P.Picker.at; after = g.P.Picker.after } in
     let is = ap (λ (l : List (List Command)). slice_get (slice_index_or l c.args.action []) c.loop-command.at) (sym c.loop-command.invariant.stays.actions)
     ∙ sym c.command_at.ensures.at ∙ c.in-Some.is in
-    let does = subst (λ (k : Calc). Does g.row.P.Denot (done (record m { calc = k }) c.loop-command.self c.in-Some.command) c.command.new.self
+    let does = subst (λ (k : Calc). Does g.row.P.Denot (course_of (record m { calc = k }) c.loop-command.self c.in-Some.command) c.command.new.self
     (record { lines = c.loop-command.lines.items; count = g.B.Bench.count c.loop-command.bench; log = g.B.Bench.log c.loop-command.bench })
     (record { lines = c.command.new.lines.items; count = g.B.Bench.count c.command.new.bench; log = g.B.Bench.log c.command.new.bench }))
     c.loop-command.invariant.same c.in_ok-command.ensures.ok in
@@ -38,7 +38,7 @@ loop-command-preserved g c =
       stays = stays_on _ c.args.self.now.standing c.loop-command.self.standing c.command.new.self.standing c.loop-command.invariant.stays stays;
       running = c.in_ok-command.ensures.running;
       goes = plays_on m (slice_index_or c.args.self.now.standing.actions c.args.action []) c.loop-command.at
-          (all_done m (slice_index_or c.args.self.now.standing.actions c.args.action []) c.args.self.now) c.in-Some.command c.loop-command.self c.command.new.self
+          (course_of_all m (slice_index_or c.args.self.now.standing.actions c.args.action []) c.args.self.now) c.in-Some.command c.loop-command.self c.command.new.self
           _ _ _ c.loop-command.invariant.goes is does;
     }
 
@@ -49,9 +49,9 @@ returns-in_err-command-clause-err g c =
     let is = ap (λ (l : List (List Command)). slice_get (slice_index_or l c.args.action []) c.loop-command.at) (sym c.loop-command.invariant.stays.actions)
     ∙ sym c.command_at.ensures.at ∙ c.in-Some.is in
     rw e.1 (plays_halt m (slice_index_or c.args.self.now.standing.actions c.args.action []) c.loop-command.at
-    (all_done m (slice_index_or c.args.self.now.standing.actions c.args.action []) c.args.self.now) c.in-Some.command c.loop-command.self
+    (course_of_all m (slice_index_or c.args.self.now.standing.actions c.args.action []) c.args.self.now) c.in-Some.command c.loop-command.self
     _ _ _ c.loop-command.invariant.goes is
-    (subst (λ (k : Calc). Halts g.row.P.Denot (done (record m { calc = k }) c.loop-command.self c.in-Some.command)
+    (subst (λ (k : Calc). Halts g.row.P.Denot (course_of (record m { calc = k }) c.loop-command.self c.in-Some.command)
     (record { lines = c.loop-command.lines.items; count = g.B.Bench.count c.loop-command.bench; log = g.B.Bench.log c.loop-command.bench })
     (record { lines = c.command.new.lines.items; count = g.B.Bench.count c.command.new.bench; log = g.B.Bench.log c.command.new.bench }))
     c.loop-command.invariant.same c.in_err-command.ensures.err))
@@ -62,5 +62,5 @@ returns-clause-ok g c =
     let is = ap (λ (l : List (List Command)). slice_get (slice_index_or l c.args.action []) c.loop-command.at) (sym c.loop-command.invariant.stays.actions)
     ∙ sym c.command_at.ensures.at ∙ c.in_default.is in
     plays_end m (slice_index_or c.args.self.now.standing.actions c.args.action []) c.loop-command.at
-    (all_done m (slice_index_or c.args.self.now.standing.actions c.args.action []) c.args.self.now) c.loop-command.self
+    (course_of_all m (slice_index_or c.args.self.now.standing.actions c.args.action []) c.args.self.now) c.loop-command.self
     _ _ c.loop-command.invariant.goes is

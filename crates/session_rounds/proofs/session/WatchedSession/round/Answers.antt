@@ -5,7 +5,7 @@ use Rattle.std.proofs.lemmas.Result.{err_from_is_err_and, on_ok_weaker, on_err_w
 use Rattle.desk_terms.specs.Reading.{Calc}
 use Rattle.watch_rounds.specs.Round.{runs_left}
 use Rattle.session_model.specs.Standing.{IsKnown}
-use Rattle.session_model.specs.Course.{Running, Meaning, done, runs_by, most_runs, opened, round_of}
+use Rattle.session_model.specs.Course.{Running, Meaning, course_of, runs_by, most_runs, opened, round_of}
 use Rattle.session_model.proofs.Ends.{done_left}
 use Rattle.session_rounds.specs.Goes.{Does, Halts, Stays}
 use Rattle.session_rounds.specs.Quiet.{IsQuiet}
@@ -26,10 +26,10 @@ unfolding round_of
 returns-in_err-command-clause-err g c =
     let m : Meaning g.row.P.Denot = record { calc = g.B.Bench.calc c.args.bench.now; at = g.P.Picker.at; after = g.P.Picker.after } in
     let e = err_from_is_err_and c.from_residual.result c.from_residual.ensures.1 in
-    rw e.1 (halts_first (done m (opened c.args.self.now) c.args.command.now) (runs_by m (most_runs c.args.self.now))
+    rw e.1 (halts_first (course_of m (opened c.args.self.now) c.args.command.now) (runs_by m (most_runs c.args.self.now))
     (record { lines = c.args.lines.now.items; count = g.B.Bench.count c.args.bench.now; log = g.B.Bench.log c.args.bench.now })
     (record { lines = c.command.new.lines.items; count = g.B.Bench.count c.command.new.bench; log = g.B.Bench.log c.command.new.bench })
-    (subst (λ (r : Running g.row.P.Denot). Halts g.row.P.Denot (done m r c.args.command.now)
+    (subst (λ (r : Running g.row.P.Denot). Halts g.row.P.Denot (course_of m r c.args.command.now)
     (record { lines = c.args.lines.now.items; count = g.B.Bench.count c.args.bench.now; log = g.B.Bench.log c.args.bench.now })
     (record { lines = c.command.new.lines.items; count = g.B.Bench.count c.command.new.bench; log = g.B.Bench.log c.command.new.bench }))
     c.open.ensures.opens c.in_err-command.ensures.err))
@@ -38,13 +38,13 @@ pub returns-clause-ok : goal.returns-clause-ok
 unfolding round_of
 returns-clause-ok g c =
     let m : Meaning g.row.P.Denot = record { calc = g.B.Bench.calc c.args.bench.now; at = g.P.Picker.at; after = g.P.Picker.after } in
-    let first = subst (λ (r : Running g.row.P.Denot). Does g.row.P.Denot (done m r c.args.command.now) c.command.new.self
+    let first = subst (λ (r : Running g.row.P.Denot). Does g.row.P.Denot (course_of m r c.args.command.now) c.command.new.self
     (record { lines = c.args.lines.now.items; count = g.B.Bench.count c.args.bench.now; log = g.B.Bench.log c.args.bench.now })
     (record { lines = c.command.new.lines.items; count = g.B.Bench.count c.command.new.bench; log = g.B.Bench.log c.command.new.bench }))
     c.open.ensures.opens c.in_ok-command.ensures.ok in
     let same = ap (λ (r : Running g.row.P.Denot). runs_left r.round) first.next ∙ done_left m (opened c.args.self.now) c.args.command.now in
     let eight = opened_left c.args.self.now in
-    on_ok_weaker c.run_all.result (λ each. does_both (done m (opened c.args.self.now) c.args.command.now) (runs_by m (most_runs c.args.self.now))
+    on_ok_weaker c.run_all.result (λ each. does_both (course_of m (opened c.args.self.now) c.args.command.now) (runs_by m (most_runs c.args.self.now))
     c.command.new.self c.run_all.new.self _ _ _ first
     (subst (λ (k : Calc). Does g.row.P.Denot (runs_by (record m { calc = k }) (most_runs c.args.self.now) c.command.new.self) c.run_all.new.self
     (record { lines = c.command.new.lines.items; count = g.B.Bench.count c.command.new.bench; log = g.B.Bench.log c.command.new.bench })
@@ -55,13 +55,13 @@ pub returns-clause-err : goal.returns-clause-err
 unfolding round_of
 returns-clause-err g c =
     let m : Meaning g.row.P.Denot = record { calc = g.B.Bench.calc c.args.bench.now; at = g.P.Picker.at; after = g.P.Picker.after } in
-    let first = subst (λ (r : Running g.row.P.Denot). Does g.row.P.Denot (done m r c.args.command.now) c.command.new.self
+    let first = subst (λ (r : Running g.row.P.Denot). Does g.row.P.Denot (course_of m r c.args.command.now) c.command.new.self
     (record { lines = c.args.lines.now.items; count = g.B.Bench.count c.args.bench.now; log = g.B.Bench.log c.args.bench.now })
     (record { lines = c.command.new.lines.items; count = g.B.Bench.count c.command.new.bench; log = g.B.Bench.log c.command.new.bench }))
     c.open.ensures.opens c.in_ok-command.ensures.ok in
     let same = ap (λ (r : Running g.row.P.Denot). runs_left r.round) first.next ∙ done_left m (opened c.args.self.now) c.args.command.now in
     let eight = opened_left c.args.self.now in
-    on_err_weaker c.run_all.result (λ each. halts_second (done m (opened c.args.self.now) c.args.command.now) (runs_by m (most_runs c.args.self.now))
+    on_err_weaker c.run_all.result (λ each. halts_second (course_of m (opened c.args.self.now) c.args.command.now) (runs_by m (most_runs c.args.self.now))
     c.command.new.self _ _ _ first
     (subst (λ (k : Calc). Halts g.row.P.Denot (runs_by (record m { calc = k }) (most_runs c.args.self.now) c.command.new.self)
     (record { lines = c.command.new.lines.items; count = g.B.Bench.count c.command.new.bench; log = g.B.Bench.log c.command.new.bench })

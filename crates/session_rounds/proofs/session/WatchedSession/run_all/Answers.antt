@@ -2,7 +2,7 @@ use Rattle.std.proofs.Common.{◌≡◌, ◌+◌, ◌≤◌, ◌∙◌, ℕ, Som
 use Rattle.std.proofs.lemmas.Result.{err_from_is_err_and}
 use Rattle.desk_terms.specs.Reading.{Calc}
 use Rattle.watch_rounds.specs.Round.{runs_left}
-use Rattle.session_model.specs.Course.{Running, Meaning, all_done, begun, action_of, runs_by}
+use Rattle.session_model.specs.Course.{Running, Meaning, course_of_all, begun, action_of, runs_by}
 use Rattle.session_model.proofs.Ends.{all_done_left}
 use Rattle.session_rounds.specs.Goes.{Does, Halts, Stays}
 use Rattle.session_rounds.proofs.Plays.{begun_is, nobody_is, nobody_runs, runs_start, runs_on, runs_end, runs_halt}
@@ -33,10 +33,10 @@ loop-watcher-preserved g c =
     let b = begun_is m c.loop-watcher.self c.begin_run.new.self c.in-Some.watcher c.begin_run.result c.in-Some.is c.begin_run.ensures.due c.begin_run.ensures.begun in
     let standing = ap (λ (r : Running g.row.P.Denot). r.standing) c.begin_run.ensures.begun in
     let falls = subst (λ (r : Running g.row.P.Denot). runs_left r.round + 1 ≡ runs_left c.loop-watcher.self.round) b.1 c.in-Some.ensures.left in
-    let does = subst (λ (r : Running g.row.P.Denot). Does g.row.P.Denot (all_done m (action_of r.standing (Some c.in-Some.watcher)) r) c.run.new.self
+    let does = subst (λ (r : Running g.row.P.Denot). Does g.row.P.Denot (course_of_all m (action_of r.standing (Some c.in-Some.watcher)) r) c.run.new.self
     (record { lines = c.loop-watcher.lines.items; count = g.B.Bench.count c.loop-watcher.bench; log = g.B.Bench.log c.loop-watcher.bench })
     (record { lines = c.run.new.lines.items; count = g.B.Bench.count c.run.new.bench; log = g.B.Bench.log c.run.new.bench })) b.1
-    (subst (λ (k : Calc). Does g.row.P.Denot (all_done (record m { calc = k }) (action_of c.begin_run.new.self.standing (Some c.in-Some.watcher)) c.begin_run.new.self) c.run.new.self
+    (subst (λ (k : Calc). Does g.row.P.Denot (course_of_all (record m { calc = k }) (action_of c.begin_run.new.self.standing (Some c.in-Some.watcher)) c.begin_run.new.self) c.run.new.self
     (record { lines = c.loop-watcher.lines.items; count = g.B.Bench.count c.loop-watcher.bench; log = g.B.Bench.log c.loop-watcher.bench })
     (record { lines = c.run.new.lines.items; count = g.B.Bench.count c.run.new.bench; log = g.B.Bench.log c.run.new.bench }))
     c.loop-watcher.invariant.same c.in_ok-run.ensures.ok) in
@@ -58,10 +58,10 @@ returns-in_err-run-clause-err g c =
     let m : Meaning g.row.P.Denot = record { calc = g.B.Bench.calc c.args.bench.now; at = g.P.Picker.at; after = g.P.Picker.after } in
     let b = begun_is m c.loop-watcher.self c.begin_run.new.self c.in-Some.watcher c.begin_run.result c.in-Some.is c.begin_run.ensures.due c.begin_run.ensures.begun in
     let falls = subst (λ (r : Running g.row.P.Denot). runs_left r.round + 1 ≡ runs_left c.loop-watcher.self.round) b.1 c.in-Some.ensures.left in
-    let halts = subst (λ (r : Running g.row.P.Denot). Halts g.row.P.Denot (all_done m (action_of r.standing (Some c.in-Some.watcher)) r)
+    let halts = subst (λ (r : Running g.row.P.Denot). Halts g.row.P.Denot (course_of_all m (action_of r.standing (Some c.in-Some.watcher)) r)
     (record { lines = c.loop-watcher.lines.items; count = g.B.Bench.count c.loop-watcher.bench; log = g.B.Bench.log c.loop-watcher.bench })
     (record { lines = c.run.new.lines.items; count = g.B.Bench.count c.run.new.bench; log = g.B.Bench.log c.run.new.bench })) b.1
-    (subst (λ (k : Calc). Halts g.row.P.Denot (all_done (record m { calc = k }) (action_of c.begin_run.new.self.standing (Some c.in-Some.watcher)) c.begin_run.new.self)
+    (subst (λ (k : Calc). Halts g.row.P.Denot (course_of_all (record m { calc = k }) (action_of c.begin_run.new.self.standing (Some c.in-Some.watcher)) c.begin_run.new.self)
     (record { lines = c.loop-watcher.lines.items; count = g.B.Bench.count c.loop-watcher.bench; log = g.B.Bench.log c.loop-watcher.bench })
     (record { lines = c.run.new.lines.items; count = g.B.Bench.count c.run.new.bench; log = g.B.Bench.log c.run.new.bench }))
     c.loop-watcher.invariant.same c.in_err-run.ensures.err) in

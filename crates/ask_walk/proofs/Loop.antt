@@ -142,6 +142,9 @@ pub record Asking (calc : Calc) (s : State) (o : ℕ) (count0 : ℕ) (log0 : Opt
   pub count_is : count ≡ counted count0 (length calls)
   pub log_is : log ≡ logged log0 (log_of calls)
 
+some_none : {A : Type 0} {a : A} → Some a ≡ None → ⊥
+some_none e = cc
+
 or_no : (a b : Bool) → b ≡ false → (a || b) ≡ a
 or_no true b e = refl
 or_no false b e = e
@@ -300,6 +303,19 @@ module _ (calc : Calc) (s : State) (o : ℕ) (count0 : ℕ) (log0 : Option (List
     -- the object on top is not current
     pub top_stale : (slice_index_or kept top unpriced).current ≡ false
     top_stale = ap (λ (k : List Kept). is_now k top) a.stores ∙ ap (λ (k : Kept). k.current) (stored_not s a.calls top top_new) ∙ (not_idle s a.calls top (busy_of top (inl refl))).1
+
+    thawed : (kept_at s top).frozen ≡ false
+    unfolding is_frozen
+    thawed = elim (cases_Bool (kept_at s top).frozen) [
+      | inl frozen ↦ absurd (some_none (sym ((fit_of calc s o a.may).frozen top frozen) ∙ (not_idle s a.calls top (busy_of top (inl refl))).0))
+      | inr is ↦ is
+    ]
+
+    -- the object on top is not at hand
+    pub top_busy : is_at_hand kept top ≡ false
+    unfolding is_at_hand
+    top_busy = ap (λ (k : List Kept). is_at_hand k top) a.stores ∙ ap (λ (k : Kept). k.current || k.frozen) (stored_not s a.calls top top_new)
+        ∙ or_no (kept_at s top).current (kept_at s top).frozen thawed ∙ (not_idle s a.calls top (busy_of top (inl refl))).1
 
     pub top_within : top < length kept
     top_within = let e = ap length a.stores in let f = stored_length s a.calls in let w = a.may.whole.length in let t = lazy_within s.market top top_lazy in omega arith

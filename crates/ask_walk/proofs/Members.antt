@@ -1,29 +1,22 @@
 -- Inputs that are at hand before what comes next.
-use Rattle.std.proofs.Common.{◌≡◌, ℕ, ◌+◌, ◌<◌, Bool, true, false, List, [], ◌∷◌, ◌++◌, length, drop, Some, None, Ok, Err, refl, sym, ◌∙◌, ap}
+use Rattle.std.proofs.Common.{◌≡◌, ℕ, ◌+◌, ◌<◌, Bool, true, false, List, [], ◌∷◌, ◌++◌, length, drop, Some, None, Err, refl, sym, ◌∙◌, ap}
 use Rattle.std.specs.Prelude.{if◌then◌else◌}
-use Rattle.std.proofs.lemmas.List.{append_assoc, drop_more}
+use Rattle.std.proofs.lemmas.List.{drop_more}
 use Rattle.std.proofs.Math.ListN.{get_or}
 use Rattle.desk_terms.specs.declared.value.Input as input
 use Rattle.desk_model.specs.declared.entry.Next.{Next}
 use Rattle.desk_model.specs.declared.entry.Next.TheVariants.{Ready, First, Stops}
 use Rattle.desk_terms.specs.declared.terms.Part.{Part}
-use Rattle.desk_terms.specs.declared.value.Value.{Value}
 use Rattle.desk_terms.specs.declared.cause.Cause.{Cause}
 use Rattle.desk_terms.specs.Reading.{Outcome}
 use Rattle.desk_model.specs.Uses.{member_entries}
-use Rattle.desk_model.specs.Fresh.{input_of}
-use Rattle.desk_model.specs.Next.{and_next, and_answer, next_of}
+use Rattle.desk_model.specs.Next.{and_answer, next_of}
 use Rattle.object_store.specs.Slots.{answered_of}
 
 abbrev pub prepend : List input.Input → Next → Next
 prepend inputs (Ready rest) = Ready (inputs ++ rest)
 prepend inputs (First x) = First x
 prepend inputs (Stops cause) = Stops cause
-
-pub prepend_more : (inputs : List input.Input) (i : input.Input) (next : Next) → prepend inputs (and_next i next) ≡ prepend (inputs ++ i ∷ []) next
-prepend_more inputs i (Ready rest) = ap Ready (sym (append_assoc inputs (i ∷ []) rest))
-prepend_more inputs i (First x) = refl
-prepend_more inputs i (Stops cause) = refl
 
 pub prepend_none : (next : Next) → prepend [] next ≡ next
 prepend_none (Ready rest) = refl
@@ -35,7 +28,7 @@ answered_none : (b : Bool) (r : Outcome) → answered_of b r ≡ None → b ≡ 
 answered_none true r e = absurd (cc)
 answered_none false r e = refl
 
-answered_some : (b : Bool) (r q : Outcome) → answered_of b r ≡ Some q → (b ≡ true) × (r ≡ q)
+pub answered_some : (b : Bool) (r q : Outcome) → answered_of b r ≡ Some q → (b ≡ true) × (r ≡ q)
 answered_some true r q e = (refl, cc)
 answered_some false r q e = absurd (cc)
 
@@ -54,14 +47,3 @@ members_err f a inputs parts at part cause so_far get within some =
     sym (so_far ∙ ap (λ (l : List Part). prepend inputs (next_of f a (member_entries l))) rest
     ∙ ap (λ (b : Bool). prepend inputs (if b then and_answer (a part.member) (next_of f a (member_entries (drop (at + 1) parts))) else First part.member)) e.0
     ∙ ap (λ (r : Outcome). prepend inputs (and_answer r (next_of f a (member_entries (drop (at + 1) parts))))) e.1)
-
-pub members_ok : (f : ℕ → Bool) (a : ℕ → Outcome) (inputs : List input.Input) (parts : List Part) (at : ℕ) (part : Part) (value : Value) → next_of f a (member_entries parts) ≡ prepend inputs (next_of f a (member_entries (drop at parts)))
-    → part ≡ get_or parts at part → at < length parts → answered_of (f part.member) (a part.member) ≡ Some (Ok value)
-    → next_of f a (member_entries parts) ≡ prepend (inputs ++ input_of value ∷ []) (next_of f a (member_entries (drop (at + 1) parts)))
-members_ok f a inputs parts at part value so_far get within some =
-    let rest : drop at parts ≡ part ∷ drop (at + 1) parts = drop_more parts at part within ∙ ap (λ (p : Part). p ∷ drop (at + 1) parts) (sym get) in
-    let e = answered_some (f part.member) (a part.member) (Ok value) some in
-    so_far ∙ ap (λ (l : List Part). prepend inputs (next_of f a (member_entries l))) rest
-    ∙ ap (λ (b : Bool). prepend inputs (if b then and_answer (a part.member) (next_of f a (member_entries (drop (at + 1) parts))) else First part.member)) e.0
-    ∙ ap (λ (r : Outcome). prepend inputs (and_answer r (next_of f a (member_entries (drop (at + 1) parts))))) e.1
-    ∙ prepend_more inputs (input_of value) (next_of f a (member_entries (drop (at + 1) parts)))

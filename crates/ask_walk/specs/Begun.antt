@@ -1,41 +1,48 @@
--- How far the members of composites were read.
-use Rattle.std.specs.Prelude.{◌≡◌, ◌≤◌, ℕ, true, List, [], ◌∷◌, length, take, Option, Some, None, Ok, slice_index_or}
-use Rattle.desk_terms.specs.declared.terms.Terms.{Terms}
-use Rattle.desk_terms.specs.declared.terms.Terms.TheVariants.{Quote, Derived, Handle, Curve, Implied, Index, Engine, Stock, Composite, Flows}
+-- What was read so far of the objects at which an ask stands.
+use Rattle.std.specs.Prelude.{◌≡◌, ◌≤◌, ◌*◌, ◌^◌, ℕ, ℤ, unsigned_abs, true, List, [], ◌∷◌, length, Some, Ok}
+use Rattle.desk_terms.specs.declared.terms.Terms.TheVariants.{Composite}
 use Rattle.desk_terms.specs.declared.terms.Part.{Part}
 use Rattle.desk_terms.specs.declared.value.Value.{Value}
+use Rattle.desk_terms.specs.declared.value.Input as input
+use Rattle.desk_terms.specs.Sums.{summed}
 use Rattle.desk_model.specs.declared.kept.Kept.{Kept}
-use Rattle.desk_model.specs.declared.slot.Slot.{Slot}
-use Rattle.desk_model.specs.declared.slot.Slot.TheVariants.{Free}
-use Rattle.desk_model.specs.Market.{terms_in}
+use Rattle.desk_model.specs.Fresh.{input_of}
+use Rattle.desk_model.specs.Market.{Market, terms_at}
 use Rattle.object_store.specs.Slots.{answer_of, is_at_hand}
+use Rattle.ask_walk.specs.declared.waiting.Begun.{Begun}
 
--- x is at hand and has a value
-abbrev pub IsSettled : List Kept → ℕ → Type 0
-IsSettled kept x = (value : Value) × (is_at_hand kept x ≡ true) × (answer_of kept x ≡ Ok value)
+-- x is at hand, and the input is its value
+abbrev pub IsReadOf : List Kept → ℕ → input.Input → Type 0
+IsReadOf kept x i = (value : Value) × (is_at_hand kept x ≡ true) × (answer_of kept x ≡ Ok value) × (i ≡ input_of value)
 
-abbrev pub AreSettled : List Kept → List Part → Type 0
-AreSettled kept [] = Unit {0}
-AreSettled kept (part ∷ parts) = IsSettled kept part.member × AreSettled kept parts
+-- the inputs are those of the first parts, as many as there are inputs
+abbrev pub AreRead : List Kept → List input.Input → List Part → Type 0
+AreRead kept [] parts = Unit {0}
+AreRead kept (i ∷ inputs) [] = ⊥
+AreRead kept (i ∷ inputs) (part ∷ parts) = IsReadOf kept part.member i × AreRead kept inputs parts
 
-abbrev pub parts_in : Option Terms → List Part
-parts_in None = []
-parts_in (Some (Quote value)) = []
-parts_in (Some (Derived minus first second)) = []
-parts_in (Some (Handle kind target)) = []
-parts_in (Some (Curve terms)) = []
-parts_in (Some (Implied curve reference)) = []
-parts_in (Some (Index terms fixings)) = []
-parts_in (Some (Engine curve)) = []
-parts_in (Some (Stock quote)) = []
-parts_in (Some (Composite parts)) = parts
-parts_in (Some (Flows flows engine)) = []
+-- what was read of a composite of these parts: the inputs of as many of the first, and their sum, in which a weight times an
+-- amount is at most 10^32 either way
+pub record HasRead (kept : List Kept) (parts : List Part) (read : ℕ) (sum : ℤ) : Type 0 where
+  pub inputs : List input.Input
+  pub are : AreRead kept inputs parts
+  pub count : length inputs ≡ read
+  pub sums : sum ≡ summed parts inputs
+  pub bound : unsigned_abs sum ≤ read * 10 ^ 32
 
-abbrev pub parts_at : List Slot → ℕ → List Part
-parts_at slots o = parts_in (terms_in (slice_index_or slots o Free))
+-- a composite was read as far as is said; nothing is said of another object, which is read at once
+abbrev pub IsBegun : Market → List Kept → Begun → Type 0
+IsBegun market kept b = (parts : List Part) → terms_at market b.object ≡ Some (Composite parts) → HasRead kept parts b.read b.sum
 
--- the members of each composite are settled, as far as they were read
-pub record Begun (slots : List Slot) (kept : List Kept) (begun : List ℕ) : Type 0 where
-  pub same : length begun ≡ length slots
-  pub low : (o : ℕ) → slice_index_or begun o 0 ≤ length (parts_at slots o)
-  pub settled : (o : ℕ) → AreSettled kept (take (slice_index_or begun o 0) (parts_at slots o))
+abbrev pub AreBegun : Market → List Kept → List Begun → Type 0
+AreBegun market kept [] = Unit {0}
+AreBegun market kept (b ∷ waiting) = IsBegun market kept b × AreBegun market kept waiting
+
+-- the objects that wait
+abbrev pub objects_of : List Begun → List ℕ
+objects_of [] = []
+objects_of (b ∷ waiting) = b.object ∷ objects_of waiting
+
+-- what is at hand with a value stays so
+abbrev pub Keeps : List Kept → List Kept → Type 0
+Keeps old new = (x : ℕ) (i : input.Input) → IsReadOf old x i → IsReadOf new x i

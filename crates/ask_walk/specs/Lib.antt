@@ -3,3 +3,4 @@ pub mod Begun
 pub mod Reads
 pub mod Recalcs
 pub mod Steps
+pub mod Turns

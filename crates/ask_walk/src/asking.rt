@@ -1,30 +1,32 @@
 // An ask: what it uses and has no current value is computed, by an explicit stack.
-ghost use Rattle.std.specs.Prelude.{◌≡◌, ◌≢◌, ◌⊎◌, ◌<◌, ◌^◌, true, false, length, None, Some, Ok, Err, IsOk, IfOk, IfSome, OnErr, slice_index_or, is_some};
-ghost use Rattle.std.specs.Option.{option_copied};
+ghost use Rattle.std.specs.Prelude.{◌≡◌, ◌≢◌, ◌⊎◌, ◌<◌, ◌^◌, true, false, length, None, Some, Ok, Err, IsOk, IfOk, OnErr, [], ◌∷◌, List, is_none, slice_index_or, is_some};
 ghost use Rattle.desk_terms.specs.declared.terms.Terms.{Terms};
-ghost use Rattle.desk_terms.specs.Bench.{counted};
+ghost use Rattle.desk_terms.specs.Bench.{counted, logged};
+ghost use Rattle.desk_terms.specs.Sums.{summed, composite_reading};
+ghost use Rattle.desk_terms.specs.declared.terms.Part.{Part};
+ghost use Rattle.desk_terms.specs.declared.value.Input.{Input};
 ghost use Rattle.desk_terms.specs.Reading.{IsWellFormed};
 ghost use Rattle.desk_model.specs.Market.{terms_at};
-ghost use Rattle.desk_model.specs.Links.{IsLinked, is_lazy_at, IsWhole};
+ghost use Rattle.desk_model.specs.Links.{is_lazy_at, IsWhole};
 ghost use Rattle.desk_model.specs.Uses.{reading_at};
 ghost use Rattle.desk_model.specs.State.{unpriced, held_outcome};
 ghost use Rattle.object_store.specs.declared.market.Market.{Market};
 ghost use Rattle.object_store.specs.Market.{market_in, state_in, state_after};
-ghost use Rattle.object_store.specs.Slots.{is_now, is_at_hand};
+ghost use Rattle.object_store.specs.Slots.{is_now};
 ghost use Rattle.object_store.specs.Store.{registry_of};
 ghost use Rattle.object_store.specs.Scratch.{IsEmpty};
 ghost use Rattle.object_store.specs.Shape.{IsJoined, role_at};
 ghost use Rattle.observer_graph.specs.declared.node.Role.TheVariants as role;
 ghost use Rattle.ask_walk.specs.Reads.{Remembers};
-ghost use Rattle.ask_walk.specs.Begun.{Begun};
-ghost use Rattle.ask_walk.specs.Steps.{NeedsFirst, Descends};
-ghost use Rattle.ask_walk.specs.Asks.{Asks, Walks, Stops, MayAsk, Stays, Computes, lacking, walk_mark, held_answer};
+ghost use Rattle.ask_walk.specs.Begun.{Keeps};
+ghost use Rattle.ask_walk.specs.Asks.{Asks, Walks, Stops, MayAsk, Stays, Computes, IsComputed, lacking, walk_mark, held_answer};
 
 use crate::books::Books;
-use crate::steps::{Step, next};
+use crate::turning::Turn;
 use crate::uses::index_named;
+use crate::waiting::{Begun, begin};
 use desk_names::ObjId;
-use desk_terms::{Asked, Bench, Cause, InputList, Job, Mark, Terms, Value};
+use desk_terms::{Asked, Bench, Cause, InputList, Job, Mark, Value};
 use object_store::{Market, Store};
 use std::alloc::{AllocError, Global};
 
@@ -94,7 +96,6 @@ impl Books {
         requires free { held_outcome (state_in market.now self.old.store) object ≡ None }
         requires stale { is_now self.old.store.kept object ≡ false }
         requires remembers { Remembers (market_in market.now) self.old.scratch.entries }
-        requires begun { Begun market.now.objects self.old.store.kept self.old.scratch.positions }
         requires joined { IsJoined (market_in market.now) self.old.store.shape }
         ensures same { B.calc bench.new ≡ B.calc bench.old }
         ensures walks { IfOk result (λ answer. Walks (B.calc bench.old) object (state_in market.now self.old.store) (state_after market.now self.old.store self.new.store) mark answer
@@ -106,27 +107,19 @@ impl Books {
         ensures shape { self.new.store.shape ≡ self.old.store.shape }
         ensures registry { registry_of self.new.store ≡ registry_of self.old.store }
         ensures remembers { Remembers (market_in market.now) self.new.scratch.entries }
-        ensures begun { Begun market.now.objects self.new.store.kept self.new.scratch.positions }
+        ensures keeps { Keeps self.old.store.kept self.new.store.kept }
     {
-        let alloc = self.scratch.alloc();
-        let mut waiting: Vec<ObjId> = Vec::new(alloc);
-        let mut top = descend(market, &self.store, object, &mut waiting)?;
+        let mut waiting: Vec<Begun> = Vec::new(self.scratch.alloc());
+        let mut top = begin(object);
         let mut runs: u64 = 0;
         loop {
-            match next(
-                market,
-                &self.store,
-                &mut self.scratch,
-                top,
-                &mut self.inputs,
-            )? {
-                Step::Stops(cause) => return Ok(answered(Some(cause), mark, runs)),
-                Step::First(needed) => {
+            match self.turn(market, &mut top, bench)? {
+                Turn::Stops(cause) => return Ok(answered(Some(cause), mark, runs)),
+                Turn::Waits(needed) => {
                     waiting.push(top)?;
-                    top = descend(market, &self.store, needed, &mut waiting)?;
+                    top = begin(needed);
                 }
-                Step::Ready => {
-                    let cause = compute(alloc, market, &mut self.store, top, &self.inputs, bench)?;
+                Turn::Ran(cause) => {
                     runs += 1;
                     if cause.is_some() {
                         return Ok(answered(cause, mark, runs));
@@ -156,50 +149,6 @@ fn last_answer(store: &Store, object: ObjId, mark: Mark) -> Asked
         Some(_) => answered(None, mark, 0),
         None => answered(Some(Cause::Unpriced(object)), mark, 0),
     }
-}
-
-// Goes down from an object by first members that have to be computed, each of which waits for the next; the last of them.
-#[inline(always)]
-fn descend(
-    market: &Market,
-    store: &Store,
-    object: ObjId,
-    waiting: &mut Vec<ObjId>,
-) -> Result<ObjId, AllocError>
-    requires linked { IsLinked (market_in market.now) }
-    ensures descends { IfOk result (λ low. Descends (market_in market.now) store.now.kept waiting.old.items object waiting.new.items low) }
-{
-    let mut top = object;
-    while let Some(needed) = first_needed(market, store, top) {
-        waiting.push(top)?;
-        top = needed;
-    }
-    Ok(top)
-}
-
-// The first member of a composite, where it has to be computed.
-#[inline(always)]
-fn first_needed(market: &Market, store: &Store, object: ObjId) -> Option<ObjId>
-    ensures { IfSome result (λ y. NeedsFirst (market_in market.now) store.now.kept object y) }
-{
-    match market.objects.terms(object) {
-        Some(Terms::Composite(parts)) => match parts.items() {
-            [part, ..] => unless_at_hand(store, part.member),
-            [] => None,
-        },
-        _ => None,
-    }
-}
-
-// An object that has to be computed; none where it is at hand.
-#[inline(always)]
-fn unless_at_hand(store: &Store, object: ObjId) -> Option<ObjId>
-    ensures { IfSome result (λ y. (y ≡ object) × (is_at_hand store.now.kept object ≡ false)) }
-{
-    if store.is_at_hand(object) {
-        return None;
-    }
-    Some(object)
 }
 
 /// One computation: the value is stored, or the cause is answered.
@@ -233,6 +182,36 @@ pub fn compute<'a, B: Bench>(
     match bench.price(alloc, &job) {
         Ok(value) => {
             store.keep(object, value);
+            Ok(None)
+        }
+        Err(fault) => match fault.cause() {
+            Some(cause) => Ok(Some(cause)),
+            None => Err(AllocError),
+        },
+    }
+}
+
+/// The price of a composite of this sum: it is stored, or the cause is answered.
+#[inline(always)]
+pub fn total<B: Bench>(
+    store: &mut Store,
+    object: ObjId,
+    units: i128,
+    bench: &mut B,
+) -> Result<Option<Cause>, AllocError>
+    requires role { role_at store.old.shape object ≡ Some role.Lazy }
+    ensures same { B.calc bench.new ≡ B.calc bench.old }
+    ensures computes { IfOk result (λ cause. (parts : List Part) (inputs : List Input) → IsWellFormed (composite_reading object parts inputs) → units ≡ summed parts inputs
+        → IsComputed (B.calc bench.old) (composite_reading object parts inputs) object store.old.kept store.new.kept cause) }
+    ensures count { IfOk result (λ cause. B.count bench.new ≡ counted (B.count bench.old) 1) }
+    ensures log { IfOk result (λ cause. B.log bench.new ≡ logged (B.log bench.old) ((object, is_none cause) ∷ [])) }
+    ensures err { OnErr result ((store.new.kept ≡ store.old.kept) × (B.count bench.new ≡ counted (B.count bench.old) 1) × (B.log bench.new ≡ B.log bench.old)) }
+    ensures shape { store.new.shape ≡ store.old.shape }
+    ensures registry { registry_of store.new ≡ registry_of store.old }
+{
+    match bench.price_sum(object, units) {
+        Ok(amount) => {
+            store.keep(object, Value::Money(amount));
             Ok(None)
         }
         Err(fault) => match fault.cause() {

@@ -10,7 +10,9 @@ mod reader;
 mod recalced;
 mod recalculating;
 mod steps;
+mod turning;
 mod uses;
+mod waiting;
 
 pub use books::Books;
 pub use recalced::Recalced;

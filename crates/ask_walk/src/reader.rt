@@ -32,7 +32,6 @@ pub fn read(market: &Market, scratch: &mut Scratch, object: ObjId) -> Result<Ent
     requires remembers { Remembers (market_in market.now) scratch.old.entries }
     ensures entry { IfOk result (λ entry. entry ≡ input_at (market_in market.now) object) }
     ensures remembers { Remembers (market_in market.now) scratch.new.entries }
-    ensures positions { scratch.new.positions ≡ scratch.old.positions }
 {
     let object = passed_to(&market.objects, object);
     match scratch.entry(object) {
@@ -77,7 +76,6 @@ fn read_through(market: &Market, scratch: &mut Scratch, object: ObjId) -> Result
     requires unread { recalled scratch.old.entries object ≡ None }
     ensures entry { IfOk result (λ entry. entry ≡ input_at (market_in market.now) object) }
     ensures remembers { Remembers (market_in market.now) scratch.new.entries }
-    ensures positions { scratch.new.positions ≡ scratch.old.positions }
 {
     let mut stack: Vec<ObjId> = Vec::new(scratch.alloc());
     stack.push(object)?;

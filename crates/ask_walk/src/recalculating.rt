@@ -4,16 +4,16 @@ ghost use Rattle.desk_model.specs.State.{is_late};
 ghost use Rattle.object_store.specs.Market.{market_in, state_in, state_after};
 ghost use Rattle.object_store.specs.Shape.{IsJoined, role_at};
 ghost use Rattle.ask_walk.specs.Reads.{Remembers};
-ghost use Rattle.ask_walk.specs.Begun.{Begun};
 ghost use Rattle.object_store.specs.Scratch.{IsEmpty};
 ghost use Rattle.object_store.specs.Store.{registry_of};
 ghost use Rattle.ask_walk.specs.Asks.{MayAsk, Stays};
 ghost use Rattle.ask_walk.specs.Recalcs.{Recalcs, RecalcEnds, RecalcStops, Reprices, refused_as};
 
-use crate::asking::{answered, compute};
+use crate::asking::answered;
 use crate::books::Books;
 use crate::recalced::Recalced;
-use crate::steps::{Step, next};
+use crate::turning::Turn;
+use crate::waiting::begin;
 use desk_names::ObjId;
 use desk_terms::{Asked, Bench, Mark};
 use object_store::{Market, Store};
@@ -60,7 +60,6 @@ impl Books {
         requires may { MayAsk (B.calc bench.old) (state_in market.now self.old.store) object }
         requires early { is_late (state_in market.now self.old.store) object ≡ false }
         requires remembers { Remembers (market_in market.now) self.old.scratch.entries }
-        requires begun { Begun market.now.objects self.old.store.kept self.old.scratch.positions }
         requires joined { IsJoined (market_in market.now) self.old.store.shape }
         ensures same { B.calc bench.new ≡ B.calc bench.old }
         ensures recalcs { IfOk result (λ answer. Recalcs (B.calc bench.old) object (state_in market.now self.old.store) (state_in market.now self.new.store) answer
@@ -69,7 +68,7 @@ impl Books {
             (B.count bench.old) (B.count bench.new) (B.log bench.old) (B.log bench.new)) }
         ensures stays { Stays (B.calc bench.old) (state_in market.now self.new.store) }
         ensures shape { self.new.store.shape ≡ self.old.store.shape }
-        ensures long { (length self.new.scratch.entries ≡ length market.now.objects) × (length self.new.scratch.positions ≡ length market.now.objects) }
+        ensures long { length self.new.scratch.entries ≡ length market.now.objects }
     {
         let answer = self.reprice(market, object, bench)?;
         outdate_refused(&mut self.store, object, answer.cause.is_some());
@@ -88,7 +87,6 @@ impl Books {
         requires may { MayAsk (B.calc bench.old) (state_in market.now self.old.store) object }
         requires early { is_late (state_in market.now self.old.store) object ≡ false }
         requires remembers { Remembers (market_in market.now) self.old.scratch.entries }
-        requires begun { Begun market.now.objects self.old.store.kept self.old.scratch.positions }
         requires joined { IsJoined (market_in market.now) self.old.store.shape }
         ensures same { B.calc bench.new ≡ B.calc bench.old }
         ensures reprices { IfOk result (λ answer. Reprices (B.calc bench.old) object (state_in market.now self.old.store) self.new.store.kept answer
@@ -98,31 +96,21 @@ impl Books {
         ensures stays { OnErr result (Stays (B.calc bench.old) (state_after market.now self.old.store self.new.store)) }
         ensures shape { self.new.store.shape ≡ self.old.store.shape }
         ensures registry { registry_of self.new.store ≡ registry_of self.old.store }
-        ensures long { (length self.new.scratch.entries ≡ length market.now.objects) × (length self.new.scratch.positions ≡ length market.now.objects) }
+        ensures long { length self.new.scratch.entries ≡ length market.now.objects }
     {
-        let alloc = self.scratch.alloc();
+        let mut top = begin(object);
         let mut runs: u64 = 0;
         loop {
-            match next(
-                market,
-                &self.store,
-                &mut self.scratch,
-                object,
-                &mut self.inputs,
-            )? {
-                Step::Stops(cause) => return Ok(answered(Some(cause), Mark::Recalc, runs)),
-                Step::First(needed) => {
+            match self.turn(market, &mut top, bench)? {
+                Turn::Stops(cause) => return Ok(answered(Some(cause), Mark::Recalc, runs)),
+                Turn::Waits(needed) => {
                     let answer = self.walk(market, needed, Mark::Recalc, bench)?;
                     runs += answer.runs;
                     if answer.cause.is_some() {
                         return Ok(answered(answer.cause, Mark::Recalc, runs));
                     }
                 }
-                Step::Ready => {
-                    let inputs = &self.inputs;
-                    let cause = compute(alloc, market, &mut self.store, object, inputs, bench)?;
-                    return Ok(answered(cause, Mark::Recalc, runs + 1));
-                }
+                Turn::Ran(cause) => return Ok(answered(cause, Mark::Recalc, runs + 1)),
             }
         }
     }

@@ -1,22 +1,29 @@
 // What an ask does next at an object.
-ghost use Rattle.std.specs.Prelude.{◌≡◌, true, ◌<◌, ◌≤◌, take, length, Some, None, Ok, Err, IfOk, OnOk, [], ◌∷◌, ◌++◌, slice_index_or};
+ghost use Rattle.std.specs.Prelude.{◌≡◌, ◌≢◌, ◌≤◌, ◌+◌, ◌*◌, ◌^◌, ◌+ℤ◌, ◌*ℤ◌, unsigned_abs, List, true, Some, IfOk, OnOk, [], ◌∷◌, ◌++◌};
 ghost use Rattle.desk_terms.specs.declared.value.Value.{Value};
-ghost use Rattle.desk_model.specs.Uses.{member_entries, uses};
+ghost use Rattle.desk_terms.specs.declared.terms.Terms.TheVariants.{Composite};
+ghost use Rattle.desk_terms.specs.declared.terms.Part.{Part};
+ghost use Rattle.desk_terms.specs.Parts.{ArePartsInRange};
+ghost use Rattle.desk_terms.specs.Sums.{money_in};
+ghost use Rattle.desk_model.specs.Market.{terms_at};
+ghost use Rattle.desk_model.specs.Uses.{uses};
 ghost use Rattle.desk_model.specs.Fresh.{input_of};
 ghost use Rattle.desk_model.specs.Next.{next_of};
 ghost use Rattle.desk_model.specs.Links.{IsLinked, IsKinded, is_lazy_at};
 ghost use Rattle.ask_walk.specs.Reads.{Remembers};
-ghost use Rattle.ask_walk.specs.Begun.{AreSettled, Begun};
-ghost use Rattle.ask_walk.specs.Steps.{next_with};
+ghost use Rattle.ask_walk.specs.Begun.{HasRead};
+ghost use Rattle.ask_walk.specs.Steps.{next_with, NextMember};
 ghost use Rattle.object_store.specs.Market.{market_in};
 ghost use Rattle.object_store.specs.Slots.{answer_of, answered, answered_of, is_at_hand};
 
 use crate::reader::read;
 use crate::uses::{flow_entries, helper_entries};
+use crate::waiting::Begun;
 use curve_points::copy_curve;
 use desk_model::Entry;
 use desk_names::ObjId;
 use desk_terms::{Cause, Input, InputList, Part, Terms, Value};
+use fixed_amount::Amount;
 use object_store::{Market, Scratch, Store};
 use std::alloc::{AllocError, Global};
 
@@ -59,69 +66,72 @@ fn answer(store: &Store, object: ObjId) -> Option<Result<&Value, Cause>>
     }
 }
 
-// What an ask does next at a composite of these parts, of which the first were read and are settled. It reads on from
-// there, and all of them once more when all are settled; where none was read yet, once.
+// What an ask does next at a composite of these parts, of which the first were read. It reads on behind them.
 #[inline(always)]
-fn next_member(
-    alloc: Global,
-    store: &Store,
-    parts: &[Part],
-    begun: &mut usize,
-    inputs: &mut InputList,
-) -> Result<Step, AllocError>
-    requires empty { inputs.old ≡ [] }
-    requires low { begun.old ≤ length parts.now }
-    requires settled { AreSettled store.now.kept (take begun.old parts.now) }
-    ensures next { IfOk result (λ step. next_with inputs.new step ≡ next_of (is_at_hand store.now.kept) (answer_of store.now.kept) (member_entries parts.now)) }
-    ensures low { begun.new ≤ length parts.now }
-    ensures settled { AreSettled store.now.kept (take begun.new parts.now) }
+pub fn next_member(store: &Store, parts: &[Part], begun: &mut Begun) -> Step
+    requires range { ArePartsInRange parts.now }
+    requires read { HasRead store.now.kept parts.now begun.old.read begun.old.sum }
+    ensures object { begun.new.object ≡ begun.old.object }
+    ensures next { NextMember store.now.kept parts.now begun.new.sum result }
+    ensures read { HasRead store.now.kept parts.now begun.new.read begun.new.sum }
 {
-    if *begun == 0 {
-        return all_members(alloc, store, parts, begun, inputs);
-    }
-    while *begun < parts.len() {
-        let part = &parts[*begun];
-        match answer(store, part.member) {
-            Some(outcome) => match outcome {
-                Ok(_) => *begun += 1,
-                Err(cause) => return Ok(Step::Stops(cause)),
-            },
-            None => return Ok(Step::First(part.member)),
-        }
-    }
-    all_members(alloc, store, parts, begun, inputs)
-}
-
-// What an ask does next at a composite of these parts, all of which it reads, up to the first that has to be computed.
-#[inline(always)]
-fn all_members(
-    alloc: Global,
-    store: &Store,
-    parts: &[Part],
-    begun: &mut usize,
-    inputs: &mut InputList,
-) -> Result<Step, AllocError>
-    requires empty { inputs.old ≡ [] }
-    requires low { begun.old ≤ length parts.now }
-    requires settled { AreSettled store.now.kept (take begun.old parts.now) }
-    ensures next { IfOk result (λ step. next_with inputs.new step ≡ next_of (is_at_hand store.now.kept) (answer_of store.now.kept) (member_entries parts.now)) }
-    ensures low { begun.new ≤ length parts.now }
-    ensures settled { AreSettled store.now.kept (take begun.new parts.now) }
-{
-    for at in 0..parts.len() {
+    let mut sum = begun.sum;
+    for at in begun.read..parts.len() {
         let part = &parts[at];
         match answer(store, part.member) {
             Some(outcome) => match outcome {
-                Ok(value) => push_value(alloc, value, inputs)?,
-                Err(cause) => return Ok(Step::Stops(cause)),
+                Ok(value) => sum = sum_with(sum, part.weight, value),
+                Err(cause) => {
+                    begun.read = at;
+                    begun.sum = sum;
+                    return Step::Stops(cause);
+                }
             },
             None => {
-                *begun = at;
-                return Ok(Step::First(part.member));
+                begun.read = at;
+                begun.sum = sum;
+                return Step::First(part.member);
             }
         }
     }
-    Ok(Step::Ready)
+    begun.read = parts.len();
+    begun.sum = sum;
+    Step::Ready
+}
+
+// A sum and a weight times the value of a member, which is nothing where it is no money.
+#[inline(always)]
+fn sum_with(sum: i128, weight: i64, value: &Value) -> i128
+    requires sum { unsigned_abs sum ≤ 4096 * 10 ^ 32 }
+    requires weight { unsigned_abs weight ≤ 1_000_000 }
+    ensures value { result ≡ sum +ℤ (weight *ℤ money_in (input_of value.now)) }
+    ensures bound { unsigned_abs result ≤ unsigned_abs sum + 10 ^ 32 }
+{
+    match value {
+        Value::Money(amount) => sum_of(sum, times(weight, *amount)),
+        Value::Curve(_) => sum,
+    }
+}
+
+// A weight times an amount.
+#[inline(always)]
+fn times(weight: i64, amount: Amount) -> i128
+    requires { unsigned_abs weight ≤ 1_000_000 }
+    ensures value { result ≡ weight *ℤ amount }
+    ensures bound { unsigned_abs result ≤ 10 ^ 32 }
+{
+    weight as i128 * amount.0
+}
+
+// A sum of products, and one product more. At most 4,096 of them are summed: 4.1 * 10^35 of the 1.7 * 10^38 that 128 bits hold.
+#[inline(always)]
+fn sum_of(sum: i128, product: i128) -> i128
+    requires sum { unsigned_abs sum ≤ 4096 * 10 ^ 32 }
+    requires product { unsigned_abs product ≤ 10 ^ 32 }
+    ensures value { result ≡ sum +ℤ product }
+    ensures bound { unsigned_abs result ≤ unsigned_abs sum + 10 ^ 32 }
+{
+    sum + product
 }
 
 // What an ask does next where a price takes these entries.
@@ -150,7 +160,7 @@ fn next_entries(
     Ok(Step::Ready)
 }
 
-/// What an ask does next at a lazy object. The inputs are those that its price takes, where it is ready.
+/// What an ask does next at a lazy object that is no composite. The inputs are those that its price takes, where it is ready.
 #[inline(always)]
 pub fn next(
     market: &Market,
@@ -163,9 +173,8 @@ pub fn next(
     requires kinds { IsKinded (market_in market.now) }
     requires linked { IsLinked (market_in market.now) }
     requires remembers { Remembers (market_in market.now) scratch.old.entries }
-    requires begun { Begun market.now.objects store.now.kept scratch.old.positions }
+    requires single { (parts : List Part) → terms_at (market_in market.now) object ≢ Some (Composite parts) }
     ensures remembers { Remembers (market_in market.now) scratch.new.entries }
-    ensures begun { Begun market.now.objects store.now.kept scratch.new.positions }
     ensures next { IfOk result (λ step. next_with inputs.new step ≡ next_of (is_at_hand store.now.kept) (answer_of store.now.kept) (uses (market_in market.now) object)) }
 {
     inputs.truncate(0);
@@ -174,16 +183,6 @@ pub fn next(
         Terms::Stock { quote } => {
             let entry = read(market, scratch, *quote)?;
             next_entries(alloc, store, &[entry], inputs)
-        }
-        Terms::Composite(parts) => {
-            let was = scratch.position(object);
-            let mut at = was;
-            let step = next_member(alloc, store, parts.items(), &mut at, inputs)?;
-            if at == was {
-                return Ok(step);
-            }
-            scratch.advance(object, at)?;
-            Ok(step)
         }
         Terms::Implied { curve, .. } => {
             let entry = read(market, scratch, *curve)?;
@@ -198,7 +197,8 @@ pub fn next(
             let entries = flow_entries(market, scratch, object, flows, *engine)?;
             next_entries(alloc, store, &entries, inputs)
         }
-        Terms::Quote(_)
+        Terms::Composite(_)
+        | Terms::Quote(_)
         | Terms::Derived { .. }
         | Terms::Handle { .. }
         | Terms::Index(..)

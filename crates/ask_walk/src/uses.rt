@@ -30,7 +30,6 @@ pub fn helper_entries(
     requires remembers { Remembers (market_in market.now) scratch.old.entries }
     ensures entries { IfOk result (λ entries. entries.items ≡ helper_entries (input_at (market_in market.now)) helpers.now) }
     ensures remembers { Remembers (market_in market.now) scratch.new.entries }
-    ensures positions { scratch.new.positions ≡ scratch.old.positions }
 {
     let _cause: Option<Cause> = None;
     let mut entries: Vec<Entry> = Vec::new(scratch.alloc());
@@ -56,7 +55,6 @@ pub fn flow_entries(
     requires remembers { Remembers (market_in market.now) scratch.old.entries }
     ensures entries { IfOk result (λ entries. entries.items ≡ uses (market_in market.now) object) }
     ensures remembers { Remembers (market_in market.now) scratch.new.entries }
-    ensures positions { scratch.new.positions ≡ scratch.old.positions }
 {
     let mut entries: Vec<Entry> = Vec::new(scratch.alloc());
     if expired(flows, market.today) {

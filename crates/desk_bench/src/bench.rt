@@ -3,9 +3,10 @@ ghost use Rattle.std.specs.Prelude.{◌≡◌, []};
 ghost use Rattle.desk_terms.specs.Bench.{Answers, counted};
 ghost use Rattle.desk_terms.specs.Reading.{reading_of, IsWellFormed};
 
-use crate::pricing::price_of;
+use crate::pricing::{price_of, sum_answer};
 use desk_names::ObjId;
 use desk_terms::{Bench, BenchFault, Job, Value};
+use fixed_amount::Amount;
 use std::alloc::{AllocError, Global};
 
 /// Prices by the rules of this project, and counts its calls.
@@ -24,7 +25,10 @@ impl DeskBench {
 }
 
 impl Bench for DeskBench {
-    ghost use Rattle.std.specs.Prelude.{None};
+    ghost use Rattle.std.specs.Prelude.{None, List};
+    ghost use Rattle.desk_terms.specs.declared.terms.Part.{Part};
+    ghost use Rattle.desk_terms.specs.declared.value.Input.{Input};
+    ghost use Rattle.desk_terms.specs.Sums.{summed, composite_reading, money_answer};
     ghost use Rattle.desk_bench.specs.Pricing.{desk_calc, MayWant, WantsOnly};
     ghost use Rattle.desk_bench.specs.Fits.{desk_fits};
 
@@ -46,6 +50,18 @@ impl Bench for DeskBench {
     {
         self.calls = next_count(self.calls);
         price_of(alloc, job)
+    }
+
+    // The trait's clauses for this bench, which wants no memory for it.
+    #[inline(always)]
+    fn price_sum(&mut self, object: ObjId, units: i128) -> Result<Amount, BenchFault>
+        ensures answer { (parts : List Part) (inputs : List Input) → IsWellFormed (composite_reading object parts inputs) → units ≡ summed parts inputs
+            → Answers (desk_calc (composite_reading object parts inputs)) (money_answer result) }
+        ensures count { self.new.calls ≡ counted self.old.calls 1 }
+        ensures memory { WantsOnly ⊥ (money_answer result) }
+    {
+        self.calls = next_count(self.calls);
+        sum_answer(object, units)
     }
 }
 
@@ -100,7 +116,10 @@ impl ListBench {
 }
 
 impl Bench for ListBench {
-    ghost use Rattle.std.specs.Prelude.{Some, ◌<◌, ◌≤◌, vec_len, vec_capacity};
+    ghost use Rattle.std.specs.Prelude.{Some, List, ◌<◌, ◌≤◌, vec_len, vec_capacity};
+    ghost use Rattle.desk_terms.specs.declared.terms.Part.{Part};
+    ghost use Rattle.desk_terms.specs.declared.value.Input.{Input};
+    ghost use Rattle.desk_terms.specs.Sums.{summed, composite_reading, money_answer};
     ghost use Rattle.desk_terms.specs.Bench.{entries_of, logged};
     ghost use Rattle.desk_bench.specs.Pricing.{desk_calc, MayWant, WantsOnly};
     ghost use Rattle.desk_bench.specs.Log.{pairs_of};
@@ -132,6 +151,29 @@ impl Bench for ListBench {
             }
             Err(BenchFault::Refused(cause)) => {
                 self.log.push(entry(job.object, false))?;
+                Err(BenchFault::Refused(cause))
+            }
+            Err(BenchFault::NoMemory) => Err(BenchFault::NoMemory),
+        }
+    }
+
+    // The trait's clauses for this bench, and where it may want memory: where the log has no room.
+    fn price_sum(&mut self, object: ObjId, units: i128) -> Result<Amount, BenchFault>
+        ensures answer { (parts : List Part) (inputs : List Input) → IsWellFormed (composite_reading object parts inputs) → units ≡ summed parts inputs
+            → Answers (desk_calc (composite_reading object parts inputs)) (money_answer result) }
+        ensures count { self.new.calls ≡ counted self.old.calls 1 }
+        ensures log { Some (pairs_of self.new.log.items) ≡ logged (Some (pairs_of self.old.log.items)) (entries_of object (money_answer result)) }
+        ensures memory { vec_len self.old.log < vec_capacity self.old.log → WantsOnly ⊥ (money_answer result) }
+        ensures room { vec_capacity self.old.log ≤ vec_capacity self.new.log }
+    {
+        self.calls = next_count(self.calls);
+        match sum_answer(object, units) {
+            Ok(amount) => {
+                self.log.push(entry(object, true))?;
+                Ok(amount)
+            }
+            Err(BenchFault::Refused(cause)) => {
+                self.log.push(entry(object, false))?;
                 Err(BenchFault::Refused(cause))
             }
             Err(BenchFault::NoMemory) => Err(BenchFault::NoMemory),

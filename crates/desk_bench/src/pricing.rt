@@ -3,11 +3,15 @@ ghost use Rattle.std.specs.Prelude.{◌≡◌};
 ghost use Rattle.desk_terms.specs.Bench.{Answers};
 ghost use Rattle.desk_terms.specs.Reading.{reading_of, IsWellFormed};
 ghost use Rattle.desk_bench.specs.Pricing.{priced_answer, desk_calc, MayWant, WantsOnly};
+ghost use Rattle.desk_terms.specs.Sums.{money_answer};
+ghost use Rattle.discount_engines.specs.Money.{money_of};
 ghost use Rattle.discount_engines.specs.Price.{instrument_price};
 
 use crate::curves::{curve_price, implied_price};
+use desk_names::ObjId;
 use desk_terms::{BenchFault, Job, Terms, Value};
-use discount_engines::{PriceFault, price};
+use discount_engines::{PriceFault, price, sum_price};
+use fixed_amount::Amount;
 use std::alloc::Global;
 
 /// The price of a job. An instrument's takes no memory.
@@ -29,6 +33,18 @@ pub fn price_of(alloc: Global, job: &Job<'_>) -> Result<Value, BenchFault>
         | Terms::Handle { .. }
         | Terms::Index(..)
         | Terms::Engine { .. } => instrument_price(alloc, job),
+    }
+}
+
+// The price of a composite of this sum.
+#[inline(always)]
+pub fn sum_answer(object: ObjId, units: i128) -> Result<Amount, BenchFault>
+    ensures price { Answers (money_of object units) (money_answer result) }
+    ensures memory { WantsOnly ⊥ (money_answer result) }
+{
+    match sum_price(object, units) {
+        Ok(amount) => Ok(amount),
+        Err(cause) => Err(BenchFault::Refused(cause)),
     }
 }
 

@@ -1,3 +1,4 @@
 pub mod Products
+pub mod Summed
 pub mod Sums
 pub mod WorthLemmas

@@ -1,6 +1,6 @@
 // The price of a composite.
 ghost use Rattle.std.specs.Prelude.{◌≡◌, ◌≤◌, ◌^◌, ◌*ℤ◌, length, IfSome, unsigned_abs};
-ghost use Rattle.discount_engines.specs.Money.{as_money};
+ghost use Rattle.discount_engines.specs.Money.{as_money, money_of};
 ghost use Rattle.discount_engines.specs.Composite.{product, weighted, composite_price};
 
 use crate::money::{money_of, sum_of};
@@ -13,6 +13,15 @@ const MOST_WEIGHT: i64 = 1_000_000;
 
 // The most parts of a composite.
 const MOST_PARTS: usize = 4096;
+
+/// The price of a composite whose weights times its members' values sum to these units of 10^-6: within 10^24 units either
+/// way, else `TooLarge` of the object.
+#[inline(always)]
+pub fn sum_price(object: ObjId, units: i128) -> Result<Amount, Cause>
+    ensures { as_money result ≡ money_of object units }
+{
+    money_of(object, units)
+}
 
 /// The price of a composite.
 #[inline(always)]

@@ -10,6 +10,7 @@ use fixed_amount::Amount;
 const MOST_UNITS: i128 = 1_000_000_000_000_000_000_000_000;
 
 /// Money in the limits, or the refusal.
+#[inline(always)]
 pub(crate) fn money_of(object: ObjId, units: i128) -> Result<Amount, Cause>
     ensures { as_money result ≡ money_of object units }
 {

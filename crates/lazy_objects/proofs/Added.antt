@@ -50,9 +50,9 @@ module _ (today : ℤ) (slots : List Slot) (old middle : StoreView) (joined : Is
     spared_more room = joined_added today slots slots2 terms middle new spared_joined spared_long adds room is
 
 -- room in the scratch changes nothing of what stands
-pub reserved_stands : (s : State) (old new : ScratchView) → Stands s old → new.entries ≡ old.entries → new.positions ≡ old.positions
+pub reserved_stands : (s : State) (old new : ScratchView) → Stands s old → new.entries ≡ old.entries
     → new.touched ≡ old.touched → Stands s new
-reserved_stands s old new stands entries positions touched = record {
+reserved_stands s old new stands entries touched = record {
   whole = stands.whole;
   sources = stands.sources;
   kinds = stands.kinds;
@@ -60,9 +60,7 @@ reserved_stands s old new stands entries positions touched = record {
   limit = stands.limit;
   empty = record {
     entries = λ x. ap (λ l. slice_index_or l x None) entries ∙ stands.empty.entries x;
-    positions = λ x. ap (λ l. slice_index_or l x 0) positions ∙ stands.empty.positions x;
     long = ap length entries ∙ stands.empty.long;
-    as_long = ap length positions ∙ stands.empty.as_long;
     touched = touched ∙ stands.empty.touched;
   };
 }

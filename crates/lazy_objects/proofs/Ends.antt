@@ -33,15 +33,13 @@ use Rattle.object_store.proofs.Joined.{past_nothing}
 use Rattle.object_store.proofs.Registered.{same_registry, adds_registered}
 use Rattle.object_store.proofs.Touched.{pushed_default}
 
-pub empty_none : (scratch : ScratchView) → scratch.entries ≡ [] → scratch.positions ≡ [] → scratch.touched ≡ [] → IsEmpty 0 scratch
-empty_none scratch entries positions touched = record { entries = λ x. ap (λ l. slice_index_or l x None) entries; positions = λ x. ap (λ l. slice_index_or l x 0) positions; long = ap length entries; as_long = ap length positions; touched = touched }
+pub empty_none : (scratch : ScratchView) → scratch.entries ≡ [] → scratch.touched ≡ [] → IsEmpty 0 scratch
+empty_none scratch entries touched = record { entries = λ x. ap (λ l. slice_index_or l x None) entries; long = ap length entries; touched = touched }
 
-pub empty_grown : (n : ℕ) (old new : ScratchView) → IsEmpty n old → new.entries ≡ old.entries ++ None ∷ [] → new.positions ≡ old.positions ++ 0 ∷ [] → new.touched ≡ old.touched → IsEmpty (n + 1) new
-empty_grown n old new empty entries positions touched = record {
+pub empty_grown : (n : ℕ) (old new : ScratchView) → IsEmpty n old → new.entries ≡ old.entries ++ None ∷ [] → new.touched ≡ old.touched → IsEmpty (n + 1) new
+empty_grown n old new empty entries touched = record {
   entries = λ x. ap (λ l. slice_index_or l x None) entries ∙ pushed_default old.entries None x ∙ empty.entries x;
-  positions = λ x. ap (λ l. slice_index_or l x 0) positions ∙ pushed_default old.positions 0 x ∙ empty.positions x;
   long = ap length entries ∙ length-append old.entries (None ∷ []) ∙ ap (λ (k : ℕ). k + 1) empty.long;
-  as_long = ap length positions ∙ length-append old.positions (0 ∷ []) ∙ ap (λ (k : ℕ). k + 1) empty.as_long;
   touched = touched ∙ empty.touched;
 }
 

@@ -26,24 +26,13 @@ among_split x y (z ∷ xs) (inr more) = elim (among_split x y xs more) [ inl the
 within_more : (t : List ℕ) (o n : ℕ) → ((x : ℕ) → Among x t → x < n) → o < n → (x : ℕ) → Among x (t ++ o ∷ []) → x < n
 within_more t o n low here x among = elim (among_split x o t among) [ inl there ↦ low x there | inr same ↦ subst (λ (y : ℕ). y < n) (sym same) here ]
 
-pub touched_entry : (e : List (Option Entry)) (p t : List ℕ) (o : ℕ) (entry : Entry) → AreTouched e p t → o < length e → AreTouched (slice_set e o (Some entry)) p (t ++ o ∷ [])
-touched_entry e p t o entry a within = record {
+pub touched_entry : (e : List (Option Entry)) (t : List ℕ) (o : ℕ) (entry : Entry) → AreTouched e t → o < length e → AreTouched (slice_set e o (Some entry)) (t ++ o ∷ [])
+touched_entry e t o entry a within = record {
   entry = λ x there. elim (cases_eq x o) [
     | inl same ↦ among_last x o t same
     | inr other ↦ among_front x t (o ∷ []) (a.entry x (λ none. there (get_or-set_other e o x (Some entry) None other ∙ none)))
   ];
-  position = λ x there. among_front x t (o ∷ []) (a.position x there);
   within = λ x among. subst (λ (n : ℕ). x < n) (sym (length-set e o (Some entry))) (within_more t o (length e) a.within within x among);
-}
-
-pub touched_position : (e : List (Option Entry)) (p t : List ℕ) (o position : ℕ) → AreTouched e p t → o < length e → AreTouched e (slice_set p o position) (t ++ o ∷ [])
-touched_position e p t o position a within = record {
-  entry = λ x there. among_front x t (o ∷ []) (a.entry x there);
-  position = λ x there. elim (cases_eq x o) [
-    | inl same ↦ among_last x o t same
-    | inr other ↦ among_front x t (o ∷ []) (a.position x (λ none. there (get_or-set_other p o x position 0 other ∙ none)))
-  ];
-  within = λ x among. within_more t o (length e) a.within within x among;
 }
 
 rest_of : (x o : ℕ) (rest : List ℕ) → x ≢ o → Among x (o ∷ rest) → Among x rest
@@ -51,15 +40,11 @@ rest_of x o rest other (inl same) = absurd (other same)
 rest_of x o rest other (inr more) = more
 
 -- one of them is cleared
-pub cleared : (e : List (Option Entry)) (p rest : List ℕ) (o : ℕ) → AreTouched e p (o ∷ rest) → length p ≡ length e → AreTouched (slice_set e o None) (slice_set p o 0) rest
-cleared e p rest o a same = record {
+pub cleared : (e : List (Option Entry)) (rest : List ℕ) (o : ℕ) → AreTouched e (o ∷ rest) → AreTouched (slice_set e o None) rest
+cleared e rest o a = record {
   entry = λ x there. elim (cases_eq x o) [
     | inl here ↦ absurd (there (ap (λ (n : ℕ). slice_index_or (slice_set e o None) n None) here ∙ get_or-set_same e o None None (a.within o (inl refl))))
     | inr other ↦ rest_of x o rest other (a.entry x (λ none. there (get_or-set_other e o x None None other ∙ none)))
-  ];
-  position = λ x there. elim (cases_eq x o) [
-    | inl here ↦ absurd (there (ap (λ (n : ℕ). slice_index_or (slice_set p o 0) n 0) here ∙ get_or-set_same p o 0 0 (let w = a.within o (inl refl) in omega arith)))
-    | inr other ↦ rest_of x o rest other (a.position x (λ none. there (get_or-set_other p o x 0 0 other ∙ none)))
   ];
   within = λ x among. subst (λ (n : ℕ). x < n) (sym (length-set e o None)) (a.within x (inr among));
 }
@@ -68,19 +53,12 @@ none_from : (entry : Option Entry) → (entry ≢ None → ⊥) → entry ≡ No
 none_from None not = refl
 none_from (Some entry) not = absurd (not (λ e. absurd (cc)))
 
-zero_from : (n : ℕ) → (n ≢ 0 → ⊥) → n ≡ 0
-zero_from n not = elim (cases_eq n 0) [ inl is ↦ is | inr other ↦ absurd (not other) ]
+pub nothing_left : (e : List (Option Entry)) → AreTouched e [] → (x : ℕ) → slice_index_or e x None ≡ None
+nothing_left e a x = none_from (slice_index_or e x None) (λ there. a.entry x there)
 
-pub nothing_left : (e : List (Option Entry)) (p : List ℕ) → AreTouched e p [] → (x : ℕ) → slice_index_or e x None ≡ None
-nothing_left e p a x = none_from (slice_index_or e x None) (λ there. a.entry x there)
-
-pub nowhere_left : (e : List (Option Entry)) (p : List ℕ) → AreTouched e p [] → (x : ℕ) → slice_index_or p x 0 ≡ 0
-nowhere_left e p a x = zero_from (slice_index_or p x 0) (λ there. a.position x there)
-
-pub touched_none : (e : List (Option Entry)) (p : List ℕ) → ((x : ℕ) → slice_index_or e x None ≡ None) → ((x : ℕ) → slice_index_or p x 0 ≡ 0) → AreTouched e p []
-touched_none e p entries positions = record {
+pub touched_none : (e : List (Option Entry)) → ((x : ℕ) → slice_index_or e x None ≡ None) → AreTouched e []
+touched_none e entries = record {
   entry = λ x there. absurd (there (entries x));
-  position = λ x there. absurd (there (positions x));
   within = λ x among. absurd among;
 }
 
@@ -91,10 +69,9 @@ pushed_default [] d (suc i) = refl
 pushed_default (x ∷ xs) d zero = refl
 pushed_default (x ∷ xs) d (suc i) = pushed_default xs d i
 
-pub touched_grown : (e : List (Option Entry)) (p t : List ℕ) → AreTouched e p t → AreTouched (e ++ None ∷ []) (p ++ 0 ∷ []) t
-touched_grown e p t a = record {
+pub touched_grown : (e : List (Option Entry)) (t : List ℕ) → AreTouched e t → AreTouched (e ++ None ∷ []) t
+touched_grown e t a = record {
   entry = λ x there. a.entry x (λ none. there (pushed_default e None x ∙ none));
-  position = λ x there. a.position x (λ none. there (pushed_default p 0 x ∙ none));
   within = λ x among. let w = a.within x among in let l = length-append e (None ∷ []) in omega arith;
 }
 

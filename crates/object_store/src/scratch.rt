@@ -10,41 +10,37 @@ use fixed_amount::Rate;
 use std::alloc::{AllocError, Global};
 use std::marker::Model;
 
-/// What quotes give, as far as it was worked out, and how far the members of composites were read.
+/// What quotes give, as far as it was worked out.
 #[derive(Drop)]
 pub struct Scratch {
     entries: Vec<Option<Entry>>,
-    positions: Vec<usize>,
     touched: Vec<ObjId>,
     alloc: Global,
 }
 
 impl Model for Scratch {
     ghost use Rattle.object_store.specs.Scratch.{ScratchView, AreTouched};
-    ghost use Rattle.std.specs.Prelude.{◌≡◌, ◌-◌, length, min, vec_capacity};
+    ghost use Rattle.std.specs.Prelude.{◌-◌, length, vec_capacity};
 
     ghost Value = { ScratchView };
 
     ghost view = { λ s. record {
       entries = s.entries.items;
-      positions = s.positions.items;
       touched = s.touched.items;
-      spare = min (vec_capacity s.entries) (vec_capacity s.positions) - length s.entries.items;
+      spare = vec_capacity s.entries - length s.entries.items;
     } };
 
-    ghost invariant = { λ s. AreTouched s.entries.items s.positions.items s.touched.items × (length s.positions.items ≡ length s.entries.items) };
+    ghost invariant = { λ s. AreTouched s.entries.items s.touched.items };
 }
 
 impl Scratch {
     /// Nothing is remembered, of no object.
     pub fn new(alloc: Global) -> Scratch
         ensures entries { result.entries ≡ [] }
-        ensures positions { result.positions ≡ [] }
         ensures touched { result.touched ≡ [] }
     {
         Scratch {
             entries: Vec::new(alloc),
-            positions: Vec::new(alloc),
             touched: Vec::new(alloc),
             alloc,
         }
@@ -59,13 +55,11 @@ impl Scratch {
     pub fn reserve(&mut self) -> Result<(), AllocError>
         ensures ok { OnOk result (0 < self.new.spare) }
         ensures entries { self.new.entries ≡ self.old.entries }
-        ensures positions { self.new.positions ≡ self.old.positions }
         ensures touched { self.new.touched ≡ self.old.touched }
     {
         let _rate: Option<Rate> = None;
         let _cause: Option<Cause> = None;
         self.entries.reserve(1)?;
-        self.positions.reserve(1)?;
         Ok(())
     }
 
@@ -73,13 +67,11 @@ impl Scratch {
     pub fn grow(&mut self)
         requires { 0 < self.old.spare }
         ensures entries { self.new.entries ≡ self.old.entries ++ None ∷ [] }
-        ensures positions { self.new.positions ≡ self.old.positions ++ 0 ∷ [] }
         ensures touched { self.new.touched ≡ self.old.touched }
     {
         let _rate: Option<Rate> = None;
         let _cause: Option<Cause> = None;
         self.entries.push_reserved(None);
-        self.positions.push_reserved(0);
     }
 
     /// What is remembered of an object.
@@ -97,7 +89,6 @@ impl Scratch {
     pub fn remember(&mut self, object: ObjId, entry: Entry) -> Result<(), AllocError>
         requires { object < length self.old.entries }
         ensures entries { OnOk result (self.new.entries ≡ slice_set self.old.entries object (Some entry)) }
-        ensures positions { self.new.positions ≡ self.old.positions }
         ensures err { OnErr result (self.new.entries ≡ self.old.entries) }
     {
         self.touched.push(object)?;
@@ -105,58 +96,32 @@ impl Scratch {
         Ok(())
     }
 
-    /// How many members of a composite were read and have a current value.
-    pub fn position(&self, object: ObjId) -> usize
-        requires { object < length self.now.positions }
-        ensures { result ≡ slice_index_or self.now.positions object 0 }
-    {
-        self.positions[object.place()]
-    }
-
-    /// So many members of a composite were read.
-    pub fn advance(&mut self, object: ObjId, position: usize) -> Result<(), AllocError>
-        requires { object < length self.old.positions }
-        ensures positions { OnOk result (self.new.positions ≡ slice_set self.old.positions object position) }
-        ensures entries { self.new.entries ≡ self.old.entries }
-        ensures err { OnErr result (self.new.positions ≡ self.old.positions) }
-    {
-        self.touched.push(object)?;
-        self.positions[object.place()] = position;
-        Ok(())
-    }
-
     /// Nothing is remembered of any object. It costs what was touched.
     pub fn clear(&mut self)
         ensures { AreClear self.old self.new }
     {
-        clear_all(&mut self.entries, &mut self.positions, &self.touched);
+        clear_all(&mut self.entries, &self.touched);
         self.touched.clear();
     }
 }
 
 // Nothing is remembered of these objects.
-fn clear_all(entries: &mut [Option<Entry>], positions: &mut [usize], touched: &[ObjId])
-    requires within { AreTouched entries.old positions.old touched.now }
-    requires same { length positions.old ≡ length entries.old }
+fn clear_all(entries: &mut [Option<Entry>], touched: &[ObjId])
+    requires within { AreTouched entries.old touched.now }
     ensures entries { (x : ℕ) → slice_index_or entries.new x None ≡ None }
-    ensures positions { (x : ℕ) → slice_index_or positions.new x 0 ≡ 0 }
     ensures long { length entries.new ≡ length entries.old }
-    ensures as_long { length positions.new ≡ length positions.old }
 {
     for at in 0..touched.len() {
-        clear_one(entries, positions, touched[at]);
+        clear_one(entries, touched[at]);
     }
 }
 
 // Nothing is remembered of an object.
-fn clear_one(entries: &mut [Option<Entry>], positions: &mut [usize], object: ObjId)
-    requires entry { object < length entries.old }
-    requires position { object < length positions.old }
-    ensures entries { entries.new ≡ slice_set entries.old object None }
-    ensures positions { positions.new ≡ slice_set positions.old object 0 }
+fn clear_one(entries: &mut [Option<Entry>], object: ObjId)
+    requires { object < length entries.old }
+    ensures { entries.new ≡ slice_set entries.old object None }
 {
     let _rate: Option<Rate> = None;
     let _cause: Option<Cause> = None;
     entries[object.place()] = None;
-    positions[object.place()] = 0;
 }

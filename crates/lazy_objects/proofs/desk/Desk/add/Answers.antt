@@ -41,12 +41,11 @@ pub invariant_of-self-2 : goal.invariant_of-self-2
 invariant_of-self-2 c =
     let s = state_in c.self.inside.market c.self.inside.books.store in
     let adds = subst (λ (l : List ℕ). AddsObject (node_role (role_of (Some c.args.terms))) l c.make_room.new.store c.add.new.store) (c.deref.ensures.value ∙ c.in_ok-watched.ensures) c.in_ok-add.ensures.added in
-    let entries = c.grow.ensures.entries ∙ ap (λ (l : List (Option Entry)). l ++ None ∷ []) c.in_ok-reserve.ensures.entries in
-    let positions = c.grow.ensures.positions ∙ ap (λ (l : List ℕ). l ++ 0 ∷ []) c.in_ok-reserve.ensures.positions in (
+    let entries = c.grow.ensures.entries ∙ ap (λ (l : List (Option Entry)). l ++ None ∷ []) c.in_ok-reserve.ensures.entries in (
       subst (λ (t : State). Stands t c.grow.new.self) (sym (spared_added c.self.inside.market.today c.self.inside.market.objects c.self.inside.books.store c.make_room.new.store c.self.invariant.1 c.self.invariant.0.whole.length c.in_ok-make_room.ensures.spares c.make_room.ensures.more
           c.add.new.self c.args.terms c.add.new.store adds c.in_ok-add.ensures.made))
           (add_stands s c.self.inside.books.scratch c.grow.new.self c.args.terms c.self.invariant.0 c.requires.ranged (subst (λ (t : State). AreOfKind t.market (Some c.args.terms)) (sym c.self.view_is) c.requires.kinds)
-          (subst (λ (t : State). length t.market.objects < 2 ^ 16) (sym c.self.view_is) c.requires.room) (empty_grown (length s.market.objects) c.self.inside.books.scratch c.grow.new.self c.self.invariant.0.empty entries positions (c.grow.ensures.touched ∙ c.in_ok-reserve.ensures.touched))),
+          (subst (λ (t : State). length t.market.objects < 2 ^ 16) (sym c.self.view_is) c.requires.room) (empty_grown (length s.market.objects) c.self.inside.books.scratch c.grow.new.self c.self.invariant.0.empty entries (c.grow.ensures.touched ∙ c.in_ok-reserve.ensures.touched))),
       spared_more c.self.inside.market.today c.self.inside.market.objects c.self.inside.books.store c.make_room.new.store c.self.invariant.1 c.self.invariant.0.whole.length c.in_ok-make_room.ensures.spares c.make_room.ensures.more
           c.add.new.self c.args.terms c.add.new.store adds c.in_ok-add.ensures.made
           (c.in_ok-make_room.ensures.room (vacancies c.self.inside.market.objects) c.self.invariant.1.room (subst (λ (n : ℕ). vacancies c.self.inside.market.objects ≤ n) (sym c.len-2.ensures) (few_vacancies c.self.inside.market.objects))),
@@ -82,7 +81,7 @@ invariant_of-self-in_err-add c =
     c.add.new.self c.add.new.store c.in_err-add.ensures.same c.in_err-add.ensures.unstored in
     let joined = spared_left c.self.inside.market.today c.self.inside.market.objects c.self.inside.books.store c.make_room.new.store c.self.invariant.1 c.self.invariant.0.whole.length c.in_ok-make_room.ensures.spares c.make_room.ensures.more
     c.add.new.self c.add.new.store c.in_err-add.ensures.same c.in_err-add.ensures.unstored in (
-      subst (λ (t : State). Stands t c.reserve.new.self) (sym same) (reserved_stands s c.self.inside.books.scratch c.reserve.new.self c.self.invariant.0 c.in_ok-reserve.ensures.entries c.in_ok-reserve.ensures.positions c.in_ok-reserve.ensures.touched),
+      subst (λ (t : State). Stands t c.reserve.new.self) (sym same) (reserved_stands s c.self.inside.books.scratch c.reserve.new.self c.self.invariant.0 c.in_ok-reserve.ensures.entries c.in_ok-reserve.ensures.touched),
       joined,
     )
 

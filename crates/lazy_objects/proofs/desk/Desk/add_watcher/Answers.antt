@@ -17,11 +17,10 @@ use Rattle.lazy_objects.proofs.desk.Desk.add_watcher.Goals as goal
 pub invariant_of-self-2 : goal.invariant_of-self-2
 invariant_of-self-2 c =
     let s = state_in c.self.inside.market c.self.inside.books.store in
-    let entries = c.grow.ensures.entries ∙ ap (λ (l : List (Option Entry)). l ++ None ∷ []) c.in_ok-reserve.ensures.entries in
-    let positions = c.grow.ensures.positions ∙ ap (λ (l : List ℕ). l ++ 0 ∷ []) c.in_ok-reserve.ensures.positions in (
+    let entries = c.grow.ensures.entries ∙ ap (λ (l : List (Option Entry)). l ++ None ∷ []) c.in_ok-reserve.ensures.entries in (
       subst (λ (t : State). Stands t c.grow.new.self) (sym (watching_state c.self.inside.market.today c.self.inside.market.objects c.add_watcher.new.self c.self.inside.books.store c.add_watcher.new.store c.self.invariant.1 c.self.invariant.0.whole.length c.in_ok-add_watcher.ensures.made c.in_ok-add_watcher.ensures.added))
           (watcher_stands s c.self.inside.books.scratch c.grow.new.self c.self.invariant.0 (subst (λ (t : State). length t.market.objects < 2 ^ 16) (sym c.self.view_is) c.requires.room)
-          (empty_grown (length s.market.objects) c.self.inside.books.scratch c.grow.new.self c.self.invariant.0.empty entries positions (c.grow.ensures.touched ∙ c.in_ok-reserve.ensures.touched))),
+          (empty_grown (length s.market.objects) c.self.inside.books.scratch c.grow.new.self c.self.invariant.0.empty entries (c.grow.ensures.touched ∙ c.in_ok-reserve.ensures.touched))),
       joined_watcher c.self.inside.market.today c.self.inside.market.objects c.add_watcher.new.self c.self.inside.books.store c.add_watcher.new.store c.self.invariant.1 c.self.invariant.0.whole.length
           c.in_ok-add_watcher.ensures.added c.in_ok-add_watcher.ensures.made,
     )

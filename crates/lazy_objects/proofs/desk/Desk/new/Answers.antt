@@ -18,10 +18,9 @@ invariant_of-result c =
     let slots = c.in_ok-objects.ensures in
     let registry = start_registry c.new-store.result c.add.new.self c.new-store.ensures.kept c.new-store.ensures.switch c.new-store.ensures.roles c.new-store.ensures.subjects c.new-store.ensures.told c.in_ok-add.ensures.added in
     let kept = c.in_ok-add.ensures.added.kept ∙ ap (λ (l : List Kept). l ++ unpriced ∷ []) c.new-store.ensures.kept in
-    let entries = c.grow.ensures.entries ∙ ap (λ (l : List (Option Entry)). l ++ None ∷ []) c.in_ok-reserve.ensures.entries in
-    let positions = c.grow.ensures.positions ∙ ap (λ (l : List ℕ). l ++ 0 ∷ []) c.in_ok-reserve.ensures.positions in (
+    let entries = c.grow.ensures.entries ∙ ap (λ (l : List (Option Entry)). l ++ None ∷ []) c.in_ok-reserve.ensures.entries in (
       subst (λ (t : State). Stands t c.grow.new.self) (sym (start_state c.args.today c.in_ok-objects.objects c.add.new.self.kept (registry_of c.add.new.self) slots kept registry))
-          (started c.args.today c.grow.new.self (empty_grown 0 c.new-scratch.result c.grow.new.self (empty_none c.new-scratch.result c.new-scratch.ensures.entries c.new-scratch.ensures.positions c.new-scratch.ensures.touched) entries positions (c.grow.ensures.touched ∙ c.in_ok-reserve.ensures.touched))),
+          (started c.args.today c.grow.new.self (empty_grown 0 c.new-scratch.result c.grow.new.self (empty_none c.new-scratch.result c.new-scratch.ensures.entries c.new-scratch.ensures.touched) entries (c.grow.ensures.touched ∙ c.in_ok-reserve.ensures.touched))),
       subst (λ (l : List Slot). IsJoined (market_of c.args.today l) c.add.new.self.shape) (sym slots)
           (joined_start c.args.today c.new-store.result c.add.new.self c.new-store.ensures.kept c.new-store.ensures.roles c.new-store.ensures.subjects c.in_ok-add.ensures.added),
     )

@@ -31,6 +31,15 @@ pub if_some_of : (found : Option ℕ) (P : Type 0) → P → IfSome found (λ o.
 if_some_of None P is = tt
 if_some_of (Some node) P is = is
 
+-- what is so of the one that may be found
+pub if_that : (found : Option ℕ) (one : ℕ) (P : ℕ → Type 0) → IfSome found (λ o. o ≡ one) → P one → IfSome found P
+if_that None one P same is = tt
+if_that (Some node) one P same is = subst P (sym same) is
+
+pub if_then : (found : Option ℕ) (P Q : ℕ → Type 0) → ((o : ℕ) → P o → Q o) → IfSome found P → IfSome found Q
+if_then None P Q follows is = tt
+if_then (Some node) P Q follows is = follows node is
+
 -- what is so of a worklist from which one was popped, if one waited
 pub popped_end : (found : Option ℕ) (w1 w2 : WaveView)
     → MatchOption found (w1.waiting ≡ []) (λ o. w1.waiting ≡ o ∷ w2.waiting) → IfNone found (w2 ≡ w1)
@@ -68,6 +77,10 @@ carrying_load n None w1 w2 same end load is =
     let a = ap (λ (w : WaveView). open_count w.marks + length w.waiting) end.0 in omega arith
 carrying_load n (Some node) w1 w2 same end load is =
     let a = ap (λ (m : List Bool). open_count m) same in omega arith
+
+pub carrying_marks : (carried : Option ℕ) (w : WaveView) → (carrying carried w).marks ≡ w.marks
+carrying_marks None w = refl
+carrying_marks (Some node) w = refl
 
 pub carrying_none : (carried : Option ℕ) (w : WaveView) → carried ≡ None → carrying carried w ≡ w
 carrying_none carried w none = ap (λ (c : Option ℕ). carrying c w) none

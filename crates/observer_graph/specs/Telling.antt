@@ -1,12 +1,17 @@
 -- A notice on its way.
-use Rattle.std.specs.Prelude.{◌≡◌, ◌⊎◌, ℕ, Bool, true, List, Option, None, slice_index_or}
+use Rattle.std.specs.Prelude.{◌≡◌, ◌⊎◌, ◌↔◌, IfSome, ℕ, Bool, true, List, Option, None, slice_index_or}
 use Rattle.walks.specs.Walk.{Among}
-use Rattle.edge_lists.specs.EdgesView.{EdgesView, IsPair, subject_lists}
+use Rattle.edge_lists.specs.EdgesView.{EdgesView, HasSubject, IsPair, observers_from, subject_lists}
 use Rattle.wave_queue.specs.Thread.{WaveView, is_marked}
 use Rattle.observer_graph.specs.declared.node.Node.{Node}
 use Rattle.observer_graph.specs.GraphView.{IsWatcher}
 use Rattle.observer_graph.specs.Notice.{IsTold, passes_of, unsettled}
 use Rattle.observer_graph.specs.Walks.{graph_of}
+
+-- Found is the first pair by which a node is observed, if there is one: the walk from it gives whoever observes the node.
+pub record IsFirstPair (edges : EdgesView) (node : ℕ) (found : Option ℕ) : Type 0 where
+  pub given : (o : ℕ) → Among o (observers_from edges found) ↔ IsPair edges node o
+  pub of : IfSome found (λ edge. HasSubject edges edge node)
 
 -- A node was looked at: it is not current, it is remembered if it is a watcher, and it is marked if it passes the notice on
 -- to someone.

@@ -1,5 +1,5 @@
 // Whom a notice reaches: a worklist that is filled until no node waits, and what becomes of them.
-ghost use Rattle.std.specs.Prelude.{◌≡◌, ◌↔◌, ◌⊎◌, ◌<◌, ◌≤◌, ◌+◌, ℕ, Bool, List, [], Option, IfNone, IfSome, vec_capacity, length, true, false, None, Some, slice_index_or};
+ghost use Rattle.std.specs.Prelude.{◌≡◌, ◌↔◌, ◌⊎◌, ◌<◌, ◌≤◌, ◌+◌, ℕ, Bool, List, [], Option, IfNone, IfSome, is_some, vec_capacity, length, true, None, Some, slice_index_or};
 ghost use Rattle.walks.specs.Walk.{Among};
 ghost use Rattle.edge_lists.specs.EdgesView.{IsPair, IsWhole, subject_lists};
 ghost use Rattle.wave_queue.specs.Thread.{is_marked};
@@ -9,7 +9,7 @@ ghost use Rattle.observer_graph.specs.Notice.{IsTold, passes_as, passes_of, unse
 ghost use Rattle.observer_graph.specs.GraphView.{IsWatcher};
 ghost use Rattle.observer_graph.specs.Noticed.{AreNoticed, IsRising, with_number};
 ghost use Rattle.observer_graph.specs.Puts.{Puts, carrying};
-ghost use Rattle.observer_graph.specs.Telling.{IsDone, Spreads};
+ghost use Rattle.observer_graph.specs.Telling.{IsDone, IsFirstPair, Spreads};
 ghost use Rattle.observer_graph.specs.Turns.{IsFree, IsMarkedBelow};
 ghost use Rattle.observer_graph.specs.Walks.{graph_of};
 
@@ -75,7 +75,9 @@ fn tell_first(
     ensures len { length wave.new.marks ≡ length wave.old.marks }
 {
     for at in 0..sources.len() {
-        tell_observers(edges, sources.get(at), false, nodes, wave, noticed);
+        let source = sources.get(at);
+        let mut first = edges.first_observer(source);
+        tell_observers(edges, source, &mut first, false, nodes, wave, noticed);
     }
 }
 
@@ -103,16 +105,25 @@ fn pass_on(
     ensures capacity { vec_capacity noticed.old ≤ vec_capacity noticed.new }
     ensures len { length wave.new.marks ≡ length wave.old.marks }
 {
-    let mut next = next_of(None, wave);
+    let mut first: Option<EdgeId> = None;
+    let mut next = next_of(edges, None, &mut first, wave);
     while let Some(told) = next {
-        let carried = tell_observers(edges, told, true, nodes, wave, noticed);
-        next = next_of(carried, wave);
+        let carried = tell_observers(edges, told, &mut first, true, nodes, wave, noticed);
+        next = next_of(edges, carried, &mut first, wave);
     }
 }
 
-// The node that is carried, or else the first that waits.
-fn next_of(carried: Option<ObjId>, wave: &mut Wave) -> Option<ObjId>
-    requires { IfSome carried (λ o. is_marked (carrying carried wave.old).marks o ≡ true) }
+// The node that is carried, or else the first that waits, and the first of its pairs.
+fn next_of(
+    edges: &Edges,
+    carried: Option<ObjId>,
+    first: &mut Option<EdgeId>,
+    wave: &mut Wave,
+) -> Option<ObjId>
+    requires marked { IfSome carried (λ o. is_marked (carrying carried wave.old).marks o ≡ true) }
+    requires below { IsMarkedBelow (length edges.now.nodes) wave.old }
+    requires first { IfSome carried (λ o. IsFirstPair edges.now o first.old) }
+    ensures first { IfSome result (λ o. IsFirstPair edges.now o first.new) }
     ensures end { IfNone result ((carrying carried wave.old ≡ wave.new) × (wave.new.waiting ≡ [])) }
     ensures marks { wave.new.marks ≡ (carrying carried wave.old).marks }
     ensures marked { IfSome result (λ o. is_marked wave.new.marks o ≡ true) }
@@ -122,7 +133,22 @@ fn next_of(carried: Option<ObjId>, wave: &mut Wave) -> Option<ObjId>
 {
     match carried {
         Some(node) => Some(node),
-        None => wave.pop(),
+        None => aim(edges, wave.pop(), first),
+    }
+}
+
+// A node that waited, and the first of its pairs.
+fn aim(edges: &Edges, popped: Option<ObjId>, first: &mut Option<EdgeId>) -> Option<ObjId>
+    requires { IfSome popped (λ o. o < length edges.now.nodes) }
+    ensures same { result ≡ popped }
+    ensures first { IfSome popped (λ o. IsFirstPair edges.now o first.new) }
+{
+    match popped {
+        Some(node) => {
+            *first = edges.first_observer(node);
+            Some(node)
+        }
+        None => None,
     }
 }
 
@@ -131,6 +157,7 @@ fn next_of(carried: Option<ObjId>, wave: &mut Wave) -> Option<ObjId>
 fn tell_observers(
     edges: &Edges,
     from: ObjId,
+    first: &mut Option<EdgeId>,
     carries: bool,
     nodes: &mut [Option<Node>],
     wave: &mut Wave,
@@ -138,7 +165,7 @@ fn tell_observers(
 ) -> Option<ObjId>
     requires whole { IsWhole edges.now }
     requires nodes { length nodes.old ≡ length edges.now.nodes }
-    requires from { from < length edges.now.nodes }
+    requires first { IsFirstPair edges.now from first.old }
     requires wave { length nodes.old ≤ length wave.old.marks }
     requires noticed { AreNoticed noticed.old.items (length nodes.old) }
     requires room { length nodes.old ≤ vec_capacity noticed.old }
@@ -153,15 +180,16 @@ fn tell_observers(
     ensures puts { Puts wave.old (carrying result wave.new) (λ o. IsPair edges.now from o) }
     ensures carried { IfSome result (λ o. carries ≡ true) }
     ensures marked { IfSome result (λ o. is_marked (carrying result wave.new).marks o ≡ true) }
+    ensures first { IfSome result (λ o. IsFirstPair edges.now o first.new) }
     ensures noticed { AreNoticed noticed.new.items (length nodes.old) }
     ensures capacity { vec_capacity noticed.old ≤ vec_capacity noticed.new }
 {
     let mut carried: Option<ObjId> = None;
-    let mut at = edges.first_observer(from);
+    let mut at = *first;
     while let Some(edge) = at {
         let (observer, next) = edges.observer_and_next(edge);
         let is_last = ends_walk(carries, &next);
-        carried = tell_one(edges, observer, is_last, nodes, wave, noticed);
+        carried = tell_one(edges, observer, is_last, first, nodes, wave, noticed);
         at = next;
     }
     carried
@@ -181,6 +209,7 @@ fn tell_one(
     edges: &Edges,
     told: ObjId,
     is_last: bool,
+    first: &mut Option<EdgeId>,
     nodes: &mut [Option<Node>],
     wave: &mut Wave,
     noticed: &mut Vec<ObjId>,
@@ -202,11 +231,12 @@ fn tell_one(
     ensures puts { Puts wave.old (carrying result wave.new) (λ o. o ≡ told) }
     ensures carried { IfSome result (λ o. is_last ≡ true) }
     ensures marked { IfSome result (λ o. is_marked (carrying result wave.new).marks o ≡ true) }
+    ensures first { IfSome result (λ o. IsFirstPair edges.now o first.new) }
     ensures noticed { AreNoticed noticed.new.items (length nodes.old) }
     ensures capacity { vec_capacity noticed.old ≤ vec_capacity noticed.new }
 {
     let goes_on = take_notice(&mut nodes[told.place()], told, noticed);
-    put_passing(edges, goes_on, told, is_last, wave)
+    put_passing(edges, goes_on, told, is_last, first, wave)
 }
 
 // A node that passes the notice on to someone, and is not marked, is carried if it is the last one, and else waits.
@@ -215,6 +245,7 @@ fn put_passing(
     goes_on: bool,
     told: ObjId,
     is_last: bool,
+    first: &mut Option<EdgeId>,
     wave: &mut Wave,
 ) -> Option<ObjId>
     requires told { told < length edges.now.nodes }
@@ -224,11 +255,14 @@ fn put_passing(
         → (is_marked (carrying result wave.new).marks told ≡ true) ⊎ ((p : ℕ) → IsPair edges.now told p → ⊥) }
     ensures carried { IfSome result (λ o. is_last ≡ true) }
     ensures marked { IfSome result (λ o. is_marked (carrying result wave.new).marks o ≡ true) }
+    ensures first { IfSome result (λ o. IsFirstPair edges.now o first.new) }
 {
-    if passes_to_some(edges, goes_on, told) {
-        carry_or_put(told, is_last, wave)
-    } else {
-        None
+    match first_passed(edges, goes_on, told) {
+        Some(edge) => {
+            *first = Some(edge);
+            carry_or_put(told, is_last, wave)
+        }
+        None => None,
     }
 }
 
@@ -239,6 +273,7 @@ fn carry_or_put(told: ObjId, is_last: bool, wave: &mut Wave) -> Option<ObjId>
     ensures done { is_marked (carrying result wave.new).marks told ≡ true }
     ensures carried { IfSome result (λ o. is_last ≡ true) }
     ensures marked { IfSome result (λ o. is_marked (carrying result wave.new).marks o ≡ true) }
+    ensures same { IfSome result (λ o. o ≡ told) }
 {
     if is_last {
         carry(told, wave)
@@ -254,20 +289,22 @@ fn carry(told: ObjId, wave: &mut Wave) -> Option<ObjId>
     ensures puts { Puts wave.old (carrying result wave.new) (λ o. o ≡ told) }
     ensures done { is_marked (carrying result wave.new).marks told ≡ true }
     ensures marked { IfSome result (λ o. is_marked (carrying result wave.new).marks o ≡ true) }
+    ensures same { IfSome result (λ o. o ≡ told) }
 {
     if wave.mark(told) { Some(told) } else { None }
 }
 
-// Whether a node that is told passes the notice on, and someone observes it.
-fn passes_to_some(edges: &Edges, goes_on: bool, told: ObjId) -> bool
+// The first pair by which a node that is told passes the notice on, if it does and someone observes it.
+fn first_passed(edges: &Edges, goes_on: bool, told: ObjId) -> Option<EdgeId>
     requires { told < length edges.now.nodes }
-    ensures some { result ≡ true → goes_on ≡ true }
-    ensures none { result ≡ false → goes_on ≡ true → (o : ℕ) → IsPair edges.now told o → ⊥ }
+    ensures some { is_some result ≡ true → goes_on ≡ true }
+    ensures first { is_some result ≡ true → IsFirstPair edges.now told result }
+    ensures none { result ≡ None → goes_on ≡ true → (o : ℕ) → IsPair edges.now told o → ⊥ }
 {
     if goes_on {
-        edges.first_observer(told).is_some()
+        edges.first_observer(told)
     } else {
-        false
+        None
     }
 }
 
@@ -286,7 +323,7 @@ fn take_notice(node: &mut Option<Node>, told: ObjId, noticed: &mut Vec<ObjId>) -
         None => false,
         Some(live) => {
             if takes_flags(live.role) {
-                let goes_on = passes_lazy(live.flags);
+                let goes_on = passes_lazy(&live.flags);
                 live.flags.current = false;
                 goes_on
             } else {
@@ -322,14 +359,14 @@ fn passes(live: &Node) -> bool
     match live.role {
         Role::Source => false,
         Role::Forwarder => true,
-        Role::Lazy => passes_lazy(live.flags),
+        Role::Lazy => passes_lazy(&live.flags),
         Role::Watcher => false,
     }
 }
 
 // Whether a lazy node that is told passes the notice on.
-fn passes_lazy(flags: Flags) -> bool
-    ensures { result ≡ passes_as Lazy flags }
+fn passes_lazy(flags: &Flags) -> bool
+    ensures { result ≡ passes_as Lazy flags.now }
 {
     !flags.frozen && (flags.current || flags.forward)
 }

@@ -4,7 +4,8 @@ use Rattle.edge_lists.proofs.Linking.{live_within}
 use Rattle.wave_queue.specs.Thread.{WaveView, is_marked, open_count}
 use Rattle.observer_graph.specs.Noticed.{AreNoticed}
 use Rattle.observer_graph.specs.Puts.{carrying}
-use Rattle.observer_graph.proofs.Filling.{carrying_load, one_or_none}
+use Rattle.observer_graph.specs.Telling.{IsFirstPair}
+use Rattle.observer_graph.proofs.Filling.{carrying_load, carrying_marks, one_or_none}
 use Rattle.observer_graph.proofs.Spreading.{done_popped, spreads_as, spreads_next, told_on}
 use Rattle.observer_graph.proofs.walk.pass_on.Goals as goal
 
@@ -22,6 +23,7 @@ loop-next-init c = record {
   spreads = λ first noted s. spreads_next c.args.edges.now c.args.sources.now.marks first noted c.args.nodes.now
       c.args.wave.now c.next_of-next.new.wave c.next_of-next.result c.args.noticed.now.items c.next_of-next.ensures.end
       c.next_of-next.ensures.taken c.next_of-next.ensures.marks s;
+  first = c.next_of-next.ensures.first;
   marked = c.next_of-next.ensures.marked;
   end = if_none c.next_of-next.result c.args.wave.now c.next_of-next.new.wave c.next_of-next.ensures.end;
   noticed = c.requires.noticed;
@@ -31,9 +33,9 @@ loop-next-init c = record {
 pub tell_observers-carried-requires-clause-nodes : goal.tell_observers-carried-requires-clause-nodes
 tell_observers-carried-requires-clause-nodes c = let long = c.loop-next.auto.nodes in let n = c.requires.nodes in omega arith
 
-pub tell_observers-carried-requires-clause-from : goal.tell_observers-carried-requires-clause-from
-tell_observers-carried-requires-clause-from c = c.loop-next.invariant.below c.in-Some.told
-    (subst (λ (n : Option ℕ). IfSome n (λ o. is_marked c.loop-next.wave.marks o ≡ true)) c.in-Some.is c.loop-next.invariant.marked)
+pub tell_observers-carried-requires-clause-first : goal.tell_observers-carried-requires-clause-first
+tell_observers-carried-requires-clause-first c =
+    subst (λ (n : Option ℕ). IfSome n (λ o. IsFirstPair c.args.edges.now o c.loop-next.first)) c.in-Some.is c.loop-next.invariant.first
 
 pub tell_observers-carried-requires-clause-wave : goal.tell_observers-carried-requires-clause-wave
 tell_observers-carried-requires-clause-wave c = let long = c.loop-next.auto.nodes in let w = c.requires.wave in
@@ -48,8 +50,15 @@ pub tell_observers-carried-requires-clause-room : goal.tell_observers-carried-re
 tell_observers-carried-requires-clause-room c = let long = c.loop-next.auto.nodes in let r = c.requires.room in
     let m = c.loop-next.invariant.capacity in omega arith
 
-pub next_of-next-requires-in-Some : goal.next_of-next-requires-in-Some
-next_of-next-requires-in-Some c = c.tell_observers-carried.ensures.marked
+pub next_of-next-requires-in-Some-clause-marked : goal.next_of-next-requires-in-Some-clause-marked
+next_of-next-requires-in-Some-clause-marked c = c.tell_observers-carried.ensures.marked
+
+pub next_of-next-requires-in-Some-clause-below : goal.next_of-next-requires-in-Some-clause-below
+next_of-next-requires-in-Some-clause-below c = λ o is. elim (c.tell_observers-carried.ensures.puts.from o
+    (ap (λ (m : List Bool). is_marked m o) (carrying_marks c.tell_observers-carried.result c.tell_observers-carried.new.wave) ∙ is)) [
+      | inl was ↦ c.loop-next.invariant.below o was
+      | inr pair ↦ live_within c.args.edges.now.nodes o (c.requires.whole.ends c.in-Some.told o pair).1
+    ]
 
 pub loop-next-preserved : goal.loop-next-preserved
 loop-next-preserved c =
@@ -79,6 +88,7 @@ loop-next-preserved c =
           (λ x o pair is. inr (some_same (sym is ∙ c.in-Some.is))) s)
           (λ o pair. told_on v c.requires.whole first c.args.sources.now.marks c.in-Some.told o pair
           (s.told c.in-Some.told on).1 (s.told c.in-Some.told on).0)).0;
+      first = c.next_of-next-in-Some.ensures.first;
       marked = c.next_of-next-in-Some.ensures.marked;
       end = if_none c.next_of-next-in-Some.result behind c.next_of-next-in-Some.new.wave c.next_of-next-in-Some.ensures.end;
       noticed = subst (λ (n : ℕ). AreNoticed c.tell_observers-carried.new.noticed.items n) same

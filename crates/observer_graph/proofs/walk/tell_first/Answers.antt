@@ -33,13 +33,16 @@ loop-at-init c = record {
 pub tell_observers-requires-clause-nodes : goal.tell_observers-requires-clause-nodes
 tell_observers-requires-clause-nodes c = let long = c.loop-at.auto.nodes in let n = c.requires.nodes in omega arith
 
-pub tell_observers-requires-clause-from : goal.tell_observers-requires-clause-from
-tell_observers-requires-clause-from c =
-    let here = among_item c.args.sources.now.items c.loop-at.at c.get.result
-    (slice_get_within c.args.sources.now.items c.loop-at.at c.get.result c.get.ensures)
-    (sym (get_or_from_slice_get c.args.sources.now.items c.loop-at.at c.get.result c.get.result c.get.ensures)) in
-    let low = marked_within c.args.sources.now.marks c.get.result (c.len-at-end.ensures.set.marked c.get.result here) in
+pub first_observer-first-requires : goal.first_observer-first-requires
+first_observer-first-requires c =
+    let here = among_item c.args.sources.now.items c.loop-at.at c.get-source.result
+    (slice_get_within c.args.sources.now.items c.loop-at.at c.get-source.result c.get-source.ensures)
+    (sym (get_or_from_slice_get c.args.sources.now.items c.loop-at.at c.get-source.result c.get-source.result c.get-source.ensures)) in
+    let low = marked_within c.args.sources.now.marks c.get-source.result (c.len-at-end.ensures.set.marked c.get-source.result here) in
     let s = c.requires.sources in omega arith
+
+pub tell_observers-requires-clause-first : goal.tell_observers-requires-clause-first
+tell_observers-requires-clause-first c = record { given = c.first_observer-first.ensures.given; of = c.first_observer-first.ensures.of }
 
 pub tell_observers-requires-clause-wave : goal.tell_observers-requires-clause-wave
 tell_observers-requires-clause-wave c = let long = c.loop-at.auto.nodes in let n = c.requires.nodes in
@@ -58,29 +61,29 @@ pub loop-at-preserved : goal.loop-at-preserved
 loop-at-preserved c =
     let v = c.args.edges.now in
     let items : List ℕ = c.args.sources.now.items in
-    let low = slice_get_within items c.loop-at.at c.get.result c.get.ensures in
-    let is = sym (get_or_from_slice_get items c.loop-at.at c.get.result c.get.result c.get.ensures) in
-    let here = c.len-at-end.ensures.set.marked c.get.result (among_item items c.loop-at.at c.get.result low is) in
-    let taken = take_more items c.loop-at.at c.get.result low ∙ ap (λ (z : ℕ). take c.loop-at.at items ++ z ∷ []) (sym is) in
+    let low = slice_get_within items c.loop-at.at c.get-source.result c.get-source.ensures in
+    let is = sym (get_or_from_slice_get items c.loop-at.at c.get-source.result c.get-source.result c.get-source.ensures) in
+    let here = c.len-at-end.ensures.set.marked c.get-source.result (among_item items c.loop-at.at c.get-source.result low is) in
+    let taken = take_more items c.loop-at.at c.get-source.result low ∙ ap (λ (z : ℕ). take c.loop-at.at items ++ z ∷ []) (sym is) in
     let same : length c.loop-at.nodes ≡ length c.args.nodes.now = let long = c.loop-at.auto.nodes in omega arith in
     let plain = carrying_none c.tell_observers.result c.tell_observers.new.wave
     (never_carried c.tell_observers.result false c.tell_observers.ensures.carried refl) in
-    let puts = subst (λ (w : WaveView). Puts c.loop-at.wave w (λ o. IsPair v c.get.result o)) plain
+    let puts = subst (λ (w : WaveView). Puts c.loop-at.wave w (λ o. IsPair v c.get-source.result o)) plain
     c.tell_observers.ensures.puts in
     let told = c.tell_observers.ensures.spreads c.args.sources.now.marks c.args.nodes.now c.args.noticed.now.items
-    (spreads_as v c.args.sources.now.marks c.args.nodes.now c.args.noticed.now.items (λ x o. ⊥) (λ x o. x ≡ c.get.result)
+    (spreads_as v c.args.sources.now.marks c.args.nodes.now c.args.noticed.now.items (λ x o. ⊥) (λ x o. x ≡ c.get-source.result)
     c.loop-at.nodes c.loop-at.wave c.loop-at.noticed.items (λ x o pair never. absurd never) c.loop-at.invariant.spreads)
-    (λ o pair. told_first v c.requires.whole c.args.nodes.now c.args.sources.now.marks c.get.result o pair here) in
+    (λ o pair. told_first v c.requires.whole c.args.nodes.now c.args.sources.now.marks c.get-source.result o pair here) in
     record {
       len = puts.len ∙ c.loop-at.invariant.len;
       below = λ o on. elim (puts.from o on) [
         | inl was ↦ c.loop-at.invariant.below o was
-        | inr pair ↦ live_within v.nodes o (c.requires.whole.ends c.get.result o pair).1
+        | inr pair ↦ live_within v.nodes o (c.requires.whole.ends c.get-source.result o pair).1
       ];
       spreads = subst (λ (w : WaveView). Spreads v c.args.sources.now.marks c.args.nodes.now c.args.noticed.now.items
           (λ x o. ⊥) c.tell_observers.new.nodes w c.tell_observers.new.noticed.items) plain told.0;
       starts = λ x o a pair. subst (λ (w : WaveView). IsDone v c.args.nodes.now c.tell_observers.new.nodes w
-          c.tell_observers.new.noticed.items o) plain (elim ((among_last x (take c.loop-at.at items) c.get.result).0 (subst (Among x) taken a)) [
+          c.tell_observers.new.noticed.items o) plain (elim ((among_last x (take c.loop-at.at items) c.get-source.result).0 (subst (Among x) taken a)) [
             | inl was ↦ c.tell_observers.ensures.stays c.args.nodes.now o (c.loop-at.invariant.starts x o was pair)
             | inr is ↦ told.1 o (subst (λ (z : ℕ). IsPair v z o) is pair)
           ]);

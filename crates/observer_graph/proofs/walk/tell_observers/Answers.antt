@@ -14,21 +14,22 @@ use Rattle.observer_graph.proofs.walk.tell_observers.Goals as goal
 
 pub loop-at-init : goal.loop-at-init
 loop-at-init c = record {
-  of = c.first_observer-at.ensures.of;
-  ahead = λ o a. (c.first_observer-at.ensures.given o).0 a;
+  of = c.requires.first.of;
+  ahead = λ o a. (c.requires.first.given o).0 a;
   carried = tt;
+  first = tt;
   marked = tt;
   puts = puts_none c.args.wave.now (λ o. IsPair c.args.edges.now c.args.from o);
   stays = λ first o d. d;
   spreads = λ sources first noted s told. (
     spreads_as c.args.edges.now sources first noted (λ x o. x ≡ c.args.from)
-        (λ x o. (x ≡ c.args.from) × Among o (observers_from c.args.edges.now c.first_observer-at.result)) c.args.nodes.now
+        (λ x o. (x ≡ c.args.from) × Among o (observers_from c.args.edges.now c.args.first.now)) c.args.nodes.now
         c.args.wave.now c.args.noticed.now.items (λ x o pair same. inr (
           same,
-          (c.first_observer-at.ensures.given o).1
+          (c.requires.first.given o).1
               (subst (λ (z : ℕ). IsPair c.args.edges.now z o) same pair),
         )) s,
-    λ o pair. inr ((c.first_observer-at.ensures.given o).1 pair),
+    λ o pair. inr ((c.requires.first.given o).1 pair),
   );
   noticed = c.requires.noticed;
   capacity = omega arith;
@@ -89,6 +90,7 @@ loop-at-preserved c =
       ahead = λ o a. c.loop-at.invariant.ahead o (subst (λ (xs : List ℕ). Among o xs) (sym step) (inr a));
       carried = last_alone c.tell_one-carried.result c.ends_walk-is_last.result c.args.carries
           c.observer_and_next-observer.result.1 c.tell_one-carried.ensures.carried c.ends_walk-is_last.ensures;
+      first = c.tell_one-carried.ensures.first;
       marked = c.tell_one-carried.ensures.marked;
       puts = puts_then c.args.wave.now c.loop-at.wave after (λ o. IsPair v c.args.from o) (λ o. o ≡ observer)
           (λ o is. subst (λ (z : ℕ). IsPair v c.args.from z) (sym is) pair)

@@ -7,7 +7,7 @@ use Rattle.observer_graph.specs.declared.node.Node.{Node}
 use Rattle.observer_graph.specs.Notice.{IsTold}
 use Rattle.observer_graph.specs.Noticed.{AreNoticed}
 use Rattle.observer_graph.specs.Puts.{Puts, carrying}
-use Rattle.observer_graph.specs.Telling.{IsDone, Spreads}
+use Rattle.observer_graph.specs.Telling.{IsDone, IsFirstPair, Spreads}
 use Rattle.observer_graph.specs.Walks.{graph_of}
 use Rattle.observer_graph.proofs.walk.tell_observers.Given as goal
 
@@ -16,6 +16,7 @@ invariant-loop-at l = record {
   of : IfSome l.at (λ edge. HasSubject l.edges edge l.fn.from);
   ahead : (o : ℕ) → Among o (observers_from l.edges l.at) → IsPair l.edges l.fn.from o;
   carried : IfSome l.carried (λ o. (l.fn.carries ≡ true) × (l.at ≡ None));
+  first : IfSome l.carried (λ o. IsFirstPair l.edges o l.first);
   marked : IfSome l.carried (λ o. is_marked (carrying l.carried l.wave).marks o ≡ true);
   puts : Puts l.initial.wave (carrying l.carried l.wave) (λ o. IsPair l.edges l.fn.from o);
   stays : (first : List (Option Node)) (o : ℕ) → IsDone l.edges first l.initial.nodes l.initial.wave l.initial.noticed.items o

@@ -24,9 +24,9 @@ ghost use Rattle.ask_walk.specs.Asks.{Asks, Walks, Stops, MayAsk, Stays, Compute
 use crate::books::Books;
 use crate::turning::Turn;
 use crate::uses::index_named;
-use crate::waiting::{Begun, begin};
+use crate::waiting::{Begun, begin, left};
 use desk_names::ObjId;
-use desk_terms::{Asked, Bench, Cause, InputList, Job, Mark, Value};
+use desk_terms::{Asked, Bench, Cause, InputList, Job, Mark};
 use object_store::{Market, Store};
 use std::alloc::{AllocError, Global};
 
@@ -116,7 +116,7 @@ impl Books {
             match self.turn(market, &mut top, bench)? {
                 Turn::Stops(cause) => return Ok(answered(Some(cause), mark, runs)),
                 Turn::Waits(needed) => {
-                    waiting.push(top)?;
+                    waiting.push(left(&top))?;
                     top = begin(needed);
                 }
                 Turn::Ran(cause) => {
@@ -211,7 +211,7 @@ pub fn total<B: Bench>(
 {
     match bench.price_sum(object, units) {
         Ok(amount) => {
-            store.keep(object, Value::Money(amount));
+            store.keep_money(object, amount);
             Ok(None)
         }
         Err(fault) => match fault.cause() {

@@ -1,6 +1,7 @@
 // What an ask does next at an object.
 ghost use Rattle.std.specs.Prelude.{◌≡◌, ◌≢◌, ◌≤◌, ◌+◌, ◌*◌, ◌^◌, ◌+ℤ◌, ◌*ℤ◌, unsigned_abs, List, true, Some, IfOk, OnOk, [], ◌∷◌, ◌++◌};
 ghost use Rattle.desk_terms.specs.declared.value.Value.{Value};
+ghost use Rattle.desk_terms.specs.declared.cause.Cause.TheVariants.{Unpriced};
 ghost use Rattle.desk_terms.specs.declared.terms.Terms.TheVariants.{Composite};
 ghost use Rattle.desk_terms.specs.declared.terms.Part.{Part};
 ghost use Rattle.desk_terms.specs.Parts.{ArePartsInRange};
@@ -62,8 +63,16 @@ fn answer(store: &Store, object: ObjId) -> Option<Result<&Value, Cause>>
     }
     match store.last(object) {
         Some(value) => Some(Ok(value)),
-        None => Some(Err(Cause::Unpriced(object))),
+        None => Some(Err(unpriced(object))),
     }
+}
+
+// That an object has no last value. It stays apart, since most that are read have one.
+#[inline(never)]
+fn unpriced(object: ObjId) -> Cause
+    ensures { result ≡ Unpriced object }
+{
+    Cause::Unpriced(object)
 }
 
 // What an ask does next at a composite of these parts, of which the first were read. It reads on behind them.

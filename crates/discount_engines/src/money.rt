@@ -1,5 +1,6 @@
 // Money in the limits of a price, and sums of products.
 ghost use Rattle.std.specs.Prelude.{◌≡◌, ◌≤◌, ◌+◌, ◌*◌, ◌^◌, ◌+ℤ◌, unsigned_abs};
+ghost use Rattle.desk_terms.specs.declared.cause.Cause.TheVariants.{TooLarge};
 ghost use Rattle.discount_engines.specs.Money.{money_of, as_money};
 
 use desk_names::ObjId;
@@ -17,8 +18,16 @@ pub(crate) fn money_of(object: ObjId, units: i128) -> Result<Amount, Cause>
     if units >= -MOST_UNITS && units <= MOST_UNITS {
         Ok(Amount(units))
     } else {
-        Err(Cause::TooLarge(object))
+        Err(too_large(object))
     }
+}
+
+// That the price of an object is too large. It stays apart, since most prices are not.
+#[inline(never)]
+fn too_large(object: ObjId) -> Cause
+    ensures { result ≡ TooLarge object }
+{
+    Cause::TooLarge(object)
 }
 
 /// A sum of products, and one product more. No product is beyond an amount of 10^22 units at a discount factor of 4, nor

@@ -6,6 +6,7 @@ ghost use Rattle.walks.specs.Walk.{Among, Below};
 ghost use Rattle.observer_graph.specs.Notice.{IsLeast};
 ghost use Rattle.observer_graph.specs.Noticed.{IsRising};
 ghost use Rattle.observer_graph.specs.declared.node.Role.TheVariants as role;
+ghost use Rattle.desk_terms.specs.declared.value.Value.TheVariants.{Money};
 ghost use Rattle.desk_model.specs.State.{unpriced};
 ghost use Rattle.desk_model.specs.Visit.{with_value};
 ghost use Rattle.object_store.specs.Slots.{is_now, is_at_hand};
@@ -16,6 +17,7 @@ ghost use Rattle.object_store.specs.Store.{AddsObject, TakesObject, Joins, Leave
 use deferred_sources::Deferral;
 use desk_names::ObjId;
 use desk_terms::Value;
+use fixed_amount::Amount;
 use observer_graph::{Flags, Graph, Role};
 use std::alloc::{AllocError, Global};
 use std::marker::Model;
@@ -108,6 +110,19 @@ impl Store {
     {
         self.deferral.graph().settle(object);
         self.lasts[object.place()] = Some(value);
+    }
+
+    /// A lazy object is worth this money, and that is current.
+    #[inline(always)]
+    pub fn keep_money(&mut self, object: ObjId, amount: Amount)
+        requires { role_at self.old.shape object ≡ Some role.Lazy }
+        ensures kept { self.new.kept ≡ slice_set self.old.kept object (with_value (slice_index_or self.old.kept object unpriced) (Some (Money amount))) }
+        ensures shape { self.new.shape ≡ self.old.shape }
+        ensures switch { self.new.deferring ≡ self.old.deferring }
+        ensures told { self.new.noticed ≡ self.old.noticed }
+    {
+        self.deferral.graph().settle(object);
+        put_money(&mut self.lasts[object.place()], amount);
     }
 
     /// An object is not current.
@@ -315,6 +330,18 @@ impl Store {
         ensures same { self.new ≡ self.old }
     {
         self.deferral.clear(object)
+    }
+}
+
+// Money is the last value, where it stands already in its place.
+#[inline(always)]
+fn put_money(last: &mut Option<Value>, amount: Amount)
+    ensures { last.new ≡ Some (Money amount) }
+{
+    match last {
+        Some(Value::Money(held)) => *held = amount,
+        Some(Value::Curve(_)) => *last = Some(Value::Money(amount)),
+        None => *last = Some(Value::Money(amount)),
     }
 }
 

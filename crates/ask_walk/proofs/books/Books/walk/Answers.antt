@@ -147,9 +147,10 @@ returns-in_err-push-in-Waits-clause-keeps g c = keeps_on c.args.self.now.store.k
 
 pub loop-waiting-smaller-in-Waits : goal.loop-waiting-smaller-in-Waits
 loop-waiting-smaller-in-Waits g c =
+    let items = c.in_ok-push-in-Waits.ensures.items ∙ ap (λ (b : Begun). c.loop-waiting.waiting.items ++ b ∷ []) c.left.ensures in
     let w = turn_waits _ _ _ _ _ (objects_of c.loop-waiting.waiting.items) c.loop-waiting.top.object _ _ _ _ c.loop-waiting.invariant.1 _ _ _ _ (turns_with _ _ _ _ _ _ _ _ _ _ _ c.loop-waiting.invariant.0 c.in_ok-cause.ensures.turns) c.in-Waits.needed c.in-Waits.is in
     let here = objects_length c.loop-waiting.waiting.items in
-    let pushed = pushed_length c.loop-waiting.waiting.items c.push.new.self.items c.turn.new.begun c.in_ok-push-in-Waits.ensures.items in
+    let pushed = pushed_length c.loop-waiting.waiting.items c.push.new.self.items c.turn.new.begun items in
     subst (λ (k : List Kept). open_of k * (length c.args.market.now.objects + 3) + (length c.args.market.now.objects + 2 - (length c.push.new.self.items + 1)) < open_of c.loop-waiting.self.store.kept * (length c.args.market.now.objects + 3) + (length c.args.market.now.objects + 2 - (length c.loop-waiting.waiting.items + 1))) (sym w.1)
     (measure_more (open_of c.loop-waiting.self.store.kept) (length c.args.market.now.objects) (length c.loop-waiting.waiting.items + 1) (length c.push.new.self.items + 1)
     (omega (arith, pushed))
@@ -157,15 +158,16 @@ loop-waiting-smaller-in-Waits g c =
 
 pub loop-waiting-preserved-in-Waits : goal.loop-waiting-preserved-in-Waits
 loop-waiting-preserved-in-Waits g c =
+    let items = c.in_ok-push-in-Waits.ensures.items ∙ ap (λ (b : Begun). c.loop-waiting.waiting.items ++ b ∷ []) c.left.ensures in
     let w = turn_waits _ _ _ _ _ (objects_of c.loop-waiting.waiting.items) c.loop-waiting.top.object _ _ _ _ c.loop-waiting.invariant.1 _ _ _ _ (turns_with _ _ _ _ _ _ _ _ _ _ _ c.loop-waiting.invariant.0 c.in_ok-cause.ensures.turns) c.in-Waits.needed c.in-Waits.is in
-    let stack = pushed_stack c.loop-waiting.waiting.items c.push.new.self.items c.turn.new.begun c.begin-top-in-Waits.result c.loop-waiting.top.object c.in-Waits.needed c.in_ok-push-in-Waits.ensures.items c.turn.ensures.object
+    let stack = pushed_stack c.loop-waiting.waiting.items c.push.new.self.items c.turn.new.begun c.begin-top-in-Waits.result c.loop-waiting.top.object c.in-Waits.needed items c.turn.ensures.object
     (ap (λ (b : Begun). b.object) c.begin-top-in-Waits.ensures) in (
       c.turn.ensures.same ∙ c.loop-waiting.invariant.0,
       asking_on _ _ _ _ _ (((objects_of c.loop-waiting.waiting.items) ++ c.loop-waiting.top.object ∷ []) ++ c.in-Waits.needed ∷ []) (objects_of c.push.new.self.items ++ c.begin-top-in-Waits.result.object ∷ []) _ _ _ _ stack w.0,
       c.turn.ensures.remembers,
       (
         unread_begun (market_in c.args.market.now) c.turn.new.self.store.kept c.in-Waits.needed c.begin-top-in-Waits.result c.begin-top-in-Waits.ensures,
-        begun_waits (market_in c.args.market.now) c.loop-waiting.self.store.kept c.turn.new.self.store.kept c.loop-waiting.waiting.items c.push.new.self.items c.turn.new.begun w.1 c.in_ok-push-in-Waits.ensures.items c.loop-waiting.invariant.3.1 c.turn.ensures.begun,
+        begun_waits (market_in c.args.market.now) c.loop-waiting.self.store.kept c.turn.new.self.store.kept c.loop-waiting.waiting.items c.push.new.self.items c.turn.new.begun w.1 items c.loop-waiting.invariant.3.1 c.turn.ensures.begun,
       ),
       c.turn.ensures.shape ∙ c.loop-waiting.invariant.4,
       c.turn.ensures.registry ∙ c.loop-waiting.invariant.5,

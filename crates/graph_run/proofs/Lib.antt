@@ -1,4 +1,3 @@
-pub mod Drawn
 pub mod Ended
 pub mod Steps
 pub mod Wording

@@ -3,6 +3,9 @@ ghost use Rattle.std.specs.Prelude.{◌≡◌, false, All, IfOk};
 ghost use Rattle.desk_terms.specs.Reading.{Calc};
 ghost use Rattle.desk_model.specs.Sound.{IsSound};
 ghost use Rattle.session_model.specs.Standing.{IsKnown};
+ghost use Rattle.session_model.specs.Rounds.{calls_of};
+ghost use Rattle.grid_model.specs.Scenario.{ordered, after};
+ghost use Rattle.session_graph.specs.Graph.{session_graph};
 ghost use Rattle.desk_plan.specs.Found.{CanRun, CanDo, run_in, plan_in};
 ghost use Rattle.scenario_grid.specs.Calls.{Calls};
 ghost use Rattle.graph_run.specs.Drawing.{first_of, drawn_by, made_by, output_in, computed_in};
@@ -11,7 +14,7 @@ use crate::playing::play_all;
 use desk_plan::{Plan, ScriptRun};
 use desk_terms::Bench;
 use market_session::session_of;
-use session_commands::CommandList;
+use session_commands::{Command, CommandList};
 use session_graph::session_graph;
 use session_rounds::WatchedSession;
 use std::alloc::{AllocError, Global};
@@ -50,9 +53,27 @@ fn drawn<B: Bench>(
     ensures same { B.calc bench.new ≡ B.calc bench.old }
 {
     let (mut session, commands) = begun(alloc, run, order)?;
-    play_all(alloc, &mut session, commands.items(), bench)?;
+    graph_behind(alloc, &mut session, commands.items(), bench)
+}
+
+// The graph of a session behind these commands. It has the session lent: a function that owns one lets it go at each exit.
+fn graph_behind<B: Bench>(
+    alloc: Global,
+    session: &mut WatchedSession<Order>,
+    commands: &[Command],
+    bench: &mut B,
+) -> Result<Vec<u8>, AllocError>
+    requires running { session.old.standing.stopped ≡ false }
+    requires known { All (IsKnown session.old.standing) commands.now }
+    requires sound { IsSound (B.calc bench.old) session.old.standing.state }
+    ensures text { IfOk result (λ text. text.items ≡ session_graph (after (B.calc bench.old) commands.now session.old).standing) }
+    ensures calls { Calls (calls_of (ordered (B.calc bench.old)) session.old commands.now) result
+        (B.count bench.old) (B.count bench.new) (B.log bench.old) (B.log bench.new) }
+    ensures same { B.calc bench.new ≡ B.calc bench.old }
+{
+    play_all(alloc, session, commands, bench)?;
     let mut text = Vec::new(alloc);
-    session_graph(alloc, &mut session, &mut text)?;
+    session_graph(alloc, session, &mut text)?;
     Ok(text)
 }
 

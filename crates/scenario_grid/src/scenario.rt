@@ -3,14 +3,16 @@ ghost use Rattle.std.specs.Prelude.{◌≡◌, ◌++◌, true, length, All, OnOk
 ghost use Rattle.desk_terms.specs.Bench.{counted, logged};
 ghost use Rattle.market_loader.specs.Market.{texts_in};
 ghost use Rattle.session_commands.specs.Whole.{IsCommand};
+ghost use Rattle.session_model.specs.Standing.{IsKnown};
+ghost use Rattle.session_model.specs.Rounds.{transcript, calls_of};
 ghost use Rattle.session_rounds.specs.Goes.{Halts, with_more};
 ghost use Rattle.watch_rounds.specs.declared.picker.Order.{Order as OfOrder};
 ghost use Rattle.grid_shape.specs.Kinds.{is_move, is_ask};
-ghost use Rattle.grid_model.specs.Scenario.{first_of, scenario_lines, scenario_calls, scenario_values};
+ghost use Rattle.grid_model.specs.Scenario.{ordered, first_of, after, values_of, scenario_lines, scenario_calls, scenario_values};
 ghost use Rattle.scenario_grid.specs.Basis.{basis_of, IsGround};
 ghost use Rattle.scenario_grid.specs.Course.{course_of, output, scenario_of};
 ghost use Rattle.scenario_grid.specs.Calls.{Begins};
-ghost use Rattle.scenario_grid.specs.Going.{Extends};
+ghost use Rattle.scenario_grid.specs.Going.{IsGoing, Extends};
 
 use crate::asking::ask_all;
 use crate::moving::move_all;
@@ -21,7 +23,9 @@ use fixed_amount::Amount;
 use item_lists::Items;
 use market_loader::MarketTexts;
 use session_commands::{Command, CommandList};
+use session_rounds::WatchedSession;
 use std::alloc::{AllocError, Global};
+use watch_rounds::Order;
 
 /// The money that each ask of a scenario shows, in order; none where an ask shows none. A clause sees the list.
 pub type MoneyList = Items<Option<Amount>>;
@@ -117,7 +121,36 @@ fn played<B: Bench>(
     ensures kept { Extends values.old values.new }
 {
     let mut session = begun(alloc, texts, names)?;
-    move_all(&mut session, moves, bench, lines)?;
-    ask_all(&mut session, asks, bench, lines, values)?;
+    move_and_ask(&mut session, moves, asks, bench, lines, values)
+}
+
+// The moves of a scenario and then its asks, over a session that is lent: who owns one lets it go at each exit, which is much
+// to prove where there are many.
+fn move_and_ask<B: Bench>(
+    session: &mut WatchedSession<Order>,
+    moves: &[Command],
+    asks: &[Command],
+    bench: &mut B,
+    lines: &mut Vec<u8>,
+    values: &mut MoneyList,
+) -> Result<(), AllocError>
+    requires going { IsGoing (B.calc bench.old) session.old }
+    requires known { All (IsKnown session.old.standing) moves.now }
+    requires named { All (IsKnown session.old.standing) asks.now }
+    requires moves { All (λ c. is_move c ≡ true) moves.now }
+    requires asks { All (λ c. is_ask c ≡ true) asks.now }
+    ensures same { B.calc bench.new ≡ B.calc bench.old }
+    ensures out { OnOk result (output lines.new.items (B.count bench.new) (B.log bench.new)
+        ≡ with_more (transcript (ordered (B.calc bench.old)) session.old (moves.now ++ asks.now))
+        (calls_of (ordered (B.calc bench.old)) session.old (moves.now ++ asks.now))
+        (output lines.old.items (B.count bench.old) (B.log bench.old))) }
+    ensures values { OnOk result (values.new ≡ values.old ++ values_of (B.calc bench.old) asks.now (after (B.calc bench.old) moves.now session.old)) }
+    ensures halts { OnErr result (Halts OfOrder (course_of (B.calc bench.old) (moves.now ++ asks.now) session.old)
+        (output lines.old.items (B.count bench.old) (B.log bench.old))
+        (output lines.new.items (B.count bench.new) (B.log bench.new))) }
+    ensures kept { Extends values.old values.new }
+{
+    move_all(session, moves, bench, lines)?;
+    ask_all(session, asks, bench, lines, values)?;
     Ok(())
 }

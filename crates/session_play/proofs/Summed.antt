@@ -1,6 +1,5 @@
 -- How far a load has come: the rounds that are done, and what is kept of their lines.
-use Rattle.std.proofs.Common.{◌≡◌, ◌∙◌, ℕ, ◌+◌, ◌<◌, ◌≤◌, Bool, false, List, [], ◌∷◌, ◌++◌, length, get_or, take, drop, Option, Some, None, unwrap_or, refl, sym, ap, arith, length-append}
-use Rattle.std.proofs.Math.Seq.{take-append_seam}
+use Rattle.std.proofs.Common.{◌≡◌, ◌∙◌, ℕ, ◌+◌, ◌<◌, ◌≤◌, false, List, [], ◌∷◌, ◌++◌, length, get_or, take, drop, Option, Some, None, unwrap_or, refl, sym, ap, arith}
 use Rattle.desk_edge.proofs.SinkLemmas.{appended-nil}
 use Rattle.desk_terms.specs.Bench.{counted, logged}
 use Rattle.desk_model.specs.Sound.{IsSound}
@@ -12,7 +11,7 @@ use Rattle.session_play.specs.Early.{Outside, outside, next_of, IsHalted}
 use Rattle.session_play.specs.Round.{IsCounted, StopsWithin}
 use Rattle.load_summary.specs.Summary.{Tally, tally_of, with_bytes}
 use Rattle.session_play.proofs.Played.{begun_with}
-use Rattle.session_play.proofs.Progress.{Log, Progress, progress_none, progress_more, progress_next, progress_last, progress_bytes, progress_count, progress_log, progress_halted, calls_joined, calls_front, calls_long}
+use Rattle.session_play.proofs.Progress.{Log, Progress, progress_none, progress_more, progress_next, progress_last, progress_bytes, progress_count, progress_log, progress_halted, calls_front, calls_long}
 use Rattle.session_play.proofs.Reported.{all_made}
 use Rattle.load_summary.proofs.Tallies.{tally_more}
 

@@ -69,6 +69,8 @@ fn play_script<K: Sink, B: Bench>(
     ensures late { IfErr result IsLate }
     ensures write { IsErrOf result Status.WriteFault → Rose (K.faults out.old) (K.faults out.new) }
 {
-    let (session, commands) = begun(alloc, run, order)?;
-    play(alloc, session, commands.items(), out, bench)
+    let (mut session, commands) = begun(alloc, run, order)?;
+    let played = play(alloc, &mut session, commands.items(), out, bench);
+    drop(session);
+    played
 }

@@ -19,36 +19,37 @@ use session_rounds::WatchedSession;
 use std::alloc::Global;
 use watch_rounds::Picker;
 
-// Does the round of each command in order over a session, and writes the lines of each before the next begins.
-pub(crate) fn play<P: Picker + Drop, K: Sink, B: Bench>(
+// Does the round of each command in order over a session, and writes the lines of each before the next begins. The session is
+// lent: who owns one lets it go at each exit, which is much to prove where there are many.
+pub(crate) fn play<P: Picker, K: Sink, B: Bench>(
     alloc: Global,
-    mut session: WatchedSession<P>,
+    session: &mut WatchedSession<P>,
     commands: &[Command],
     out: &mut K,
     bench: &mut B,
 ) -> Result<(), Status>
-    requires running { session.standing.stopped ≡ false }
-    requires known { All (IsKnown session.standing) commands.now }
-    requires sound { IsSound (B.calc bench.old) session.standing.state }
+    requires running { session.old.standing.stopped ≡ false }
+    requires known { All (IsKnown session.old.standing) commands.now }
+    requires sound { IsSound (B.calc bench.old) session.old.standing.state }
     ensures same { B.calc bench.new ≡ B.calc bench.old }
 
     // At Ok the lines of all rounds were written, and their computations made.
     ensures written { Writes (K.bytes out.old) (K.bytes out.new)
-        (transcript (record { calc = B.calc bench.old; at = P.at; after = P.after }) session commands.now) (ended result) }
+        (transcript (record { calc = B.calc bench.old; at = P.at; after = P.after }) session.old commands.now) (ended result) }
     ensures count { OnOk result (B.count bench.new ≡ counted (B.count bench.old)
-        (length (calls_of (record { calc = B.calc bench.old; at = P.at; after = P.after }) session commands.now))) }
+        (length (calls_of (record { calc = B.calc bench.old; at = P.at; after = P.after }) session.old commands.now))) }
     ensures log { OnOk result (B.log bench.new ≡ logged (B.log bench.old)
-        (calls_of (record { calc = B.calc bench.old; at = P.at; after = P.after }) session commands.now)) }
+        (calls_of (record { calc = B.calc bench.old; at = P.at; after = P.after }) session.old commands.now)) }
 
     // At an early end it stands within one round, whose lines were not all written.
-    ensures cut { IsErrOf result Status.WriteFault → IsCut (rounds (record { calc = B.calc bench.old; at = P.at; after = P.after }) session commands.now)
+    ensures cut { IsErrOf result Status.WriteFault → IsCut (rounds (record { calc = B.calc bench.old; at = P.at; after = P.after }) session.old commands.now)
         (outside (K.bytes out.old) (B.count bench.old) (B.log bench.old)) (outside (K.bytes out.new) (B.count bench.new) (B.log bench.new)) }
-    ensures halted { IsErrOf result Status.NoMemory → IsHalted (rounds (record { calc = B.calc bench.old; at = P.at; after = P.after }) session commands.now)
+    ensures halted { IsErrOf result Status.NoMemory → IsHalted (rounds (record { calc = B.calc bench.old; at = P.at; after = P.after }) session.old commands.now)
         (outside (K.bytes out.old) (B.count bench.old) (B.log bench.old)) (outside (K.bytes out.new) (B.count bench.new) (B.log bench.new)) }
 
     // Each round left a sound state.
     ensures sound { OnOk result (All (λ (t : Course P). IsSound (B.calc bench.old) t.next.standing.state)
-        (rounds (record { calc = B.calc bench.old; at = P.at; after = P.after }) session commands.now)) }
+        (rounds (record { calc = B.calc bench.old; at = P.at; after = P.after }) session.old commands.now)) }
 
     ensures late { IfErr result IsLate }
     ensures write { IsErrOf result Status.WriteFault → Rose (K.faults out.old) (K.faults out.new) }
@@ -56,7 +57,7 @@ pub(crate) fn play<P: Picker + Drop, K: Sink, B: Bench>(
 {
     let mut lines = Vec::new(alloc);
     for command in commands {
-        play_round(&mut session, command, &mut lines, out, bench)?;
+        play_round(session, command, &mut lines, out, bench)?;
     }
     Ok(())
 }

@@ -45,8 +45,11 @@ pub(crate) fn sum_up<K: Sink, B: Bench>(
     ensures late { IfErr result IsLate }
     ensures write { IsErrOf result Status.WriteFault → Rose (K.faults out.old) (K.faults out.new) }
 {
-    let (session, commands) = begun(alloc, run, Order::First)?;
-    let tally = tallied(alloc, session, commands.items(), bench)?;
+    let (mut session, commands) = begun(alloc, run, Order::First)?;
+    let counted = tallied(alloc, &mut session, commands.items(), bench);
+    // Let go here, once for all exits behind it.
+    drop(session);
+    let tally = counted?;
     let summary = summary(alloc, size, &tally)?;
     match write_whole(out, &summary) {
         Ok(()) => Ok(()),
@@ -55,29 +58,29 @@ pub(crate) fn sum_up<K: Sink, B: Bench>(
 }
 
 // Does the round of each command in order over a session, and counts its lines.
-fn tallied<P: Picker + Drop, B: Bench>(
+fn tallied<P: Picker, B: Bench>(
     alloc: Global,
-    mut session: WatchedSession<P>,
+    session: &mut WatchedSession<P>,
     commands: &[Command],
     bench: &mut B,
 ) -> Result<Tally, AllocError>
-    requires running { session.standing.stopped ≡ false }
-    requires known { All (IsKnown session.standing) commands.now }
-    requires sound { IsSound (B.calc bench.old) session.standing.state }
+    requires running { session.old.standing.stopped ≡ false }
+    requires known { All (IsKnown session.old.standing) commands.now }
+    requires sound { IsSound (B.calc bench.old) session.old.standing.state }
     ensures same { B.calc bench.new ≡ B.calc bench.old }
     ensures tally { IfOk result (λ tally. tally ≡ tally_of
-        (transcript (record { calc = B.calc bench.old; at = P.at; after = P.after }) session commands.now)) }
+        (transcript (record { calc = B.calc bench.old; at = P.at; after = P.after }) session.old commands.now)) }
     ensures count { OnOk result (B.count bench.new ≡ counted (B.count bench.old)
-        (length (calls_of (record { calc = B.calc bench.old; at = P.at; after = P.after }) session commands.now))) }
+        (length (calls_of (record { calc = B.calc bench.old; at = P.at; after = P.after }) session.old commands.now))) }
     ensures log { OnOk result (B.log bench.new ≡ logged (B.log bench.old)
-        (calls_of (record { calc = B.calc bench.old; at = P.at; after = P.after }) session commands.now)) }
-    ensures stops { OnErr result (StopsWithin (calls_of (record { calc = B.calc bench.old; at = P.at; after = P.after }) session commands.now)
+        (calls_of (record { calc = B.calc bench.old; at = P.at; after = P.after }) session.old commands.now)) }
+    ensures stops { OnErr result (StopsWithin (calls_of (record { calc = B.calc bench.old; at = P.at; after = P.after }) session.old commands.now)
         (outside None (B.count bench.old) (B.log bench.old)) (outside None (B.count bench.new) (B.log bench.new))) }
 {
     let mut tally = Tally::new(alloc);
     let mut lines = Vec::new(alloc);
     for command in commands {
-        count_round(&mut session, command, &mut lines, &mut tally, bench)?;
+        count_round(session, command, &mut lines, &mut tally, bench)?;
     }
     Ok(tally)
 }

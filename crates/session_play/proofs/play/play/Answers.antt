@@ -14,7 +14,7 @@ loop-command-init g c =
     let start = (outside (g.K.Sink.bytes c.args.out.now) (g.B.Bench.count c.args.bench.now) (g.B.Bench.log c.args.bench.now)) in
     record {
       same = refl;
-      progress = progress_none m c.args.session c.args.commands.now start c.requires.running
+      progress = progress_none m c.args.session.now c.args.commands.now start c.requires.running
           c.requires.sound;
       faults = omega arith;
     }
@@ -27,9 +27,9 @@ returns-in_err-play_round-clause-written g c =
     let start = (outside (g.K.Sink.bytes c.args.out.now) (g.B.Bench.count c.args.bench.now) (g.B.Bench.log c.args.bench.now)) in
     let now = (outside (g.K.Sink.bytes c.loop-command.out) (g.B.Bench.count c.loop-command.bench) (g.B.Bench.log c.loop-command.bench)) in
     let new = (outside (g.K.Sink.bytes c.play_round.new.out) (g.B.Bench.count c.play_round.new.bench) (g.B.Bench.log c.play_round.new.bench)) in
-    let next = progress_next m c.args.session c.args.commands.now start c.loop-command.command-index c.command-item.result c.loop-command.session now c.loop-command-test.true c.command-item.is c.loop-command.invariant.progress in
+    let next = progress_next m c.args.session.now c.args.commands.now start c.loop-command.command-index c.command-item.result c.loop-command.session now c.loop-command-test.true c.command-item.is c.loop-command.invariant.progress in
     let ends = subst (λ (k : Calc). RoundEnds {A = Unit {0}} (round_of (record m { calc = k }) c.loop-command.session c.command-item.result) (Err c.in_err-play_round.field-0.0) now new) c.loop-command.invariant.same c.in_err-play_round.ensures.ends in
-    rw (p.1, p.2) (ends_written m c.args.session c.args.commands.now start c.command-item.result (drop (c.loop-command.command-index + 1) c.args.commands.now) c.loop-command.session now new next c.in_err-play_round.field-0.0 ends)
+    rw (p.1, p.2) (ends_written m c.args.session.now c.args.commands.now start c.command-item.result (drop (c.loop-command.command-index + 1) c.args.commands.now) c.loop-command.session now new next c.in_err-play_round.field-0.0 ends)
 
 pub returns-in_err-play_round-clause-cut : goal.returns-in_err-play_round-clause-cut
 returns-in_err-play_round-clause-cut g c =
@@ -39,9 +39,9 @@ returns-in_err-play_round-clause-cut g c =
     let start = (outside (g.K.Sink.bytes c.args.out.now) (g.B.Bench.count c.args.bench.now) (g.B.Bench.log c.args.bench.now)) in
     let now = (outside (g.K.Sink.bytes c.loop-command.out) (g.B.Bench.count c.loop-command.bench) (g.B.Bench.log c.loop-command.bench)) in
     let new = (outside (g.K.Sink.bytes c.play_round.new.out) (g.B.Bench.count c.play_round.new.bench) (g.B.Bench.log c.play_round.new.bench)) in
-    let next = progress_next m c.args.session c.args.commands.now start c.loop-command.command-index c.command-item.result c.loop-command.session now c.loop-command-test.true c.command-item.is c.loop-command.invariant.progress in
+    let next = progress_next m c.args.session.now c.args.commands.now start c.loop-command.command-index c.command-item.result c.loop-command.session now c.loop-command-test.true c.command-item.is c.loop-command.invariant.progress in
     let ends = subst (λ (k : Calc). RoundEnds {A = Unit {0}} (round_of (record m { calc = k }) c.loop-command.session c.command-item.result) (Err c.in_err-play_round.field-0.0) now new) c.loop-command.invariant.same c.in_err-play_round.ensures.ends in
-    rw (p.1, p.2) (λ is. ends_cut m c.args.session c.args.commands.now start c.command-item.result (drop (c.loop-command.command-index + 1) c.args.commands.now) c.loop-command.session now new next c.in_err-play_round.field-0.0 ends (same_status _ _ _ refl is))
+    rw (p.1, p.2) (λ is. ends_cut m c.args.session.now c.args.commands.now start c.command-item.result (drop (c.loop-command.command-index + 1) c.args.commands.now) c.loop-command.session now new next c.in_err-play_round.field-0.0 ends (same_status _ _ _ refl is))
 
 pub returns-in_err-play_round-clause-halted : goal.returns-in_err-play_round-clause-halted
 returns-in_err-play_round-clause-halted g c =
@@ -51,9 +51,9 @@ returns-in_err-play_round-clause-halted g c =
     let start = (outside (g.K.Sink.bytes c.args.out.now) (g.B.Bench.count c.args.bench.now) (g.B.Bench.log c.args.bench.now)) in
     let now = (outside (g.K.Sink.bytes c.loop-command.out) (g.B.Bench.count c.loop-command.bench) (g.B.Bench.log c.loop-command.bench)) in
     let new = (outside (g.K.Sink.bytes c.play_round.new.out) (g.B.Bench.count c.play_round.new.bench) (g.B.Bench.log c.play_round.new.bench)) in
-    let next = progress_next m c.args.session c.args.commands.now start c.loop-command.command-index c.command-item.result c.loop-command.session now c.loop-command-test.true c.command-item.is c.loop-command.invariant.progress in
+    let next = progress_next m c.args.session.now c.args.commands.now start c.loop-command.command-index c.command-item.result c.loop-command.session now c.loop-command-test.true c.command-item.is c.loop-command.invariant.progress in
     let ends = subst (λ (k : Calc). RoundEnds {A = Unit {0}} (round_of (record m { calc = k }) c.loop-command.session c.command-item.result) (Err c.in_err-play_round.field-0.0) now new) c.loop-command.invariant.same c.in_err-play_round.ensures.ends in
-    rw (p.1, p.2) (λ is. ends_halted m c.args.session c.args.commands.now start c.command-item.result (drop (c.loop-command.command-index + 1) c.args.commands.now) c.loop-command.session now new next c.in_err-play_round.field-0.0 ends (same_status _ _ _ refl is))
+    rw (p.1, p.2) (λ is. ends_halted m c.args.session.now c.args.commands.now start c.command-item.result (drop (c.loop-command.command-index + 1) c.args.commands.now) c.loop-command.session now new next c.in_err-play_round.field-0.0 ends (same_status _ _ _ refl is))
 
 pub loop-command-preserved : goal.loop-command-preserved
 loop-command-preserved g c =
@@ -65,8 +65,8 @@ loop-command-preserved g c =
     let round = c.in_ok-play_round.ensures in
     record {
       same = c.play_round.ensures.same ∙ same;
-      progress = progress_more m c.args.session c.args.commands.now start c.command-item.result (drop (c.loop-command.command-index + 1) c.args.commands.now) c.loop-command.session c.play_round.new.session now new
-          (progress_next m c.args.session c.args.commands.now start c.loop-command.command-index c.command-item.result c.loop-command.session now c.loop-command-test.true c.command-item.is c.loop-command.invariant.progress)
+      progress = progress_more m c.args.session.now c.args.commands.now start c.command-item.result (drop (c.loop-command.command-index + 1) c.args.commands.now) c.loop-command.session c.play_round.new.session now new
+          (progress_next m c.args.session.now c.args.commands.now start c.loop-command.command-index c.command-item.result c.loop-command.session now c.loop-command-test.true c.command-item.is c.loop-command.invariant.progress)
           (subst (λ (k : Calc). IsPlayed (round_of (record m { calc = k }) c.loop-command.session c.command-item.result) now new) same round.ends)
           (round.next ∙ ap (λ (k : Calc). (round_of (record m { calc = k }) c.loop-command.session c.command-item.result).next) same)
           round.names round.actions round.running (subst (λ (k : Calc). IsSound k c.play_round.new.session.standing.state) same c.play_round.ensures.sound);
@@ -78,32 +78,32 @@ returns-clause-written g c =
     let m : Meaning g.row.P.Denot = record { calc = g.B.Bench.calc c.args.bench.now; at = g.P.Picker.at; after = g.P.Picker.after } in
     let start = (outside (g.K.Sink.bytes c.args.out.now) (g.B.Bench.count c.args.bench.now) (g.B.Bench.log c.args.bench.now)) in
     let now = (outside (g.K.Sink.bytes c.loop-command.out) (g.B.Bench.count c.loop-command.bench) (g.B.Bench.log c.loop-command.bench)) in
-    progress_bytes m c.args.session c.args.commands.now start c.loop-command.session now
-    (progress_last m c.args.session c.args.commands.now start c.loop-command.command-index c.loop-command.session now c.loop-command-test.false c.loop-command.invariant.progress)
+    progress_bytes m c.args.session.now c.args.commands.now start c.loop-command.session now
+    (progress_last m c.args.session.now c.args.commands.now start c.loop-command.command-index c.loop-command.session now c.loop-command-test.false c.loop-command.invariant.progress)
 
 pub returns-clause-count : goal.returns-clause-count
 returns-clause-count g c =
     let m : Meaning g.row.P.Denot = record { calc = g.B.Bench.calc c.args.bench.now; at = g.P.Picker.at; after = g.P.Picker.after } in
     let start = (outside (g.K.Sink.bytes c.args.out.now) (g.B.Bench.count c.args.bench.now) (g.B.Bench.log c.args.bench.now)) in
     let now = (outside (g.K.Sink.bytes c.loop-command.out) (g.B.Bench.count c.loop-command.bench) (g.B.Bench.log c.loop-command.bench)) in
-    progress_count m c.args.session c.args.commands.now start c.loop-command.session now
-    (progress_last m c.args.session c.args.commands.now start c.loop-command.command-index c.loop-command.session now c.loop-command-test.false c.loop-command.invariant.progress)
+    progress_count m c.args.session.now c.args.commands.now start c.loop-command.session now
+    (progress_last m c.args.session.now c.args.commands.now start c.loop-command.command-index c.loop-command.session now c.loop-command-test.false c.loop-command.invariant.progress)
 
 pub returns-clause-log : goal.returns-clause-log
 returns-clause-log g c =
     let m : Meaning g.row.P.Denot = record { calc = g.B.Bench.calc c.args.bench.now; at = g.P.Picker.at; after = g.P.Picker.after } in
     let start = (outside (g.K.Sink.bytes c.args.out.now) (g.B.Bench.count c.args.bench.now) (g.B.Bench.log c.args.bench.now)) in
     let now = (outside (g.K.Sink.bytes c.loop-command.out) (g.B.Bench.count c.loop-command.bench) (g.B.Bench.log c.loop-command.bench)) in
-    progress_log m c.args.session c.args.commands.now start c.loop-command.session now
-    (progress_last m c.args.session c.args.commands.now start c.loop-command.command-index c.loop-command.session now c.loop-command-test.false c.loop-command.invariant.progress)
+    progress_log m c.args.session.now c.args.commands.now start c.loop-command.session now
+    (progress_last m c.args.session.now c.args.commands.now start c.loop-command.command-index c.loop-command.session now c.loop-command-test.false c.loop-command.invariant.progress)
 
 pub returns-clause-sound : goal.returns-clause-sound
 returns-clause-sound g c =
     let m : Meaning g.row.P.Denot = record { calc = g.B.Bench.calc c.args.bench.now; at = g.P.Picker.at; after = g.P.Picker.after } in
     let start = (outside (g.K.Sink.bytes c.args.out.now) (g.B.Bench.count c.args.bench.now) (g.B.Bench.log c.args.bench.now)) in
     let now = (outside (g.K.Sink.bytes c.loop-command.out) (g.B.Bench.count c.loop-command.bench) (g.B.Bench.log c.loop-command.bench)) in
-    progress_sounds m c.args.session c.args.commands.now start c.loop-command.session now
-    (progress_last m c.args.session c.args.commands.now start c.loop-command.command-index c.loop-command.session now c.loop-command-test.false c.loop-command.invariant.progress)
+    progress_sounds m c.args.session.now c.args.commands.now start c.loop-command.session now
+    (progress_last m c.args.session.now c.args.commands.now start c.loop-command.command-index c.loop-command.session now c.loop-command-test.false c.loop-command.invariant.progress)
 
 pub returns-in_err-play_round-clause-late : goal.returns-in_err-play_round-clause-late
 returns-in_err-play_round-clause-late g c =

@@ -7,7 +7,7 @@ abbrev pub invariant-loop-command : goal.invariant-loop-command
 invariant-loop-command g l = record {
   same : g.B.Bench.calc l.bench ≡ g.B.Bench.calc l.initial.bench;
   progress : Progress g.row.P.Denot (record { calc = g.B.Bench.calc l.initial.bench; at = g.P.Picker.at; after = g.P.Picker.after })
-      l.fn.session l.commands (drop l.command-index l.commands) l.session
+      l.initial.session l.commands (drop l.command-index l.commands) l.session
       (outside (g.K.Sink.bytes l.initial.out) (g.B.Bench.count l.initial.bench) (g.B.Bench.log l.initial.bench))
       (outside (g.K.Sink.bytes l.out) (g.B.Bench.count l.bench) (g.B.Bench.log l.bench));
   faults : g.K.Sink.faults l.initial.out ≤ g.K.Sink.faults l.out;

@@ -1,4 +1,4 @@
-use Rattle.std.proofs.Common.{◌∙◌, ℕ, List, [], ap, subst, arith}
+use Rattle.std.proofs.Common.{◌∙◌, ℕ, List, ap, subst, arith}
 use Rattle.std.proofs.lemmas.Result.{err_from_is_err_and}
 use Rattle.session_model.specs.Course.{Meaning, round_of}
 use Rattle.session_rounds.specs.Goes.{Output, Does, Halts}

@@ -1,9 +1,7 @@
-use Rattle.std.proofs.Common.{ap, sym, subst, ◌∙◌, List, ℕ}
-use Rattle.std.specs.Prelude.{All}
+use Rattle.std.proofs.Common.{ap, sym, ◌∙◌, List, ℕ}
 use Rattle.std.proofs.lemmas.Result.{err_from_is_err_and}
 use Rattle.desk_edge.specs.Sink.{appended}
 use Rattle.desk_edge.proofs.SinkLemmas.{appended-nil}
-use Rattle.session_model.specs.Standing.{IsKnown}
 use Rattle.desk_plan.specs.Found.{run_in}
 use Rattle.session_play.proofs.Loaded.{load_text, load_stopped, load_ran, load_cut}
 use Rattle.session_play.proofs.Progress.{halted_before}
@@ -12,12 +10,8 @@ use Rattle.session_play.proofs.summing.sum_up.Goals as goal
 pub returns-in_err-session-clause-halted : goal.returns-in_err-session-clause-halted
 returns-in_err-session-clause-halted g c = λ _. halted_before _ _
 
-pub tallied-requires-clause-known : goal.tallied-requires-clause-known
-tallied-requires-clause-known g c =
-    subst (λ commands. All (IsKnown c.in_ok-session.session.standing) commands) (sym c.items.ensures) c.in_ok-session.ensures.known
-
-pub tallied-requires-clause-sound : goal.tallied-requires-clause-sound
-tallied-requires-clause-sound g c = c.in_ok-session.ensures.sound (g.B.Bench.calc c.args.bench.now)
+pub tallied-counted-requires-clause-sound : goal.tallied-counted-requires-clause-sound
+tallied-counted-requires-clause-sound g c = c.in_ok-session.ensures.sound (g.B.Bench.calc c.args.bench.now)
 
 pub returns-in_err-tally-clause-written : goal.returns-in_err-tally-clause-written
 returns-in_err-tally-clause-written g c =
@@ -28,7 +22,7 @@ pub returns-in_err-tally-clause-halted : goal.returns-in_err-tally-clause-halted
 returns-in_err-tally-clause-halted g c =
     let is = c.in_ok-session.ensures.session in
     let are = c.items.ensures ∙ c.in_ok-session.ensures.commands in
-    λ _. load_stopped (g.B.Bench.calc c.args.bench.now) c.args.size (run_in c.args.run) c.in_ok-session.session c.items.result.now is are (g.K.Sink.bytes c.args.out.now) (g.K.Sink.bytes c.args.out.now) (g.B.Bench.count c.args.bench.now) (g.B.Bench.count c.tallied.new.bench) (g.B.Bench.log c.args.bench.now) (g.B.Bench.log c.tallied.new.bench) c.in_err-tally.ensures.stops
+    λ _. load_stopped (g.B.Bench.calc c.args.bench.now) c.args.size (run_in c.args.run) c.in_ok-session.session c.items.result.now is are (g.K.Sink.bytes c.args.out.now) (g.K.Sink.bytes c.args.out.now) (g.B.Bench.count c.args.bench.now) (g.B.Bench.count c.tallied-counted.new.bench) (g.B.Bench.log c.args.bench.now) (g.B.Bench.log c.tallied-counted.new.bench) c.in_err-tally.ensures.stops
 
 pub returns-in_err-summary-clause-written : goal.returns-in_err-summary-clause-written
 returns-in_err-summary-clause-written g c =
@@ -39,7 +33,7 @@ pub returns-in_err-summary-clause-halted : goal.returns-in_err-summary-clause-ha
 returns-in_err-summary-clause-halted g c =
     let is = c.in_ok-session.ensures.session in
     let are = c.items.ensures ∙ c.in_ok-session.ensures.commands in
-    λ _. load_ran (g.B.Bench.calc c.args.bench.now) c.args.size (run_in c.args.run) c.in_ok-session.session c.items.result.now is are (g.K.Sink.bytes c.args.out.now) (g.K.Sink.bytes c.args.out.now) (g.B.Bench.count c.args.bench.now) (g.B.Bench.count c.tallied.new.bench) (g.B.Bench.log c.args.bench.now) (g.B.Bench.log c.tallied.new.bench) c.in_ok-tally.ensures.count c.in_ok-tally.ensures.log
+    λ _. load_ran (g.B.Bench.calc c.args.bench.now) c.args.size (run_in c.args.run) c.in_ok-session.session c.items.result.now is are (g.K.Sink.bytes c.args.out.now) (g.K.Sink.bytes c.args.out.now) (g.B.Bench.count c.args.bench.now) (g.B.Bench.count c.tallied-counted.new.bench) (g.B.Bench.log c.args.bench.now) (g.B.Bench.log c.tallied-counted.new.bench) c.in_ok-tally.ensures.count c.in_ok-tally.ensures.log
 
 pub returns-in-Ok-clause-written : goal.returns-in-Ok-clause-written
 returns-in-Ok-clause-written g c =
@@ -55,5 +49,5 @@ returns-clause-cut g c =
     let says = load_text (g.B.Bench.calc c.args.bench.now) c.args.size (run_in c.args.run) c.in_ok-session.session c.items.result.now is are c.in_ok-summary.summary.items c.in_ok-tally.tally c.in_ok-summary.ensures c.in_ok-tally.ensures.tally in
     let front = rw c.deref.ensures.value at c.in-Err.ensures.front in
     λ _. load_cut (g.B.Bench.calc c.args.bench.now) c.args.size (run_in c.args.run) c.in_ok-session.session c.items.result.now is are (g.K.Sink.bytes c.args.out.now) (g.K.Sink.bytes c.write_whole.new.sink) (g.B.Bench.count c.args.bench.now)
-    (g.B.Bench.count c.tallied.new.bench) (g.B.Bench.log c.args.bench.now) (g.B.Bench.log c.tallied.new.bench)
+    (g.B.Bench.count c.tallied-counted.new.bench) (g.B.Bench.log c.args.bench.now) (g.B.Bench.log c.tallied-counted.new.bench)
     c.in_ok-tally.ensures.count c.in_ok-tally.ensures.log c.in_ok-summary.summary.items says front

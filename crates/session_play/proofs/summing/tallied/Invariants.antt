@@ -6,7 +6,7 @@ abbrev pub invariant-loop-command : goal.invariant-loop-command
 invariant-loop-command g l = record {
   same : g.B.Bench.calc l.bench ≡ g.B.Bench.calc l.initial.bench;
   summed : Summed g.row.P.Denot (record { calc = g.B.Bench.calc l.initial.bench; at = g.P.Picker.at; after = g.P.Picker.after })
-      l.fn.session l.commands (drop l.command-index l.commands) l.session l.tally
+      l.initial.session l.commands (drop l.command-index l.commands) l.session l.tally
       (g.B.Bench.count l.initial.bench) (g.B.Bench.log l.initial.bench) (g.B.Bench.count l.bench) (g.B.Bench.log l.bench);
   bound : l.tally.bytes ≤ l.command-index * 2 ^ 64;
 }

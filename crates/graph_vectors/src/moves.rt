@@ -21,10 +21,18 @@ struct Move {
 pub(crate) fn moves_agree(alloc: Global, rows: &str) -> Option<bool> {
     let mut graph = Graph::new(alloc);
     let mut links = Links::new(alloc);
-    let holder = start(&mut links, &mut graph).ok()?;
+    rows_agree(&mut links, &mut graph, rows)
+}
+
+// The same of links and a graph that are empty, and lent: who owns them lets them go at each exit.
+fn rows_agree(links: &mut Links, graph: &mut Graph, rows: &str) -> Option<bool>
+    requires graph { graph.old ≡ record { nodes = []; subjects = []; sources = []; noticed = []; spare = 0 } }
+    requires links { (h : ℕ) → link_at links.old h ≡ None }
+{
+    let holder = start(links, graph).ok()?;
     let mut agree = true;
     for row in rows.lines() {
-        agree = move_agrees(&mut links, &mut graph, holder, row)? && agree;
+        agree = move_agrees(links, graph, holder, row)? && agree;
     }
     links.remove(holder);
     Some(agree)

@@ -1,5 +1,5 @@
 // Rows `shape,size,told`: how many lazy nodes a notice reaches from the source beneath them all.
-ghost use Rattle.std.specs.Prelude.{◌≡◌, ◌+◌, ◌*◌, ◌<◌, ◌≤◌, length, IfOk, OnOk};
+ghost use Rattle.std.specs.Prelude.{◌≡◌, ◌+◌, ◌*◌, ◌<◌, ◌≤◌, length, IfOk, OnOk, []};
 ghost use Rattle.graph_vectors.specs.Nets.{IsNet};
 
 use crate::nets::{count_not_current, lazy_over};
@@ -32,11 +32,19 @@ pub(crate) fn shape_agrees(alloc: Global, row: &str) -> Option<bool> {
         return None;
     }
     let mut graph = Graph::new(alloc);
+    is_told(&mut graph, shape, steps, told)
+}
+
+// The same of an empty graph that is lent: who owns one lets it go at each exit.
+fn is_told(graph: &mut Graph, shape: Shape, steps: u32, told: u32) -> Option<bool>
+    requires graph { graph.old ≡ record { nodes = []; subjects = []; sources = []; noticed = []; spare = 0 } }
+    requires steps { steps ≤ MOST_STEPS }
+{
     graph.add(Role::Source).ok()?;
-    let top = build(&mut graph, shape, steps).ok()?;
+    let top = build(graph, shape, steps).ok()?;
     graph.mark_source(ObjId(0));
     graph.tell();
-    let found = count_not_current(&graph, top + 1);
+    let found = count_not_current(graph, top + 1);
     let is_over = graph.reaches(ObjId(top), ObjId(0)) && !graph.reaches(ObjId(0), ObjId(top));
     Some(is_over && found == told.saturating_add(1))
 }

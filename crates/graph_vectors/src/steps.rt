@@ -15,10 +15,16 @@ const MOST_LETTERS: usize = 1_000;
 pub(crate) fn steps_agree(alloc: Global, row: &str) -> Option<bool> {
     let mut parts = row.split(": ");
     let letters = parts.next()?;
+    let steps = parts.next()?;
     let mut held = Deferral::new(net(alloc, letters.as_bytes())?);
+    each_agrees(&mut held, steps)
+}
+
+// The same of a graph that is lent: who owns one lets it go at each exit.
+fn each_agrees(held: &mut Deferral, steps: &str) -> Option<bool> {
     let mut agree = true;
-    for step in parts.next()?.split(';') {
-        agree = step_agrees(&mut held, step)? && agree;
+    for step in steps.split(';') {
+        agree = step_agrees(held, step)? && agree;
     }
     Some(agree)
 }

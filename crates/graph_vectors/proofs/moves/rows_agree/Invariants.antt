@@ -1,5 +1,5 @@
 use Rattle.graph_vectors.specs.Moves.{IsMovable}
-use Rattle.graph_vectors.proofs.moves.moves_agree.Given as goal
+use Rattle.graph_vectors.proofs.moves.rows_agree.Given as goal
 
 abbrev pub invariant-loop-row : goal.invariant-loop-row
 invariant-loop-row l = record {

@@ -35,14 +35,21 @@ pub(crate) fn value_of(
         None => None,
         Some(_) => Some(INDEX),
     };
-    let none = Fixings::new(alloc);
     let terms = flows_terms(flows, named, Some(ENGINE)).ok()?;
-    let inputs = curves(
-        alloc,
-        &market.curve,
-        curves_of(&terms, market.today, &none)?,
-    )?;
-    priced(alloc, market.today, &terms, &inputs, index.as_ref(), &none)
+    value_on(alloc, market, &terms, index.as_ref())
+}
+
+// The value of terms of flows on a market's curve.
+fn value_on(
+    alloc: Global,
+    market: &Market<'_>,
+    terms: &Terms,
+    index: Option<&IndexTerms>,
+) -> Option<Amount> {
+    let none = Fixings::new(alloc);
+    let count = curves_of(terms, market.today, &none)?;
+    let inputs = curves(alloc, &market.curve, count)?;
+    priced(alloc, market.today, terms, &inputs, index, &none)
 }
 
 // The value of terms of flows on an evaluation date.

@@ -1,7 +1,9 @@
 // Runs with a call that fails, or with files that are not there.
-use crate::{MARKET, file};
+ghost use Rattle.std.specs.Prelude.{◌≤◌};
+
+use crate::{files_of, push_word};
 use desk_bench::DeskBench;
-use desk_edge::{CallList, FileList, MemoryShelf, MemorySink};
+use desk_edge::{CallList, MemoryShelf, MemorySink};
 use desk_top::{Status, run};
 use std::alloc::{AllocError, Global};
 use std::{fs, io};
@@ -116,15 +118,30 @@ fn played(
     if reads.most == 0 || puts.most == 0 {
         return Ok(None);
     }
-    let mut shelf = MemoryShelf::new(
-        files(alloc, play.script)?,
-        reads.most,
-        failing(alloc, reads.call)?,
-    );
+    let mut shelf = shelf(alloc, play.script, reads)?;
     let mut out = MemorySink::new(alloc, room, puts.most, failing(alloc, puts.call)?)?;
-    let status = run(alloc, words, &mut shelf, &mut out, &mut DeskBench::new());
+    told(alloc, play, words, &mut shelf, &mut out)
+}
+
+// A shelf of the market `m` and this script `s`.
+fn shelf(alloc: Global, script: &[u8], reads: Limits) -> Result<MemoryShelf, AllocError>
+    requires { 1 ≤ reads.most }
+{
+    let calls = failing(alloc, reads.call)?;
+    Ok(MemoryShelf::new(files_of(alloc, script)?, reads.most, calls))
+}
+
+// What is seen of a run over a shelf and a sink; none where other bytes were written.
+fn told(
+    alloc: Global,
+    play: Play,
+    words: &[String],
+    shelf: &mut MemoryShelf,
+    out: &mut MemorySink,
+) -> Result<Option<String>, AllocError> {
+    let status = run(alloc, words, shelf, out, &mut DeskBench::new());
     if play.lines.starts_with(out.bytes()) {
-        Ok(Some(counts(alloc, &shelf, &out, status)?))
+        Ok(Some(counts(alloc, shelf, out, status)?))
     } else {
         Ok(None)
     }
@@ -137,20 +154,19 @@ fn counts(
     out: &MemorySink,
     status: Status,
 ) -> Result<String, AllocError> {
-    let reads = format!(in alloc; "{} {} {}", shelf.calls(), shelf.faults(), shelf.misses())?;
-    let puts = format!(in alloc; "{} {} {}", out.calls(), out.faults(), out.bytes().len())?;
+    let (taken, refused, missed) = (shelf.calls(), shelf.faults(), shelf.misses());
+    let (put, failed, written) = (out.calls(), out.faults(), out.bytes().len());
     if status == Status::Done {
-        format!(in alloc; "{reads} {puts} done")
-    } else {
-        format!(in alloc; "{reads} {puts} {status}")
+        return format!(in alloc; "{taken} {refused} {missed} {put} {failed} {written} done");
     }
+    format!(in alloc; "{taken} {refused} {missed} {put} {failed} {written} {status}")
 }
 
 // Words as texts of their own.
 fn texts(alloc: Global, words: &[&str]) -> Result<Vec<String>, AllocError> {
     let mut texts = Vec::new(alloc);
     for word in words {
-        texts.push(String::from_str(alloc, word)?)?;
+        push_word(alloc, word, &mut texts)?;
     }
     Ok(texts)
 }
@@ -158,14 +174,6 @@ fn texts(alloc: Global, words: &[&str]) -> Result<Vec<String>, AllocError> {
 // A number, and 0 where there is none.
 fn number(text: &str) -> usize {
     text.parse().unwrap_or(0)
-}
-
-// The market `m` and this script `s`.
-fn files(alloc: Global, script: &[u8]) -> Result<FileList, AllocError> {
-    let mut files = FileList::new(alloc);
-    files.push(file(alloc, "m", MARKET)?)?;
-    files.push(file(alloc, "s", script)?)?;
-    Ok(files)
 }
 
 // The call that fails, where one does.

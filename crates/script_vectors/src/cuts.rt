@@ -1,5 +1,5 @@
 // A market that is cut after each number of its bytes.
-use crate::{file, shown, texts};
+use crate::{push_file, shows, texts};
 use desk_edge::{CallList, FileList, MemoryShelf};
 use std::alloc::{AllocError, Global};
 use std::{fs, io};
@@ -52,13 +52,18 @@ fn agrees(alloc: Global, market: Market<'_>, cut: usize, line: &str) -> Result<b
     let Some(front) = market.text.as_bytes().get(..cut) else {
         return Ok(false);
     };
-    let mut files = FileList::new(alloc);
-    files.push(file(alloc, "m", front)?)?;
-    files.push(file(alloc, "quotes.csv", market.quotes.as_bytes())?)?;
-    let mut shelf = MemoryShelf::new(files, 4096, CallList::new(alloc));
     let words = texts(alloc, "check m")?;
     let wanted = format!(in alloc; "{line}\n")?;
-    Ok(shown(alloc, &words, &mut shelf)?.as_slice() == wanted.as_bytes())
+    let mut shelf = shelf(alloc, front, market.quotes)?;
+    shows(alloc, &words, &mut shelf, wanted.as_bytes())
+}
+
+// A shelf of the market `m` and its quotes.
+fn shelf(alloc: Global, market: &[u8], quotes: &str) -> Result<MemoryShelf, AllocError> {
+    let mut files = FileList::new(alloc);
+    push_file(alloc, "m", market, &mut files)?;
+    push_file(alloc, "quotes.csv", quotes.as_bytes(), &mut files)?;
+    Ok(MemoryShelf::new(files, 4096, CallList::new(alloc)))
 }
 
 // A whole number, and a number past all others where there is none.

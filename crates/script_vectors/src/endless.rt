@@ -1,5 +1,5 @@
 // Files that never end.
-use crate::{shown, texts};
+use crate::{shows, texts};
 use desk_edge::EndlessShelf;
 use std::alloc::{AllocError, Global};
 use std::{fs, io};
@@ -29,8 +29,8 @@ fn agrees(alloc: Global, row: &str) -> Result<bool, AllocError> {
     let Some((byte, words)) = given.split_once(' ') else {
         return Ok(false);
     };
-    let mut shelf = EndlessShelf::new(byte.parse().unwrap_or(0));
     let words = texts(alloc, words)?;
     let wanted = format!(in alloc; "{line}\n")?;
-    Ok(shown(alloc, &words, &mut shelf)?.as_slice() == wanted.as_bytes())
+    let mut shelf = EndlessShelf::new(byte.parse().unwrap_or(0));
+    shows(alloc, &words, &mut shelf, wanted.as_bytes())
 }

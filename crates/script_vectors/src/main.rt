@@ -34,31 +34,37 @@ const ROOM: usize = 250_000;
 // in each run, `watchers` a thousand scripts with watchers and `watched_markets` the same over markets, each of these in
 // five orders, `hostile` sessions that work against themselves, `hostile_files` tables that are taken apart, and `large`
 // sessions at their limits.
+const FILES: [&str; 24] = [
+    "scripts",
+    "refused",
+    "faults",
+    "unset",
+    "graphs",
+    "handles",
+    "examples",
+    "markets",
+    "desk",
+    "market_faults",
+    "market_files",
+    "freezing",
+    "deferral",
+    "frozen_markets",
+    "month_ends",
+    "version_two",
+    "words",
+    "loads",
+    "rounds",
+    "watchers",
+    "watched_markets",
+    "hostile",
+    "hostile_files",
+    "large",
+];
+
 fn main(rt: HostRuntime) -> io::Result<()> {
-    compare(&rt, "scripts")?;
-    compare(&rt, "refused")?;
-    compare(&rt, "faults")?;
-    compare(&rt, "unset")?;
-    compare(&rt, "graphs")?;
-    compare(&rt, "handles")?;
-    compare(&rt, "examples")?;
-    compare(&rt, "markets")?;
-    compare(&rt, "desk")?;
-    compare(&rt, "market_faults")?;
-    compare(&rt, "market_files")?;
-    compare(&rt, "freezing")?;
-    compare(&rt, "deferral")?;
-    compare(&rt, "frozen_markets")?;
-    compare(&rt, "month_ends")?;
-    compare(&rt, "version_two")?;
-    compare(&rt, "words")?;
-    compare(&rt, "loads")?;
-    compare(&rt, "rounds")?;
-    compare(&rt, "watchers")?;
-    compare(&rt, "watched_markets")?;
-    compare(&rt, "hostile")?;
-    compare(&rt, "hostile_files")?;
-    compare(&rt, "large")?;
+    for file in FILES {
+        compare(&rt, file)?;
+    }
     cuts::compare(&rt)?;
     endless::compare(&rt)?;
     calls::compare(&rt)
@@ -92,23 +98,34 @@ fn agrees(alloc: Global, common: &str, case: &str) -> Result<bool, AllocError> {
     }
     match case.split_once("--\n") {
         Some((script, text)) => {
-            let mut shelf = shelf(alloc, script)?;
             let words = texts(alloc, "run m s")?;
-            Ok(shown(alloc, &words, &mut shelf)?.as_slice() == text.as_bytes())
+            let mut shelf = shelf(alloc, script)?;
+            shows(alloc, &words, &mut shelf, text.as_bytes())
         }
         None => Ok(false),
     }
 }
 
-// What a terminal shows of a run of the words: its output, and the line of a status that is not Done.
-pub(crate) fn shown<H: Shelf>(
+// Whether a terminal shows these bytes of a run of the words.
+pub(crate) fn shows<H: Shelf>(
     alloc: Global,
     words: &[String],
     shelf: &mut H,
-) -> Result<Vec<u8>, AllocError> {
+    wanted: &[u8],
+) -> Result<bool, AllocError> {
+    Ok(shown(alloc, words, shelf)?.as_slice() == wanted)
+}
+
+// What a terminal shows of a run of the words: its output, and the line of a status that is not Done.
+fn shown<H: Shelf>(alloc: Global, words: &[String], shelf: &mut H) -> Result<Vec<u8>, AllocError> {
     let mut out = MemorySink::new(alloc, ROOM, 4096, CallList::new(alloc))?;
     let status = run(alloc, words, shelf, &mut out, &mut DeskBench::new());
-    let mut text = out.bytes().to_vec(alloc)?;
+    ended(alloc, out.bytes(), status)
+}
+
+// Bytes with the line of the status behind them, if it is not Done.
+fn ended(alloc: Global, bytes: &[u8], status: Status) -> Result<Vec<u8>, AllocError> {
+    let mut text = bytes.to_vec(alloc)?;
     if status != Status::Done {
         text.extend_from_slice(format!(in alloc; "{status}\n")?.as_bytes())?;
     }
@@ -117,22 +134,43 @@ pub(crate) fn shown<H: Shelf>(
 
 // A shelf of the market `m` and the script `s`.
 fn shelf(alloc: Global, script: &str) -> Result<MemoryShelf, AllocError> {
-    let mut files = FileList::new(alloc);
-    files.push(file(alloc, "m", MARKET)?)?;
-    files.push(file(alloc, "s", script.as_bytes())?)?;
+    let files = files_of(alloc, script.as_bytes())?;
     Ok(MemoryShelf::new(files, 4096, CallList::new(alloc)))
 }
 
-pub(crate) fn file(alloc: Global, path: &str, bytes: &[u8]) -> Result<MemoryFile, AllocError> {
+// The two-line market `m` and the script `s`.
+pub(crate) fn files_of(alloc: Global, script: &[u8]) -> Result<FileList, AllocError> {
+    let mut files = FileList::new(alloc);
+    push_file(alloc, "m", MARKET, &mut files)?;
+    push_file(alloc, "s", script, &mut files)?;
+    Ok(files)
+}
+
+pub(crate) fn push_file(
+    alloc: Global,
+    path: &str,
+    bytes: &[u8],
+    files: &mut FileList,
+) -> Result<(), AllocError> {
     let path = String::from_str(alloc, path)?;
-    Ok(MemoryFile::new(path, bytes.to_vec(alloc)?))
+    files.push(MemoryFile::new(path, bytes.to_vec(alloc)?))?;
+    Ok(())
 }
 
 // Words that one space parts.
 pub(crate) fn texts(alloc: Global, line: &str) -> Result<Vec<String>, AllocError> {
     let mut words = Vec::new(alloc);
     for word in line.split(' ') {
-        words.push(String::from_str(alloc, word)?)?;
+        push_word(alloc, word, &mut words)?;
     }
     Ok(words)
+}
+
+pub(crate) fn push_word(
+    alloc: Global,
+    word: &str,
+    words: &mut Vec<String>,
+) -> Result<(), AllocError> {
+    words.push(String::from_str(alloc, word)?)?;
+    Ok(())
 }

@@ -5,7 +5,7 @@
 // At the end of a file `\+` and a number stand for as many newlines as make it so long. In a file and in what is shown `\*`,
 // two whole numbers and a line stand for this line once for each number from the one to the other: in it `@` is the number,
 // `<` the one before it, and `;` a newline.
-use crate::{shown, texts};
+use crate::{push_word, shows, texts};
 use desk_edge::{CallList, FileList, MemoryFile, MemoryShelf};
 use std::alloc::{AllocError, Global};
 
@@ -67,20 +67,30 @@ fn lines_agree(
 ) -> Result<bool, AllocError> {
     for line in given.lines.lines() {
         let words = words(alloc, line, order)?;
-        let mut shelf = shelf(alloc, given)?;
-        if shown(alloc, &words, &mut shelf)?.as_slice() != wanted {
+        if !words_agree(alloc, given, &words, wanted)? {
             return Ok(false);
         }
     }
     Ok(true)
 }
 
+// Whether these words show these bytes.
+fn words_agree(
+    alloc: Global,
+    given: Given<'_>,
+    words: &[String],
+    wanted: &[u8],
+) -> Result<bool, AllocError> {
+    let mut shelf = shelf(alloc, given)?;
+    shows(alloc, words, &mut shelf, wanted)
+}
+
 // The words of a line, with an order behind them where one is named.
 fn words(alloc: Global, line: &str, order: &str) -> Result<Vec<String>, AllocError> {
     let mut words = texts(alloc, line)?;
     if !order.is_empty() {
-        words.push(String::from_str(alloc, "--order")?)?;
-        words.push(String::from_str(alloc, order)?)?;
+        push_word(alloc, "--order", &mut words)?;
+        push_word(alloc, order, &mut words)?;
     }
     Ok(words)
 }
@@ -100,13 +110,19 @@ fn push_files(alloc: Global, parts: &str, files: &mut FileList) -> Result<(), Al
     }
     for part in parts.split("-- ") {
         let (path, text) = parted(part, "\n");
-        let (front, length) = parted(text, "\\+");
-        let mut bytes = Vec::new(alloc);
-        push_expanded(alloc, front, &mut bytes)?;
-        push_newlines(number(length.trim()), &mut bytes)?;
-        files.push(MemoryFile::new(String::from_str(alloc, path)?, bytes))?;
+        let path = String::from_str(alloc, path)?;
+        files.push(MemoryFile::new(path, expanded(alloc, text)?))?;
     }
     Ok(())
+}
+
+// The bytes of a file.
+fn expanded(alloc: Global, text: &str) -> Result<Vec<u8>, AllocError> {
+    let (front, length) = parted(text, "\\+");
+    let mut bytes = Vec::new(alloc);
+    push_expanded(alloc, front, &mut bytes)?;
+    push_newlines(number(length.trim()), &mut bytes)?;
+    Ok(bytes)
 }
 
 // Appends a text, in which `\*` stands for repeated lines.

@@ -3,7 +3,9 @@ use desk_edge::{
     CallList, Failed, FileList, FileShelf, MemoryFile, MemoryShelf, OutSink, ReadFault, Shelf,
     Sink, read_whole, write_whole,
 };
+use std::alloc::{AllocError, Global};
 use std::io::{ErrorKind, Write};
+use std::process::Abort;
 use std::test::Fail;
 use std::{fs, io};
 use text_limits::MOST_BYTES;
@@ -28,13 +30,8 @@ fn a_file_of_8_mib_is_read(rt: HostRuntime) -> Result<(), Fail> {
 fn the_systems_files_are_read(rt: HostRuntime) -> Result<(), Fail> {
     const PATH: &str = "desk_edge_file_shelf_test";
     const LONG_PATH: &str = "desk_edge_file_shelf_long";
-    let alloc = rt.alloc();
     fs::write(&rt, PATH, TEXT)?;
-    // A file of three pieces, none of them like another.
-    let mut long = Vec::new(alloc);
-    for at in 0u16..10_000 {
-        long.push((at % 251) as u8)?;
-    }
+    let long = three_pieces(rt.alloc())?;
     fs::write(&rt, LONG_PATH, long.as_slice())?;
     let mut shelf = FileShelf::new(rt.clone()?);
     for (path, wanted, bytes) in [
@@ -46,13 +43,34 @@ fn the_systems_files_are_read(rt: HostRuntime) -> Result<(), Fail> {
         ("desk_edge_file_shelf_test/x", Err(ReadFault::Failed), b""),
         ("a\0b", Err(ReadFault::Failed), b""),
     ] {
-        let mut out = Vec::new(alloc);
-        assert_eq!(rt; read_whole(&mut shelf, path, &mut out), wanted, "{path}");
-        assert_eq!(rt; out.as_slice(), bytes, "{path}");
+        reads(&rt, rt.alloc(), &mut shelf, path, wanted, bytes);
     }
     fs::remove_file(&rt, PATH)?;
     fs::remove_file(&rt, LONG_PATH)?;
     Ok(())
+}
+
+// A file of three pieces, none of them like another.
+fn three_pieces(alloc: Global) -> Result<Vec<u8>, AllocError> {
+    let mut long = Vec::new(alloc);
+    for at in 0u16..10_000 {
+        long.push((at % 251) as u8)?;
+    }
+    Ok(long)
+}
+
+// Whether reading a path answers what is wanted and gives these bytes.
+fn reads<H: Shelf>(
+    rt: &impl Abort,
+    alloc: Global,
+    shelf: &mut H,
+    path: &str,
+    wanted: Result<bool, ReadFault>,
+    bytes: &[u8],
+) {
+    let mut out = Vec::new(alloc);
+    assert_eq!(rt; read_whole(shelf, path, &mut out), wanted, "{path}");
+    assert_eq!(rt; out.as_slice(), bytes, "{path}");
 }
 
 // A shelf that loses the first byte behind an open is refused here.
@@ -61,17 +79,22 @@ fn a_file_is_taken_from_its_first_byte(rt: HostRuntime) -> Result<(), Fail> {
     const PATH: &str = "desk_edge_first_byte_test";
     fs::write(&rt, PATH, TEXT)?;
     let mut shelf = FileShelf::new(rt.clone()?);
-    let mut buf = [0u8; 1];
     // Begun again, it is taken from its first byte again.
     for _ in 0..2 {
-        assert_eq!(rt; shelf.find(PATH), Ok(true));
-        for byte in &TEXT[..3] {
-            assert_eq!(rt; shelf.take(&mut buf), Ok(1));
-            assert_eq!(rt; buf[0], *byte);
-        }
+        begins(&rt, &mut shelf, PATH);
     }
     fs::remove_file(&rt, PATH)?;
     Ok(())
+}
+
+// Whether the file at a path is found, and gives the first three bytes of the text one by one.
+fn begins<H: Shelf>(rt: &impl Abort, shelf: &mut H, path: &str) {
+    let mut buf = [0u8; 1];
+    assert_eq!(rt; shelf.find(path), Ok(true));
+    for byte in &TEXT[..3] {
+        assert_eq!(rt; shelf.take(&mut buf), Ok(1));
+        assert_eq!(rt; buf[0], *byte);
+    }
 }
 
 // A shelf that opens another path for one of these names is refused here: they are those that files of a session have.
@@ -89,15 +112,12 @@ fn each_path_has_its_own_file(rt: HostRuntime) -> Result<(), Fail> {
         "m",
         "s",
     ];
-    let alloc = rt.alloc();
     for path in &PATHS {
         fs::write(&rt, path, path.as_bytes())?;
     }
     let mut shelf = FileShelf::new(rt.clone()?);
     for path in &PATHS {
-        let mut out = Vec::new(alloc);
-        assert_eq!(rt; read_whole(&mut shelf, path, &mut out), Ok(true), "{path}");
-        assert_eq!(rt; out.as_slice(), path.as_bytes(), "{path}");
+        reads(&rt, rt.alloc(), &mut shelf, path, Ok(true), path.as_bytes());
     }
     for path in &PATHS {
         fs::remove_file(&rt, path)?;

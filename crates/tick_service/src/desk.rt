@@ -19,7 +19,12 @@ const SECOND_MOVE: i64 = 3_000_000_000;
 // Makes the desk of a market, and shows what is held of its last object.
 pub(crate) fn show(rt: &HostRuntime, path: &str) -> io::Result<()> {
     let mut names = Names::new(rt.alloc());
-    let market = load(rt, path, &mut names)?;
+    show_desk(rt, path, &mut names)
+}
+
+// The same; the names become those of the market's objects.
+fn show_desk(rt: &HostRuntime, path: &str, names: &mut Names) -> io::Result<()> {
+    let market = load(rt, path, names)?;
     let last = ObjId(names.len().saturating_sub(1));
     let mut desk = desk_of(rt.alloc(), market.today, market.made)?;
     show_moves(rt, &mut desk, last)

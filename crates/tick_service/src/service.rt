@@ -4,26 +4,37 @@ use desk_bench::DeskBench;
 use desk_names::Names;
 use desk_terms::Bench;
 use pricing_session::{ChangeFault, PricingSession};
-use session_commands::Command;
+use session_commands::{Command, CommandList};
 use std::io::{Error, ErrorKind, Write};
 use std::{fs, io};
 use watch_rounds::Order;
 
 // Opens the session of a market and a script, and carries out the script's commands.
 pub(crate) fn serve(rt: &HostRuntime, path: &str, script: &str) -> io::Result<()> {
+    let text = fs::read(rt, script)?;
+    let (mut session, commands) = opened(rt, path, &text)?;
+    take_all(rt, &mut session, commands.items())
+}
+
+// The session of a market and a script's text, and the script's commands.
+fn opened(
+    rt: &HostRuntime,
+    path: &str,
+    text: &[u8],
+) -> io::Result<(PricingSession<Order, DeskBench>, CommandList)> {
     let mut names = Names::new(rt.alloc());
     let market = load(rt, path, &mut names)?;
-    let text = fs::read(rt, script)?;
-    match PricingSession::open(
+    let opened = PricingSession::open(
         rt.alloc(),
         names,
         market.today,
         market.made,
-        &text,
+        text,
         Order::First,
         DeskBench::new(),
-    ) {
-        Ok((mut session, commands)) => take_all(rt, &mut session, commands.items()),
+    );
+    match opened {
+        Ok(opened) => Ok(opened),
         Err(_) => Err(Error::from(ErrorKind::InvalidData)),
     }
 }

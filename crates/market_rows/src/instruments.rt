@@ -124,12 +124,9 @@ fn push_optional(
 }
 
 fn push_flow(alloc: Global, flow: &FlowTerm, out: &mut Vec<u8>) -> Result<(), AllocError> {
-    out.extend_from_slice(b" [")?;
     match flow {
         FlowTerm::Known { paid, amount, .. } => {
-            out.extend_from_slice(b"known")?;
-            push_day(alloc, *paid, out)?;
-            push_amount(alloc, *amount, out)?;
+            push_paid(alloc, b" [known", *paid, *amount, out)?;
         }
         FlowTerm::Float {
             paid,
@@ -139,9 +136,7 @@ fn push_flow(alloc: Global, flow: &FlowTerm, out: &mut Vec<u8>) -> Result<(), Al
             fixing,
         } => {
             let parts = parts.0;
-            out.extend_from_slice(b"float")?;
-            push_day(alloc, *paid, out)?;
-            push_amount(alloc, *notional, out)?;
+            push_paid(alloc, b" [float", *paid, *notional, out)?;
             push_rate(alloc, *spread, out)?;
             out.extend_from_slice(format!(in alloc; " {parts}")?.as_bytes())?;
             push_day(alloc, *fixing, out)?;
@@ -152,14 +147,25 @@ fn push_flow(alloc: Global, flow: &FlowTerm, out: &mut Vec<u8>) -> Result<(), Al
             strike,
             fixing,
         } => {
-            out.extend_from_slice(b"forward")?;
-            push_day(alloc, *paid, out)?;
-            push_amount(alloc, *notional, out)?;
+            push_paid(alloc, b" [forward", *paid, *notional, out)?;
             push_rate(alloc, *strike, out)?;
             push_day(alloc, *fixing, out)?;
         }
     }
     out.extend_from_slice(b"]")
+}
+
+// Appends a flow's word, the day that it is paid and its amount or its notional.
+fn push_paid(
+    alloc: Global,
+    word: &[u8],
+    paid: Day,
+    amount: Amount,
+    out: &mut Vec<u8>,
+) -> Result<(), AllocError> {
+    out.extend_from_slice(word)?;
+    push_day(alloc, paid, out)?;
+    push_amount(alloc, amount, out)
 }
 
 fn push_day(alloc: Global, day: Day, out: &mut Vec<u8>) -> Result<(), AllocError> {

@@ -16,14 +16,19 @@ use std::{fs, io};
 // A file of cases for each section of a market, one of files that are too long, and one of the versions. Markets that
 // have no key of version 2 are read in both versions.
 fn main(rt: HostRuntime) -> io::Result<()> {
-    compare(&rt, "top", false)?;
-    compare(&rt, "lengths", false)?;
-    compare_both(&rt, "calendars")?;
-    compare_both(&rt, "quotes")?;
-    compare_both(&rt, "objects")?;
-    compare_both(&rt, "curves")?;
-    compare_both(&rt, "instruments")?;
-    compare_both(&rt, "fixings")?;
+    for file in ["top", "lengths"] {
+        compare(&rt, file, false)?;
+    }
+    for file in [
+        "calendars",
+        "quotes",
+        "objects",
+        "curves",
+        "instruments",
+        "fixings",
+    ] {
+        compare_both(&rt, file)?;
+    }
     compare(&rt, "versions", false)?;
     compare_cuts(&rt)
 }
@@ -58,17 +63,37 @@ fn agrees(rt: &HostRuntime, case: &str, later: bool) -> io::Result<bool> {
     let (market, case) = parted(case, "--\n");
     let (quotes, case) = parted(case, "--\n");
     let (fixings, answer) = parted(case, "--\n");
-    let alloc = rt.alloc();
-    let market = decoded(alloc, &in_version(alloc, market, later)?)?;
-    let quotes = decoded(alloc, quotes)?;
-    let fixings = decoded(alloc, fixings)?;
-    let said = answered(alloc, &market, &quotes, &fixings)?;
-    if said.as_slice() == answer.as_bytes() {
+    let market = market_of(rt.alloc(), market, later)?;
+    let said = said_of(rt.alloc(), &market, quotes, fixings)?;
+    is_answer(rt, title, &said, answer)
+}
+
+// Whether what was said is the answer; prints it where it is not.
+fn is_answer(rt: &HostRuntime, title: &str, said: &[u8], answer: &str) -> io::Result<bool> {
+    if said == answer.as_bytes() {
         return Ok(true);
     }
-    let said = std::str::from_utf8(&said).unwrap_or("no text");
+    let said = std::str::from_utf8(said).unwrap_or("no text");
     println!(rt; "{title}: this differs: {said}")?;
     Ok(false)
+}
+
+// The bytes of a case's market.
+fn market_of(alloc: Global, market: &str, later: bool) -> Result<Vec<u8>, AllocError> {
+    let market = in_version(alloc, market, later)?;
+    decoded(alloc, &market)
+}
+
+// What is answered of a market, with the tables that a case gives.
+fn said_of(
+    alloc: Global,
+    market: &[u8],
+    quotes: &str,
+    fixings: &str,
+) -> Result<Vec<u8>, AllocError> {
+    let quotes = decoded(alloc, quotes)?;
+    let fixings = decoded(alloc, fixings)?;
+    answered(alloc, market, &quotes, &fixings)
 }
 
 // A market of version 1 as it is, or as one of version 2.
@@ -96,16 +121,32 @@ fn answered(
     fixings: &[u8],
 ) -> Result<Vec<u8>, AllocError> {
     let mut out = Vec::new(alloc);
+    push_paths_of(alloc, market, &mut out)?;
+    push_read(alloc, market, quotes, fixings, &mut out)?;
+    Ok(out)
+}
+
+// Appends the paths that a market names, or why there are none.
+fn push_paths_of(alloc: Global, market: &[u8], out: &mut Vec<u8>) -> Result<(), AllocError> {
     match market_paths(alloc, market) {
-        Ok(paths) => push_paths(alloc, &paths, &mut out)?,
-        Err(fault) => out.extend_from_slice(format!(in alloc; "paths {fault}\n")?.as_bytes())?,
+        Ok(paths) => push_paths(alloc, &paths, out),
+        Err(fault) => out.extend_from_slice(format!(in alloc; "paths {fault}\n")?.as_bytes()),
     }
+}
+
+// Appends the market, or why there is none.
+fn push_read(
+    alloc: Global,
+    market: &[u8],
+    quotes: &[u8],
+    fixings: &[u8],
+    out: &mut Vec<u8>,
+) -> Result<(), AllocError> {
     let mut names = Names::new(alloc);
     match read_market(alloc, market, quotes, fixings, &mut names) {
-        Ok(market) => push_market(alloc, &names, &market, &mut out)?,
-        Err(fault) => out.extend_from_slice(format!(in alloc; "{fault}\n")?.as_bytes())?,
+        Ok(market) => push_market(alloc, &names, &market, out),
+        Err(fault) => out.extend_from_slice(format!(in alloc; "{fault}\n")?.as_bytes()),
     }
-    Ok(out)
 }
 
 // Compares what is answered of a market that is cut after each of its bytes, and prints how many cuts agree: the first

@@ -22,9 +22,19 @@ use values::compare_values;
 fn main(rt: HostRuntime) -> Result<()> {
     let curves = fs::read_to_string(&rt, "curves.csv")?;
     compare_curves(&rt, rt.alloc(), "curves", &curves)?;
-    let cases = fs::read_to_string(&rt, "cases.csv")?;
-    compare_curves(&rt, rt.alloc(), "cases", &cases)?;
-    let markets = Markets::read(rt.alloc(), &curves)?;
-    let values = fs::read_to_string(&rt, "values.csv")?;
-    compare_values(&rt, rt.alloc(), &markets, &values)
+    compare_cases(&rt)?;
+    compare_factors(&rt, &curves)
+}
+
+// Compares the curves that were worked out by hand and by a model.
+fn compare_cases(rt: &HostRuntime) -> Result<()> {
+    let cases = fs::read_to_string(rt, "cases.csv")?;
+    compare_curves(rt, rt.alloc(), "cases", &cases)
+}
+
+// Compares factors on the curves of QuantLib's nodes.
+fn compare_factors(rt: &HostRuntime, curves: &str) -> Result<()> {
+    let values = fs::read_to_string(rt, "values.csv")?;
+    let markets = Markets::read(rt.alloc(), curves)?;
+    compare_values(rt, rt.alloc(), &markets, &values)
 }

@@ -6,6 +6,7 @@ use day_number::{Convention, Tenor, read_tenor};
 use desk_names::ObjId;
 use fixed_amount::{Rate, read_decimal};
 use std::alloc::Global;
+use std::str::Split;
 use year_parts::Counter;
 
 /// The terms of a row, and the rates of its helpers.
@@ -18,28 +19,35 @@ pub(crate) struct Asked {
 impl Asked {
     /// The terms and rates of a row.
     pub(crate) fn read(alloc: Global, row: &Row<'_>) -> Option<Asked> {
-        let mut helpers = HelperList::new(alloc);
-        let mut rates = Vec::new(alloc);
-        for text in row.helpers.split(';') {
-            let (helper, rate) = helper_of(text)?;
-            helpers.push(helper).ok()?;
-            rates.push(rate).ok()?;
-        }
-        let terms = CurveTerms {
-            cal: calendar_of(alloc, row.calendar)?,
-            start: CurveStart::Moving(row.settlement.parse().ok()?),
-            helpers,
+        let start = CurveStart::Moving(row.settlement.parse().ok()?);
+        let cal = calendar_of(alloc, row.calendar)?;
+        let mut asked = Asked {
+            terms: CurveTerms {
+                cal,
+                start,
+                helpers: HelperList::new(alloc),
+            },
+            rates: Vec::new(alloc),
         };
-        Some(Asked { terms, rates })
+        asked.push(row.helpers)?;
+        Some(asked)
+    }
+
+    // Adds the helpers of a text, each with its rate.
+    fn push(&mut self, helpers: &str) -> Option<()> {
+        for text in helpers.split(';') {
+            let (helper, rate) = helper_of(text)?;
+            self.terms.helpers.push(helper).ok()?;
+            self.rates.push(rate).ok()?;
+        }
+        Some(())
     }
 }
 
 // The helper of a text and its rate.
 fn helper_of(text: &str) -> Option<(Helper, Rate)> {
     let mut words = text.split(':');
-    let kind = words.next()?;
-    let tenor = read_tenor(words.next()?.as_bytes())?;
-    let every = every_of(kind, words.next()?)?;
+    let (tenor, every) = tenors_of(&mut words)?;
     let helper = Helper {
         quote: ObjId(0),
         tenor,
@@ -49,6 +57,13 @@ fn helper_of(text: &str) -> Option<(Helper, Rate)> {
         counter: counter_of(words.next()?)?,
     };
     Some((helper, rate_of(words.next()?)?))
+}
+
+// The tenor of a helper whose kind, tenor and period the next words write, and how often it pays.
+fn tenors_of(words: &mut Split<'_, char>) -> Option<(Tenor, Option<Tenor>)> {
+    let kind = words.next()?;
+    let tenor = read_tenor(words.next()?.as_bytes())?;
+    Some((tenor, every_of(kind, words.next()?)?))
 }
 
 // How often a helper of a kind pays: a deposit does so once.

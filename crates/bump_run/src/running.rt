@@ -5,9 +5,11 @@ ghost use Rattle.desk_edge.specs.Count.{Rose};
 ghost use Rattle.desk_edge.specs.Shelf.{files_of};
 ghost use Rattle.market_file.specs.Standing.{IsReady};
 ghost use Rattle.market_loader.specs.declared.faults.MarketRole.{MarketRole};
+ghost use Rattle.desk_model.specs.Sound.{IsSound};
+ghost use Rattle.desk_model.specs.Unheld.{HoldsNothing};
 ghost use Rattle.bump_model.specs.Asking.{Made, MadeFront};
 ghost use Rattle.bump_run.specs.Found.{wanted_in};
-ghost use Rattle.bump_run.specs.Lines.{standing_of, Calls, IsNamed};
+ghost use Rattle.bump_run.specs.Lines.{standing, standing_of, bump_text, bump_calls, Calls, IsNamed};
 ghost use Rattle.bump_run.specs.Run.{IsOutside, IsEarly, IsLate, IsQuiet, Writes, Computes, ended, faults_then};
 ghost use Rattle.bump_run.specs.Verdict.{Wanted as Asked, verdict_of, status_of, output_in, output_of, computed_in, computed_by, reading_calls, IsAccepted, HasInstrument};
 ghost use Rattle.bump_run.specs.Words.{request_of};
@@ -17,6 +19,7 @@ use crate::lines::bump_lines;
 use crate::wanted::{Wanted, wanted_of};
 use desk_edge::{Shelf, Sink, write_whole};
 use desk_terms::Bench;
+use lazy_objects::Desk;
 use market_desk::{desk_of, names_of};
 use price_report::Namer;
 use std::alloc::{AllocError, Global};
@@ -135,7 +138,27 @@ fn lines_of<B: Bench>(
         names: &names,
         of_object: &of_object,
     };
+    lines_on(alloc, &mut desk, name.as_bytes(), &namer, bench)
+}
+
+// The lines of a name. It has the desk lent: a function that owns one lets it go at each exit.
+fn lines_on<B: Bench>(
+    alloc: Global,
+    desk: &mut Desk,
+    name: &[u8],
+    namer: &Namer<'_>,
+    bench: &mut B,
+) -> Result<Vec<u8>, AllocError>
+    requires sound { IsSound (B.calc bench.old) desk.old }
+    requires unheld { HoldsNothing desk.old }
+    ensures lines { IfOk result (λ lines. lines.items
+        ≡ bump_text (B.calc bench.old) (standing namer.now.names.now namer.now.of_object.now desk.old) name.now) }
+    ensures calls { Calls (bump_calls (B.calc bench.old) (standing namer.now.names.now namer.now.of_object.now desk.old) name.now)
+        result (B.count bench.old) (B.count bench.new) (B.log bench.old) (B.log bench.new) }
+    ensures alone { IsNamed (standing namer.now.names.now namer.now.of_object.now desk.old) name.now ⊎ (bench.new ≡ bench.old) }
+    ensures same { B.calc bench.new ≡ B.calc bench.old }
+{
     let mut lines = Vec::new(alloc);
-    bump_lines(alloc, &mut desk, name.as_bytes(), &namer, bench, &mut lines)?;
+    bump_lines(alloc, desk, name, namer, bench, &mut lines)?;
     Ok(lines)
 }

@@ -156,6 +156,7 @@ fn lines_on<B: Bench>(
     ensures calls { Calls (bump_calls (B.calc bench.old) (standing namer.now.names.now namer.now.of_object.now desk.old) name.now)
         result (B.count bench.old) (B.count bench.new) (B.log bench.old) (B.log bench.new) }
     ensures alone { IsNamed (standing namer.now.names.now namer.now.of_object.now desk.old) name.now ⊎ (bench.new ≡ bench.old) }
+    ensures market { desk.new.market ≡ desk.old.market }
     ensures same { B.calc bench.new ≡ B.calc bench.old }
 {
     let mut lines = Vec::new(alloc);

@@ -11,25 +11,25 @@ use watch_rounds::Order;
 
 // Opens the session of a market and a script, and carries out the script's commands.
 pub(crate) fn serve(rt: &HostRuntime, path: &str, script: &str) -> io::Result<()> {
-    let text = fs::read(rt, script)?;
-    let (mut session, commands) = opened(rt, path, &text)?;
+    let (mut session, commands) = opened(rt, path, script)?;
     take_all(rt, &mut session, commands.items())
 }
 
-// The session of a market and a script's text, and the script's commands.
+// The session of a market and a script, and the script's commands.
 fn opened(
     rt: &HostRuntime,
     path: &str,
-    text: &[u8],
+    script: &str,
 ) -> io::Result<(PricingSession<Order, DeskBench>, CommandList)> {
     let mut names = Names::new(rt.alloc());
     let market = load(rt, path, &mut names)?;
+    let text = fs::read(rt, script)?;
     let opened = PricingSession::open(
         rt.alloc(),
         names,
         market.today,
         market.made,
-        text,
+        &text,
         Order::First,
         DeskBench::new(),
     );

@@ -59,7 +59,7 @@ fn three_pieces(alloc: Global) -> Result<Vec<u8>, AllocError> {
     Ok(long)
 }
 
-// Whether reading a path answers what is wanted and gives these bytes.
+// Asserts that reading a path answers what is wanted, and gives these bytes.
 fn reads<H: Shelf>(
     rt: &impl Abort,
     alloc: Global,
@@ -87,7 +87,7 @@ fn a_file_is_taken_from_its_first_byte(rt: HostRuntime) -> Result<(), Fail> {
     Ok(())
 }
 
-// Whether the file at a path is found, and gives the first three bytes of the text one by one.
+// Asserts that the file at a path is found, and gives the first three bytes of the text one by one.
 fn begins<H: Shelf>(rt: &impl Abort, shelf: &mut H, path: &str) {
     let mut buf = [0u8; 1];
     assert_eq!(rt; shelf.find(path), Ok(true));

@@ -17,7 +17,7 @@ use object_store::{Market, Objects, Scratch};
 use std::alloc::AllocError;
 
 /// What one look at an object tells.
-#[derive(Clone, Copy, Debug, PartialEq, Eq)]
+#[derive(Clone, Copy)]
 pub enum Look {
     /// What it gives.
     Is(Entry),

@@ -29,7 +29,7 @@ use object_store::{Market, Scratch, Store};
 use std::alloc::{AllocError, Global};
 
 /// What an ask does next at an object.
-#[derive(Clone, Copy, Debug, PartialEq, Eq)]
+#[derive(Clone, Copy)]
 pub enum Step {
     /// Its price takes the inputs that were read.
     Ready,

@@ -22,7 +22,7 @@ use object_store::Market;
 use std::alloc::AllocError;
 
 /// What one turn of an ask did at an object.
-#[derive(Clone, Copy, Debug, PartialEq, Eq)]
+#[derive(Clone, Copy)]
 pub enum Turn {
     /// An entry refuses by this cause.
     Stops(Cause),

@@ -5,7 +5,7 @@ use desk_names::ObjId;
 
 /// An object at which an ask stands or that waits for another: how many of its members were read, if it is a composite, and
 /// the sum of their values times their weights, in units of 10^-6. Of any other object all is read at once.
-#[derive(Clone, Copy, Debug, PartialEq, Eq)]
+#[derive(Clone, Copy)]
 pub struct Begun {
     pub object: ObjId,
     pub read: usize,

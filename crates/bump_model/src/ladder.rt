@@ -6,7 +6,7 @@ use item_lists::Items;
 use std::alloc::{AllocError, AllocFailed};
 
 /// What an instrument gains where quotes are moved one way.
-#[derive(Clone, Copy, Debug, PartialEq, Eq)]
+#[derive(Clone, Copy)]
 pub enum Side {
     /// What it is worth then less what it is worth where none is moved, in units of 10^-6, within 2 * 10^26 units either
     /// way.
@@ -20,7 +20,7 @@ pub enum Side {
 }
 
 /// What an instrument gains where a quote, or all quotes together, are moved up and down.
-#[derive(Clone, Copy, Debug, PartialEq, Eq)]
+#[derive(Clone, Copy)]
 pub struct Rung {
     /// The quote; none where all are moved.
     pub quote: Option<ObjId>,
@@ -43,7 +43,7 @@ pub struct Ladder {
 }
 
 /// Why there is no ladder.
-#[derive(Clone, Copy, Debug, PartialEq, Eq)]
+#[derive(Clone, Copy)]
 pub enum LadderFault {
     /// The instrument is worth nothing where no quote is moved, for this cause; the bench was called so many times.
     Base { cause: Cause, runs: u128 },

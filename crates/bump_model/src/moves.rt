@@ -12,14 +12,14 @@ pub const BUMP: i64 = 100_000;
 const MOST_RATE: i64 = 1_000_000_000_000_000_000;
 
 /// A quote with the value that it has.
-#[derive(Clone, Copy, Debug, PartialEq, Eq)]
+#[derive(Clone, Copy)]
 pub struct Quoted {
     pub quote: ObjId,
     pub value: Rate,
 }
 
 /// Which way a quote is moved.
-#[derive(Clone, Copy, Debug, PartialEq, Eq)]
+#[derive(Clone, Copy, PartialEq, Eq)]
 pub enum Way {
     Up,
     Down,

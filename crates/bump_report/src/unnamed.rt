@@ -5,7 +5,7 @@ ghost use Rattle.bump_report.specs.Lines.{unnamed_word, unnamed_line};
 use std::alloc::{AllocError, Global};
 
 /// Why a name is no instrument's.
-#[derive(Clone, Copy, Debug, PartialEq, Eq)]
+#[derive(Clone, Copy, PartialEq, Eq)]
 pub enum Unnamed {
     /// No object has it.
     Unknown,

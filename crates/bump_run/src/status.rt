@@ -8,7 +8,7 @@ use std::alloc::AllocError;
 use std::fmt;
 
 /// How a call of `run_bump` ended.
-#[derive(Clone, Copy, Debug, PartialEq, Eq)]
+#[derive(Clone, Copy, PartialEq, Eq)]
 pub enum BumpStatus {
     /// The lines were written.
     Done,

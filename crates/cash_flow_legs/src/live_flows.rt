@@ -19,7 +19,7 @@ use item_lists::Items;
 use std::alloc::Global;
 
 /// An amount that is paid on a day (QuantLib's `CashFlow`).
-#[derive(Clone, Copy, Debug, PartialEq, Eq)]
+#[derive(Clone, Copy)]
 pub struct Flow {
     pub paid: Day,
     /// At most 10^22 units either way.

@@ -15,7 +15,7 @@ pub const ONE: i64 = 1_000_000_000_000;
 pub const MOST: i64 = 4_000_000_000_000;
 
 /// A day, and the discount factor that a curve has there.
-#[derive(Clone, Copy, Debug, PartialEq, Eq)]
+#[derive(Clone, Copy, Debug)]
 pub struct CurveNode {
     pub day: Day,
     pub factor: Discount,

@@ -8,7 +8,7 @@ use std::alloc::AllocError;
 use std::fmt;
 
 /// How a call of `run_curve` ended.
-#[derive(Clone, Copy, Debug, PartialEq, Eq)]
+#[derive(Clone, Copy, PartialEq, Eq)]
 pub enum CurveStatus {
     /// The picture, the table or the lines were written.
     Done,

@@ -6,7 +6,7 @@ use item_lists::Items;
 use year_parts::Counter;
 
 /// A deposit, or a swap at par, whose rate a quote gives (QuantLib's `DepositRateHelper` and `SwapRateHelper`).
-#[derive(Clone, Copy, Debug, PartialEq, Eq)]
+#[derive(Clone, Copy)]
 pub struct Helper {
     /// The quote, or the object that stands for one.
     pub quote: ObjId,
@@ -26,7 +26,7 @@ pub struct Helper {
 pub type HelperList = Items<Helper>;
 
 /// On which day a curve starts.
-#[derive(Clone, Copy, Debug, PartialEq, Eq)]
+#[derive(Clone, Copy)]
 pub enum CurveStart {
     /// So many business days after the evaluation date, with which it moves (QuantLib's `settlementDays`).
     Moving(u8),
@@ -35,7 +35,7 @@ pub enum CurveStart {
 }
 
 /// What a curve is built from, the quotes' rates and the evaluation date apart (QuantLib's `PiecewiseYieldCurve`).
-#[derive(Debug, Drop)]
+#[derive(Drop)]
 pub struct CurveTerms {
     /// The calendar of a moving start and of all helpers.
     pub cal: Calendar,

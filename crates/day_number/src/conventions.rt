@@ -1,7 +1,7 @@
 // The ways to move a day to a business day.
 
 /// How a day that is no business day is moved to one.
-#[derive(Clone, Copy, Debug, PartialEq, Eq)]
+#[derive(Clone, Copy, PartialEq, Eq)]
 pub enum Convention {
     /// The day stays.
     Unadjusted,

@@ -5,7 +5,7 @@ ghost use Rattle.day_number.specs.Text.{tenor_of_text};
 use crate::digits::number_of;
 
 /// What a tenor counts.
-#[derive(Clone, Copy, Debug, PartialEq, Eq)]
+#[derive(Clone, Copy, PartialEq, Eq)]
 pub enum Unit {
     /// Days, `D` in a text.
     Days,
@@ -19,7 +19,7 @@ pub enum Unit {
 
 /// A length of time as a count of a unit. One that was read counts 1 to 22,000 days, 3,100 weeks, 720 months or 60
 /// years.
-#[derive(Clone, Copy, Debug, PartialEq, Eq)]
+#[derive(Clone, Copy, PartialEq, Eq)]
 pub struct Tenor {
     pub count: i32,
     pub unit: Unit,

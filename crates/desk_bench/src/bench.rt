@@ -10,7 +10,7 @@ use fixed_amount::Amount;
 use std::alloc::{AllocError, Global};
 
 /// Prices by the rules of this project, and counts its calls.
-#[derive(Debug, Drop)]
+#[derive(Drop)]
 pub struct DeskBench {
     calls: u64,
 }
@@ -66,7 +66,7 @@ impl Bench for DeskBench {
 }
 
 /// One call of a bench: for which object, and whether it got a value.
-#[derive(Clone, Copy, Debug, PartialEq, Eq)]
+#[derive(Clone, Copy)]
 pub struct LogEntry {
     pub object: ObjId,
     pub priced: bool,

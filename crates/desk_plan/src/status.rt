@@ -8,7 +8,7 @@ use std::alloc::AllocError;
 use std::fmt;
 
 /// A file that is read.
-#[derive(Clone, Copy, Debug, PartialEq, Eq)]
+#[derive(Clone, Copy, PartialEq, Eq)]
 pub enum FileRole {
     Market,
     /// The table of quotes that the market names.
@@ -19,7 +19,7 @@ pub enum FileRole {
 }
 
 /// How a call of `run` ended.
-#[derive(Clone, Copy, Debug, PartialEq, Eq)]
+#[derive(Clone, Copy, PartialEq, Eq)]
 pub enum Status {
     /// The request was carried out, each file read to its end.
     Done,

@@ -3,7 +3,7 @@ ghost use Rattle.std.specs.Prelude.{◌≡◌};
 ghost use Rattle.desk_terms.specs.Kind.{serves};
 
 /// What an object of a session is. Every question 'is it a ..' is asked of its kind.
-#[derive(Clone, Copy, Debug, PartialEq, Eq)]
+#[derive(Clone, Copy, PartialEq, Eq)]
 pub enum Kind {
     /// The evaluation date (QuantLib's `Settings::evaluationDate`).
     Today,
@@ -24,7 +24,7 @@ pub enum Kind {
 }
 
 /// What terms want of an object that they name.
-#[derive(Clone, Copy, Debug, PartialEq, Eq)]
+#[derive(Clone, Copy, PartialEq, Eq)]
 pub enum Wanted {
     /// A rate: a quote, a sum or difference, or a handle of these.
     QuoteInput,

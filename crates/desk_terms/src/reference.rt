@@ -4,7 +4,7 @@ use desk_names::ObjId;
 use item_lists::Items;
 
 /// An object that terms name, with what is wanted of it there.
-#[derive(Clone, Copy, Debug, PartialEq, Eq)]
+#[derive(Clone, Copy)]
 pub struct Reference {
     pub object: ObjId,
     pub wanted: Wanted,

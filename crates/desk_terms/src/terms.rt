@@ -11,7 +11,7 @@ use flow_terms::{Fixings, FlowTerms, IndexTerms};
 use item_lists::Items;
 
 /// A member of a composite, with its weight.
-#[derive(Clone, Copy, Debug, PartialEq, Eq)]
+#[derive(Clone, Copy)]
 pub struct Part {
     pub weight: i64,
     pub member: ObjId,
@@ -21,7 +21,7 @@ pub struct Part {
 pub type PartList = Items<Part>;
 
 /// What a handle stands for.
-#[derive(Clone, Copy, Debug, PartialEq, Eq)]
+#[derive(Clone, Copy, PartialEq, Eq)]
 pub enum HandleKind {
     Quote,
     Curve,

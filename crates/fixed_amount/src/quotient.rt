@@ -4,7 +4,7 @@ ghost use Rattle.fixed_amount.specs.Rounding.{rounded, down, up, closest, IsDown
 
 /// How a quotient becomes a whole number: towards zero, away from zero, or to the nearest, a half away from zero
 /// (QuantLib's `Rounding`).
-#[derive(Clone, Copy, Debug, PartialEq, Eq)]
+#[derive(Clone, Copy, PartialEq, Eq)]
 pub enum Rounding {
     Down,
     Up,

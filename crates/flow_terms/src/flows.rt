@@ -14,7 +14,7 @@ use year_parts::YearParts;
 pub type Period = (Day, Day);
 
 /// One flow, paid on a day (QuantLib's `CashFlow`).
-#[derive(Clone, Copy, Debug, PartialEq, Eq)]
+#[derive(Clone, Copy)]
 pub enum FlowTerm {
     /// An amount that is known: a coupon at a rate, with the period that it accrues over, or a redemption, without one
     /// (QuantLib's `FixedRateCoupon`, `Redemption`). No price reads the period.
@@ -68,7 +68,7 @@ impl FlowTerm {
 pub type FlowTermList = Items<FlowTerm>;
 
 /// The flows of an instrument, and the index that some of them are on.
-#[derive(Debug, Drop)]
+#[derive(Drop)]
 pub struct FlowTerms {
     pub flows: FlowTermList,
     pub index: Option<ObjId>,

@@ -6,7 +6,7 @@ use holiday_calendars::Calendar;
 use year_parts::Counter;
 
 /// The terms of an interest-rate index (QuantLib's `IborIndex`).
-#[derive(Debug, Drop)]
+#[derive(Drop)]
 pub struct IndexTerms {
     /// The calendar on which its days are counted and adjusted.
     pub cal: Calendar,

@@ -5,7 +5,7 @@ use desk_terms::{Kind, Mark};
 use fixed_amount::{Amount, Rate};
 
 /// What an ask of an object would find.
-#[derive(Clone, Copy, Debug, PartialEq, Eq)]
+#[derive(Clone, Copy)]
 pub enum Finding {
     /// The object is not priced: it is a source, passes notices on, or is a watcher.
     Unasked,
@@ -18,7 +18,7 @@ pub enum Finding {
 }
 
 /// What is shown of the value of an object.
-#[derive(Clone, Copy, Debug, PartialEq, Eq)]
+#[derive(Clone, Copy)]
 pub enum Shown {
     /// It has none.
     Nothing,
@@ -33,7 +33,7 @@ pub enum Shown {
 }
 
 /// An object.
-#[derive(Clone, Copy, Debug, PartialEq, Eq)]
+#[derive(Clone, Copy)]
 pub struct GraphNode {
     pub object: ObjId,
     pub kind: Kind,
@@ -44,7 +44,7 @@ pub struct GraphNode {
 }
 
 /// An object and one that it observes.
-#[derive(Clone, Copy, Debug, PartialEq, Eq)]
+#[derive(Clone, Copy)]
 pub struct GraphEdge {
     pub observer: ObjId,
     pub subject: ObjId,

@@ -4,7 +4,7 @@ use fixed_amount::Amount;
 use item_lists::Items;
 
 /// What one scenario has shown.
-#[derive(Debug, Drop)]
+#[derive(Drop)]
 pub struct Shown {
     /// The name of its block; none of the scenario without moves.
     pub name: Option<NameId>,

@@ -11,7 +11,7 @@ use std::alloc::AllocError;
 use std::fmt;
 
 /// A file that is read, in reading order.
-#[derive(Clone, Copy, Debug, PartialEq, Eq)]
+#[derive(Clone, Copy, PartialEq, Eq)]
 pub enum GridRole {
     Market,
     /// The table of quotes that the market names.
@@ -22,7 +22,7 @@ pub enum GridRole {
 }
 
 /// How a call of `run_grid` ended.
-#[derive(Clone, Copy, Debug, PartialEq, Eq)]
+#[derive(Clone, Copy, PartialEq, Eq)]
 pub enum GridStatus {
     /// The lines were written.
     Done,

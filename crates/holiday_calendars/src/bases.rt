@@ -8,7 +8,7 @@ use item_lists::Items;
 use std::alloc::{AllocError, Global};
 
 /// A single calendar.
-#[derive(Debug, Drop)]
+#[derive(Drop)]
 pub enum Base {
     /// Every day is a business day (QuantLib's NullCalendar).
     Null,

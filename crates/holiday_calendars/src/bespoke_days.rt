@@ -36,7 +36,7 @@ impl From<AllocError> for BespokeFault {
 
 /// The holidays of a calendar of one's own: some weekdays, but not all, and a set of days. A clause sees it as the
 /// weekdays from Monday on and the set.
-#[derive(Debug, Drop)]
+#[derive(Drop)]
 pub struct BespokeHolidays {
     weekend: [bool; 7],
     // In the order of time.

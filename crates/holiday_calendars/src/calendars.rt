@@ -4,7 +4,7 @@ use day_number::Day;
 use std::alloc::{AllocError, Global};
 
 /// A calendar: a set of business days.
-#[derive(Debug, Drop)]
+#[derive(Drop)]
 pub enum Calendar {
     /// A single calendar.
     One(Base),

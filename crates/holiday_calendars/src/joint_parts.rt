@@ -11,7 +11,7 @@ use std::marker::Model;
 use thiserror::Error;
 
 /// How a joint calendar goes by its parts (QuantLib's JointCalendarRule).
-#[derive(Clone, Copy, Debug, PartialEq, Eq)]
+#[derive(Clone, Copy, PartialEq, Eq)]
 pub enum JointRule {
     /// A holiday where any part has a holiday.
     Holidays,
@@ -31,7 +31,7 @@ pub enum JointFault {
 }
 
 /// The rule and the parts, one to eight, of a joint calendar. A clause sees it as these.
-#[derive(Debug, Drop)]
+#[derive(Drop)]
 pub struct JointParts {
     rule: JointRule,
     parts: BaseList,

@@ -13,7 +13,7 @@ use desk_terms::{HandleKind, Terms};
 use object_store::{Objects, Store};
 
 /// What a handle stands for.
-#[derive(Clone, Copy, Debug, PartialEq, Eq)]
+#[derive(Clone, Copy)]
 pub struct Link {
     pub kind: HandleKind,
     pub target: Option<ObjId>,

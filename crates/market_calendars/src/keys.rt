@@ -6,7 +6,7 @@ ghost use Rattle.market_calendars.specs.Keys.{kind_word, kind_of, keys_of};
 use market_tables::{Key, Presence};
 
 /// A kind of calendar.
-#[derive(Clone, Copy, Debug, PartialEq, Eq)]
+#[derive(Clone, Copy, PartialEq, Eq)]
 pub enum CalendarKind {
     Null,
     Weekends,
@@ -16,7 +16,7 @@ pub enum CalendarKind {
 }
 
 /// What a key of a calendar takes.
-#[derive(Clone, Copy, Debug, PartialEq, Eq)]
+#[derive(Clone, Copy, PartialEq, Eq)]
 pub enum CalendarPlace {
     /// A new name among the calendars.
     NewName,

@@ -10,7 +10,7 @@ use std::marker::Model;
 use toml::Value;
 
 /// Weekdays, but not all seven. A clause sees a flag for each, the first for Monday.
-#[derive(Clone, Copy, Debug)]
+#[derive(Clone, Copy)]
 pub struct Weekend {
     named: [bool; 7],
 }

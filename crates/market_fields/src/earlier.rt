@@ -14,7 +14,7 @@ use market_tables::{MarketKind, NameText, TableFault};
 use std::alloc::Global;
 
 /// An object that was named, with its kind.
-#[derive(Clone, Copy, Debug, PartialEq, Eq)]
+#[derive(Clone, Copy)]
 pub struct Named {
     pub object: ObjId,
     pub kind: Kind,

@@ -8,7 +8,7 @@ use desk_terms::Wanted;
 use market_tables::{Key, Presence};
 
 /// A kind of object that a table makes.
-#[derive(Clone, Copy, Debug, PartialEq, Eq)]
+#[derive(Clone, Copy, PartialEq, Eq)]
 pub enum ObjectKind {
     Sum,
     Difference,
@@ -25,14 +25,14 @@ pub enum ObjectKind {
 }
 
 /// A kind of a curve's helper.
-#[derive(Clone, Copy, Debug, PartialEq, Eq)]
+#[derive(Clone, Copy, PartialEq, Eq)]
 pub enum HelperKind {
     Deposit,
     Swap,
 }
 
 /// What a key of an object takes.
-#[derive(Clone, Copy, Debug, PartialEq, Eq)]
+#[derive(Clone, Copy)]
 pub enum ObjectPlace {
     /// A new name.
     NewName,

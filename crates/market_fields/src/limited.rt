@@ -16,7 +16,7 @@ const MOST_NOTIONAL: u64 = 1_000_000_000_000_000_000;
 const MOST_RATE: u64 = 10_000_000_000;
 
 /// Whether what is paid and what is received have their own signs or the opposite ones.
-#[derive(Clone, Copy, Debug, PartialEq, Eq)]
+#[derive(Clone, Copy, PartialEq, Eq)]
 pub enum Sign {
     Plus,
     Minus,
@@ -38,7 +38,7 @@ impl Sign {
 }
 
 /// A notional from 1 to 10^18 units of 10^-6.
-#[derive(Clone, Copy, Debug, PartialEq, Eq)]
+#[derive(Clone, Copy, PartialEq, Eq)]
 pub struct Notional {
     units: i64,
 }
@@ -86,7 +86,7 @@ impl Notional {
 }
 
 /// A rate of at most 10 either way, in units of 10^-9.
-#[derive(Clone, Copy, Debug, PartialEq, Eq)]
+#[derive(Clone, Copy, PartialEq, Eq)]
 pub struct TermRate {
     units: i64,
 }

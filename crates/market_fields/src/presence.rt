@@ -8,7 +8,7 @@ use market_tables::{MarketKind, TableFault, value_at};
 use toml::Table;
 
 /// When a key of an object must stand in its table.
-#[derive(Clone, Copy, Debug, PartialEq, Eq)]
+#[derive(Clone, Copy, PartialEq, Eq)]
 pub enum KeyPresence {
     Always,
     Optional,

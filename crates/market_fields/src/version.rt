@@ -9,7 +9,7 @@ use market_tables::{MarketKind, TableFault, value_at};
 use toml::Table;
 
 /// A version of the format of markets.
-#[derive(Clone, Copy, Debug, PartialEq, Eq)]
+#[derive(Clone, Copy, PartialEq, Eq)]
 pub enum Version {
     /// Without payment lags, and without curves that have a reference day of their own.
     One,

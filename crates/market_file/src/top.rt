@@ -16,7 +16,7 @@ use std::alloc::Global;
 use toml::{Table, Value};
 
 /// What a key of the top table takes.
-#[derive(Clone, Copy, Debug, PartialEq, Eq)]
+#[derive(Clone, Copy, PartialEq, Eq)]
 pub enum TopPlace {
     /// The version of the format, which is 1 or 2.
     Version,

@@ -19,7 +19,7 @@ pub struct Span<'a> {
 }
 
 /// How the days between start and end are found and adjusted.
-#[derive(Clone, Copy, Debug, PartialEq, Eq)]
+#[derive(Clone, Copy)]
 pub struct Rules {
     pub rule: Rule,
     pub conv: Convention,

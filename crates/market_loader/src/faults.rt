@@ -24,7 +24,7 @@ pub enum FileFault {
 }
 
 /// A file of a market, in reading order.
-#[derive(Clone, Copy, Debug, PartialEq, Eq)]
+#[derive(Clone, Copy, PartialEq, Eq)]
 pub enum MarketRole {
     Market,
     /// The table of quotes that the market names.
@@ -34,7 +34,7 @@ pub enum MarketRole {
 }
 
 /// Why a market was not read: the first failure in reading order.
-#[derive(Clone, Copy, Debug, PartialEq, Eq)]
+#[derive(Clone, Copy)]
 pub enum LoadFault {
     /// The market is refused: where, at which entry, and why.
     Fault {

@@ -5,7 +5,7 @@ ghost use Rattle.observer_graph.specs.GraphView.{IsWatcher};
 
 /// How a node takes a notice: a source gets none, a forwarder passes each on, a lazy node is no longer current, and
 /// passes it on where it was current or always forwards, and is not frozen, and a watcher is remembered as told.
-#[derive(Clone, Copy, Debug, PartialEq, Eq)]
+#[derive(Clone, Copy, PartialEq, Eq)]
 pub enum Role {
     Source,
     Forwarder,
@@ -16,7 +16,7 @@ pub enum Role {
 }
 
 /// The flags of a lazy node (QuantLib's `LazyObject`). They are off on every other node.
-#[derive(Clone, Copy, Debug, Default, PartialEq, Eq)]
+#[derive(Clone, Copy, Default)]
 pub struct Flags {
     /// Its value was computed, and no notice has reached it since (`calculated_`).
     pub current: bool,
@@ -27,7 +27,7 @@ pub struct Flags {
 }
 
 /// A live node.
-#[derive(Clone, Copy, Debug, PartialEq, Eq)]
+#[derive(Clone, Copy)]
 pub struct Node {
     pub role: Role,
     pub flags: Flags,

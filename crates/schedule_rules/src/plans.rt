@@ -3,7 +3,7 @@ use day_number::{Convention, Day, Tenor};
 use holiday_calendars::Calendar;
 
 /// How the days between start and end are found (QuantLib's DateGeneration).
-#[derive(Clone, Copy, Debug, PartialEq, Eq)]
+#[derive(Clone, Copy, PartialEq, Eq)]
 pub enum Rule {
     /// Steps from the end back.
     Backward,

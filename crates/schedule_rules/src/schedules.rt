@@ -7,7 +7,7 @@ pub const MOST_DAYS: usize = 801;
 
 /// The days of a schedule, each once and in the order of time, from 2 to `MOST_DAYS` of them. Each two that follow each
 /// other are a period.
-#[derive(Debug, Drop)]
+#[derive(Drop)]
 pub struct Schedule {
     pub(crate) days: Vec<Day>,
 }

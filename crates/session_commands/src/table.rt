@@ -3,7 +3,7 @@ ghost use Rattle.std.specs.Prelude.{◌≡◌, length};
 ghost use Rattle.session_commands.specs.Table.{row_of, verb_of, words_in};
 
 /// What a further word of a command is.
-#[derive(Clone, Copy, Debug, PartialEq, Eq)]
+#[derive(Clone, Copy, PartialEq, Eq)]
 pub enum Kind {
     /// No word stands here.
     Nothing,
@@ -30,7 +30,7 @@ pub enum Kind {
 }
 
 /// The command that a first word stands for.
-#[derive(Clone, Copy, Debug, PartialEq, Eq)]
+#[derive(Clone, Copy, PartialEq, Eq)]
 pub enum Verb {
     Quote,
     Sum,

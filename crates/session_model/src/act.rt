@@ -21,7 +21,7 @@ pub enum Act {
 }
 
 /// A change of what is there: it computes nothing, writes no line and gives no name.
-#[derive(Clone, Copy, Debug, PartialEq, Eq)]
+#[derive(Clone, Copy)]
 pub enum Change {
     /// Gives a quote a value in units of 10^-9, or takes it away.
     Set(ObjId, Option<Rate>),
@@ -49,7 +49,7 @@ pub enum Change {
 
 /// A change that is stored beside what is there, for which memory may be wanting. It computes nothing, writes no line and
 /// gives no name.
-#[derive(Clone, Copy, Debug, PartialEq, Eq)]
+#[derive(Clone, Copy)]
 pub enum Growth {
     /// Gives a member a weight in a composite: the composite, the member, the weight. A weight of 0 takes the member
     /// out.
@@ -61,7 +61,7 @@ pub enum Growth {
 }
 
 /// How a lazy object is priced.
-#[derive(Clone, Copy, Debug, PartialEq, Eq)]
+#[derive(Clone, Copy)]
 pub enum How {
     /// It is asked.
     Ask,

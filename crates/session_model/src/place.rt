@@ -5,7 +5,7 @@ ghost use Rattle.session_model.specs.Place.{takes};
 use desk_terms::{Kind, Wanted};
 
 /// The objects that a command takes in the place of a name.
-#[derive(Clone, Copy, Debug, PartialEq, Eq)]
+#[derive(Clone, Copy)]
 pub enum Place {
     /// What terms may name for this.
     Input(Wanted),

@@ -18,7 +18,7 @@ use yield_run::{YieldStatus, run_yield};
 const ROOM: usize = 100_000;
 
 // Which program a case runs.
-#[derive(Clone, Copy, Debug, PartialEq, Eq)]
+#[derive(Clone, Copy, PartialEq, Eq)]
 enum Tool {
     Bump,
     Curve,

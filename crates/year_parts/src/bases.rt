@@ -5,7 +5,7 @@ ghost use Rattle.year_parts.specs.Basis.{parts_in_day};
 use crate::YearParts;
 
 /// A year of 360, 365 or 366 days, or of 252 business days.
-#[derive(Clone, Copy, Debug, PartialEq, Eq)]
+#[derive(Clone, Copy, PartialEq, Eq)]
 pub enum Basis {
     D360,
     D365,

@@ -1,7 +1,7 @@
 // The ways to count the days between two dates as a fraction of a year.
 
 /// A day counter, as QuantLib names it.
-#[derive(Clone, Copy, Debug, PartialEq, Eq)]
+#[derive(Clone, Copy, PartialEq, Eq)]
 pub enum Counter {
     /// The days between the dates over 360 (`Actual360`).
     Act360,

@@ -7,7 +7,7 @@ use std::marker::Model;
 pub const PARTS_IN_YEAR: i64 = 11_221_560;
 
 /// A year fraction in parts, `PARTS_IN_YEAR` to the year, from 0 to 2 * 10^12 parts.
-#[derive(Clone, Copy, Debug, PartialEq, Eq, PartialOrd, Ord)]
+#[derive(Clone, Copy, PartialEq, Eq, PartialOrd, Ord)]
 pub struct YearParts(pub i64);
 
 impl Model for YearParts {

@@ -5,7 +5,7 @@ ghost use Rattle.yield_run.specs.Named.{place_of_number, place_named};
 use desk_names::{NameId, Names};
 
 // What a name stands for in a market.
-#[derive(Clone, Copy, Debug, PartialEq, Eq)]
+#[derive(Clone, Copy)]
 pub(crate) enum Place {
     // No object has it.
     Nowhere,

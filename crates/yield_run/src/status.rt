@@ -8,7 +8,7 @@ use std::alloc::AllocError;
 use std::fmt;
 
 /// How a call of `run_yield` ended.
-#[derive(Clone, Copy, Debug, PartialEq, Eq)]
+#[derive(Clone, Copy, PartialEq, Eq)]
 pub enum YieldStatus {
     /// The lines were written.
     Done,

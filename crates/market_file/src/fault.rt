@@ -1,6 +1,6 @@
 // Why a market is refused.
 ghost use Rattle.std.specs.Prelude.{◌≡◌};
-ghost use Rattle.market_file.specs.Fault.{fault_at, fault_in};
+ghost use Rattle.market_file.specs.Fault.{fault_at, fault_in, section_text};
 
 use market_tables::{EntryFault, MarketKind, TableFault};
 use std::fmt;
@@ -17,6 +17,21 @@ pub enum Section {
     Fixings,
 }
 
+impl Section {
+    // The word that it prints as.
+    fn word(self) -> &'static str
+        ensures { result.now ≡ section_text self }
+    {
+        match self {
+            Section::Top => "top",
+            Section::Calendars => "calendars",
+            Section::Quotes => "quotes",
+            Section::Objects => "objects",
+            Section::Fixings => "fixings",
+        }
+    }
+}
+
 // A section prints as its word.
 impl fmt::Display for Section {
     ghost use Rattle.std.specs.Prelude.{Some};
@@ -25,13 +40,7 @@ impl fmt::Display for Section {
     ghost output = { λ s. Some (section_text s) };
 
     fn fmt<W: fmt::Write>(&self, f: &mut fmt::Formatter<W>) -> fmt::Result {
-        match self {
-            Section::Top => write!(f, "top"),
-            Section::Calendars => write!(f, "calendars"),
-            Section::Quotes => write!(f, "quotes"),
-            Section::Objects => write!(f, "objects"),
-            Section::Fixings => write!(f, "fixings"),
-        }
+        f.write_str(self.word())
     }
 }
 

@@ -1,5 +1,6 @@
 // What is wrong with a market.
 ghost use Rattle.std.specs.Prelude.{◌≡◌};
+ghost use Rattle.market_tables.specs.MarketKind.{kind_text};
 
 use std::alloc::{AllocError, AllocFailed};
 use std::fmt;
@@ -49,6 +50,35 @@ pub enum MarketKind {
     Limit,
 }
 
+impl MarketKind {
+    // The word that it prints as.
+    fn word(self) -> &'static str
+        ensures { result.now ≡ kind_text self }
+    {
+        match self {
+            MarketKind::TooLong => "toolong",
+            MarketKind::Toml => "toml",
+            MarketKind::Key => "key",
+            MarketKind::Name => "name",
+            MarketKind::Taken => "taken",
+            MarketKind::Unknown => "unknown",
+            MarketKind::Kind => "kind",
+            MarketKind::Number => "number",
+            MarketKind::Date => "date",
+            MarketKind::Choice => "choice",
+            MarketKind::Weekend => "weekend",
+            MarketKind::Parts => "parts",
+            MarketKind::Plan => "plan",
+            MarketKind::Range => "range",
+            MarketKind::Flows => "flows",
+            MarketKind::Exists => "exists",
+            MarketKind::Header => "header",
+            MarketKind::Record => "record",
+            MarketKind::Limit => "limit",
+        }
+    }
+}
+
 // A fault prints as its word.
 impl fmt::Display for MarketKind {
     ghost use Rattle.std.specs.Prelude.{Some};
@@ -57,27 +87,7 @@ impl fmt::Display for MarketKind {
     ghost output = { λ k. Some (kind_text k) };
 
     fn fmt<W: fmt::Write>(&self, f: &mut fmt::Formatter<W>) -> fmt::Result {
-        match self {
-            MarketKind::TooLong => write!(f, "toolong"),
-            MarketKind::Toml => write!(f, "toml"),
-            MarketKind::Key => write!(f, "key"),
-            MarketKind::Name => write!(f, "name"),
-            MarketKind::Taken => write!(f, "taken"),
-            MarketKind::Unknown => write!(f, "unknown"),
-            MarketKind::Kind => write!(f, "kind"),
-            MarketKind::Number => write!(f, "number"),
-            MarketKind::Date => write!(f, "date"),
-            MarketKind::Choice => write!(f, "choice"),
-            MarketKind::Weekend => write!(f, "weekend"),
-            MarketKind::Parts => write!(f, "parts"),
-            MarketKind::Plan => write!(f, "plan"),
-            MarketKind::Range => write!(f, "range"),
-            MarketKind::Flows => write!(f, "flows"),
-            MarketKind::Exists => write!(f, "exists"),
-            MarketKind::Header => write!(f, "header"),
-            MarketKind::Record => write!(f, "record"),
-            MarketKind::Limit => write!(f, "limit"),
-        }
+        f.write_str(self.word())
     }
 }
 

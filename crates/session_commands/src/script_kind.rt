@@ -1,4 +1,7 @@
 // What is wrong with a script.
+ghost use Rattle.std.specs.Prelude.{◌≡◌};
+ghost use Rattle.session_commands.specs.ScriptKind.{kind_text};
+
 use std::fmt;
 
 /// What is wrong with a line of a script. Within a line the first that holds is told, in this order; `Name`, `Number`,
@@ -35,6 +38,30 @@ pub enum ScriptKind {
     NoAction,
 }
 
+impl ScriptKind {
+    // The word that it prints as.
+    fn word(self) -> &'static str
+        ensures { result.now ≡ kind_text self }
+    {
+        match self {
+            ScriptKind::TooLong => "toolong",
+            ScriptKind::Byte => "byte",
+            ScriptKind::Word => "word",
+            ScriptKind::Count => "count",
+            ScriptKind::Nested => "nested",
+            ScriptKind::End => "end",
+            ScriptKind::Name => "name",
+            ScriptKind::Twice => "twice",
+            ScriptKind::Number => "number",
+            ScriptKind::Date => "date",
+            ScriptKind::Choice => "choice",
+            ScriptKind::Names => "names",
+            ScriptKind::Unclosed => "unclosed",
+            ScriptKind::NoAction => "noaction",
+        }
+    }
+}
+
 // A fault prints as its word.
 impl fmt::Display for ScriptKind {
     ghost use Rattle.std.specs.Prelude.{Some};
@@ -43,21 +70,6 @@ impl fmt::Display for ScriptKind {
     ghost output = { λ k. Some (kind_text k) };
 
     fn fmt<W: fmt::Write>(&self, f: &mut fmt::Formatter<W>) -> fmt::Result {
-        match self {
-            ScriptKind::TooLong => f.write_str("toolong"),
-            ScriptKind::Byte => f.write_str("byte"),
-            ScriptKind::Word => f.write_str("word"),
-            ScriptKind::Count => f.write_str("count"),
-            ScriptKind::Nested => f.write_str("nested"),
-            ScriptKind::End => f.write_str("end"),
-            ScriptKind::Name => f.write_str("name"),
-            ScriptKind::Twice => f.write_str("twice"),
-            ScriptKind::Number => f.write_str("number"),
-            ScriptKind::Date => f.write_str("date"),
-            ScriptKind::Choice => f.write_str("choice"),
-            ScriptKind::Names => f.write_str("names"),
-            ScriptKind::Unclosed => f.write_str("unclosed"),
-            ScriptKind::NoAction => f.write_str("noaction"),
-        }
+        f.write_str(self.word())
     }
 }

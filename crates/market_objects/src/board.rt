@@ -23,7 +23,6 @@ const MOST_OBJECTS: usize = 4096;
 pub type MadeList = Vec<(NameId, Terms)>;
 
 /// The names, the kinds and the terms of the objects so far, the calendars, and the version of the format.
-#[derive(Drop)]
 pub struct Board {
     names: Names,
     kinds: Vec<Kind>,
@@ -31,6 +30,20 @@ pub struct Board {
     calendars: Calendars,
     version: Version,
     alloc: Global,
+}
+
+// Who lets a board go calls this at each exit, and does not let its parts go one by one.
+impl Drop for Board {
+    fn drop(self) {
+        let Board {
+            names: _,
+            kinds: _,
+            made: _,
+            calendars: _,
+            version: _,
+            alloc: _,
+        } = self;
+    }
 }
 
 impl Model for Board {
@@ -145,6 +158,14 @@ impl Board {
         ensures made { result.1.items ≡ self.made }
         ensures range { HaveFlowsInRange result.1.items }
     {
-        (self.names, self.made)
+        let Board {
+            names,
+            kinds: _,
+            made,
+            calendars: _,
+            version: _,
+            alloc: _,
+        } = self;
+        (names, made)
     }
 }

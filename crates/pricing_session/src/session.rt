@@ -31,11 +31,21 @@ use std::marker::Model;
 use watch_rounds::Picker;
 
 /// A session with the bench by which it prices. What is stored in it was computed by that bench.
-#[derive(Drop)]
 pub struct PricingSession<P: Picker + Drop, B: Bench + Drop> {
     session: WatchedSession<P>,
     bench: B,
     actions: usize,
+}
+
+// Who lets a session go calls this at each exit, and does not let its parts go one by one.
+impl<P: Picker + Drop, B: Bench + Drop> Drop for PricingSession<P, B> {
+    fn drop(self) {
+        let PricingSession {
+            session: _,
+            bench: _,
+            actions: _,
+        } = self;
+    }
 }
 
 impl<P: Picker + Drop, B: Bench + Drop> Model for PricingSession<P, B> {

@@ -1,6 +1,6 @@
 -- A composite has no more parts than there are live objects.
 use Rattle.std.proofs.Common.{◌≡◌, ◌≢◌, ◌≤◌, ℕ, true, false, List, [], ◌∷◌, length, Some, ℤ, refl, ◌∙◌, ap, subst, arith}
-use Rattle.std.specs.Prelude.{◌==◌, slice_index_or, slice_set, unsigned_abs}
+use Rattle.std.specs.Prelude.{slice_index_or, slice_set, unsigned_abs}
 use Rattle.std.proofs.lemmas.Bool.{eqb-false, or_parts}
 use Rattle.std.proofs.lemmas.List.{get_or-set_other}
 use Rattle.desk_terms.specs.declared.kind.Wanted.TheVariants.{Member}

@@ -37,7 +37,6 @@ use std::alloc::{AllocError, Global};
 use std::marker::Model;
 
 /// A session: its objects with their names, the values that are stored, and the actions of its script.
-#[derive(Drop)]
 pub struct Session {
     desk: Desk,
     names: Names,
@@ -50,6 +49,23 @@ pub struct Session {
     live: usize,
     stopped: bool,
     alloc: Global,
+}
+
+// Who lets a session go calls this at each exit, and does not let its parts go one by one.
+impl Drop for Session {
+    fn drop(self) {
+        let Session {
+            desk: _,
+            names: _,
+            of_object: _,
+            actions: _,
+            watching: _,
+            of_name: _,
+            live: _,
+            stopped: _,
+            alloc: _,
+        } = self;
+    }
 }
 
 impl Model for Session {

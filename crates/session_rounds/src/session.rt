@@ -17,12 +17,23 @@ use std::marker::Model;
 use watch_rounds::{Picker, Rounds};
 
 /// A session whose watchers run their actions, and what picks who of the due runs next.
-#[derive(Drop)]
 pub struct WatchedSession<P> {
     pub(crate) session: Session,
     pub(crate) rounds: Rounds,
     pub(crate) picker: P,
     pub(crate) alloc: Global,
+}
+
+// Who lets a session go calls this at each exit, and does not let its parts go one by one.
+impl<P: Drop> Drop for WatchedSession<P> {
+    fn drop(self) {
+        let WatchedSession {
+            session: _,
+            rounds: _,
+            picker: _,
+            alloc: _,
+        } = self;
+    }
 }
 
 impl<P> Model for WatchedSession<P> {

@@ -12,6 +12,8 @@ unfolding digits civil_number date_in_year date_after date_of decimal_text day_p
 returns c = record {
   year = refl;
   start = refl;
+  twentieth = refl;
+  hundredth = refl;
   step = refl;
   curve = refl;
 }

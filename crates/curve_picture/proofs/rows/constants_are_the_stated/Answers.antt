@@ -1,0 +1,21 @@
+use Rattle.std.proofs.Common.{refl}
+use Rattle.std.specs.Fmt.{digits}
+use Rattle.day_number.specs.Day.{civil_number, date_in_year, date_after, date_of}
+use Rattle.curve_picture.specs.Svg.{heading_text}
+use Rattle.curve_picture.proofs.rows.constants_are_the_stated.Goals as goal
+
+pub returns : goal.returns
+unfolding digits civil_number date_in_year date_after date_of heading_text
+returns c = record {
+  heading = refl;
+  frame = refl;
+  footer = refl;
+  left = refl;
+  width = refl;
+  foot = refl;
+  height = refl;
+  steps = refl;
+  most_step = refl;
+  years = refl;
+  most_years = refl;
+}

@@ -5,6 +5,7 @@
 #![tactic(auto)]
 
 mod lines;
+mod rows;
 mod tally;
 
 pub use lines::summary;

@@ -4,7 +4,7 @@
 //! `Quotes`. A clause asks what stands at a number by `entry`, and speaks of a changed board by `IsPut`.
 #![tactic(auto)]
 
-ghost use Rattle.std.specs.Prelude.{◌≡◌, ◌≢◌, ◌≤◌, ◌<◌, ℕ, length, None, Some, IsOk, OnOk, OnErr, not};
+ghost use Rattle.std.specs.Prelude.{◌≡◌, ◌≢◌, ◌≤◌, ◌<◌, ℕ, length, None, Some, IsOk, OnOk, not};
 ghost use Rattle.quote_board.specs.Board.{entry, is_equal, IsPut, IsSame};
 
 use desk_names::ObjId;
@@ -53,17 +53,6 @@ impl Quotes {
         ensures { IsPut quote (Some value) self.old self.new }
     {
         self.entries[quote.place()] = Some(value);
-    }
-
-    /// Writes a quote with its value or with none. Where memory is wanting, the board stays as it was.
-    pub fn add(&mut self, quote: ObjId, value: Option<Rate>) -> Result<(), AllocError>
-        ensures added { OnOk result (IsPut quote (Some value) self.old self.new) }
-        ensures there { entry self.old quote ≢ None → IsOk result }
-        ensures same { OnErr result (IsSame self.old self.new) }
-    {
-        self.reserve(quote)?;
-        self.put(quote, value);
-        Ok(())
     }
 
     /// Sets or unsets a quote. Answers whether its value changed.

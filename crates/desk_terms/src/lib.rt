@@ -21,7 +21,7 @@ pub use bench::{Bench, BenchFault};
 pub use cause::Cause;
 pub use curve_terms::{CurveStart, CurveTerms, Helper, HelperList};
 pub use flow_terms::{
-    FixFault, Fixings, FlowTerm, FlowTermList, FlowTerms, IndexTerms, IndexUse, expired,
+    FixFault, Fixings, FlowTerm, FlowTermList, FlowTerms, IndexTerms, IndexUse, Period, expired,
     needs_forecast,
 };
 pub use job::Job;

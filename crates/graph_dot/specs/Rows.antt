@@ -7,7 +7,7 @@ use Rattle.graph_dot.specs.declared.node.Finding.{Finding}
 use Rattle.graph_dot.specs.declared.node.Finding.TheVariants.{Unasked, NotCurrent, Kept, Missing}
 use Rattle.graph_dot.specs.declared.node.Shown.{Shown}
 use Rattle.graph_dot.specs.declared.node.Shown.TheVariants as shown
-use Rattle.graph_dot.specs.Dot.{node_text, edges_text}
+use Rattle.graph_dot.specs.Dot.{node_text, edges_text, graph_text}
 use Rattle.graph_dot.specs.declared.node.GraphNode.{GraphNode}
 
 abbrev pub five_names : List (List ℕ)
@@ -43,3 +43,5 @@ pub record AreDrawn : Type 0 where
   pub arrows : edges_text five_names five_objects
       (record { observer = 2; subject = 1; is_registration = false } ∷ record { observer = 4; subject = 2; is_registration = true } ∷ []) ≡
       codes "  \"s\" -> \"q\";\n  \"w\" -> \"s\" [style=dashed];\n"
+  pub empty : graph_text five_names five_objects [] [] ≡
+      codes "// An arrow goes from an object to what it observes; that of a registration is dashed.\n// Ellipses are sources, hexagons pass notices on, boxes are priced, dotted octagons are watchers.\n// A box is green where its value is fresh, grey where it is not current, blue where it is frozen, orange where it is late,\n// yellow where something beneath it is held, red where it is held and has no value.\n// A double border is a deferred source: it changed, and has told nobody yet.\ndigraph session {\n  rankdir=LR;\n  node [fontname=\"sans-serif\", fontsize=11, style=filled, fillcolor=white];\n  edge [arrowsize=0.7];\n}\n"

@@ -214,14 +214,6 @@ impl Edges {
         first_at(&self.nodes, Side::Observer, node)
     }
 
-    /// The next pair with the same observer, if there is one.
-    pub fn next_subject(&self, edge: EdgeId) -> Option<EdgeId>
-        requires { IsThere self.now edge }
-        ensures { GoesOn Observer self.now.slots edge result }
-    {
-        self.slots[edge.key()].observer.after
-    }
-
     /// The subject and the observer of a pair.
     pub fn ends(&self, edge: EdgeId) -> (ObjId, ObjId)
         requires { IsThere self.now edge }

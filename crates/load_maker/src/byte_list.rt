@@ -1,5 +1,5 @@
 // The bytes of a text.
-ghost use Rattle.std.specs.Prelude.{◌≡◌};
+ghost use Rattle.std.specs.Prelude.{◌≡◌, ◌<◌, length, slice_get, Some};
 
 use std::marker::Model;
 
@@ -23,6 +23,21 @@ impl ByteList {
         ensures { result ≡ bytes.items }
     {
         ByteList { bytes }
+    }
+
+    /// How many bytes there are.
+    pub fn len(&self) -> usize
+        ensures { result ≡ length self.now }
+    {
+        self.bytes.len()
+    }
+
+    /// The byte at a place, counted from 0.
+    pub fn get(&self, at: usize) -> &u8
+        requires { at < length self.now }
+        ensures { slice_get self.now at ≡ Some result.now }
+    {
+        &self.bytes[at]
     }
 
     /// The bytes.

@@ -1,0 +1,49 @@
+//! Reads scripts, prints them, and reads and prints what was printed: prints each case that differs from what an
+//! independent model prints, and how many agree. An answer of want of memory is a difference.
+#![tactic(auto)]
+
+use desk_names::Names;
+use session_lang::{print_script, read_script};
+use std::alloc::Global;
+use std::{fs, io};
+
+// A line `==` stands between two cases. A case is a script, a line `--`, and what it prints as.
+fn main(rt: HostRuntime) -> io::Result<()> {
+    let text = fs::read_to_string(&rt, "scripts")?;
+    let mut agree = 0u32;
+    let mut differ = 0u32;
+    for case in text.split("==\n") {
+        if agrees(rt.alloc(), case) {
+            agree = agree.saturating_add(1);
+        } else {
+            differ = differ.saturating_add(1);
+            println!(rt; "this differs: {case}")?;
+        }
+    }
+    println!(rt; "scripts: {agree} agree, {differ} differ")
+}
+
+// Whether the script of a case prints as the case says, and what it prints as prints as itself.
+fn agrees(alloc: Global, case: &str) -> bool {
+    match case.split_once("--\n") {
+        Some((script, text)) => prints_as(alloc, script, text) && prints_as(alloc, text, text),
+        None => false,
+    }
+}
+
+// Whether a script prints as a text. One that has a fault does not.
+fn prints_as(alloc: Global, script: &str, text: &str) -> bool {
+    match printed(alloc, script) {
+        Some(bytes) => bytes.as_slice() == text.as_bytes(),
+        None => false,
+    }
+}
+
+// What a script prints as.
+fn printed(alloc: Global, script: &str) -> Option<Vec<u8>> {
+    let mut names = Names::new(alloc);
+    let script = read_script(alloc, script.as_bytes(), &mut names).ok()?;
+    let mut out = Vec::new(alloc);
+    print_script(alloc, &script, &names, &mut out).ok()?;
+    Some(out)
+}

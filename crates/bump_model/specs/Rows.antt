@@ -1,6 +1,6 @@
 -- Small sessions that are worked through by hand: each rung of a ladder, the calls of the bench that it makes, and the
 -- market behind it.
-use Rattle.std.specs.Prelude.{◌≡◌, ◌^◌, ◌*◌, ℕ, true, false, [], ◌∷◌, length, ℤ, pos, neg_ℤ, Option, Some, None, Ok, Err}
+use Rattle.std.specs.Prelude.{◌≡◌, ◌^◌, ◌*◌, ◌-◌, ℕ, true, false, [], ◌∷◌, length, ℤ, pos, neg_ℤ, Option, Some, None, Ok, Err}
 use Rattle.desk_terms.specs.declared.terms.Terms.TheVariants.{Quote, Derived, Stock, Flows}
 use Rattle.desk_terms.specs.declared.cause.Cause.TheVariants.{NoEngine, TooLarge}
 use Rattle.flow_terms.specs.declared.flows.FlowTerm.TheVariants.{Known}
@@ -52,7 +52,18 @@ pub record IsBeside : Type 0 where
 abbrev pub at_limit : State
 at_limit = made (Stock 1) (quoted (Some (pos (10 ^ 18))) day_0)
 
+-- It is a bump below the limit, or a bump above the lower one.
+abbrev pub below_limit : State
+below_limit = made (Stock 1) (quoted (Some (pos (10 ^ 18 - 100_000))) day_0)
+
+abbrev pub above_limit : State
+above_limit = made (Stock 1) (quoted (Some (neg_ℤ (pos (10 ^ 18 - 100_000)))) day_0)
+
 pub record IsAtLimit : Type 0 where
+  pub below : rungs_of plain below_limit.market 2 (pos (10 ^ 18 - 100_000)) (1 ∷ []) ≡
+      up_down (Some 1) (pos 100_000) (lost 100_000) ∷ up_down None (pos 100_000) (lost 100_000) ∷ []
+  pub above : rungs_of plain above_limit.market 2 (neg_ℤ (pos (10 ^ 18 - 100_000))) (1 ∷ []) ≡
+      up_down (Some 1) (pos 100_000) (lost 100_000) ∷ up_down None (pos 100_000) (lost 100_000) ∷ []
   pub rungs : rungs_of plain at_limit.market 2 (pos (10 ^ 18)) (1 ∷ []) ≡
       rung (Some 1) Limit (Moved (lost 100_000)) ∷ rung None Limit (Moved (lost 100_000)) ∷ []
   pub runs : length (ladder_asking plain 2 (1 ∷ []) at_limit).calls ≡ 3

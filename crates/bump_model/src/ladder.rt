@@ -4,6 +4,7 @@ use desk_terms::Cause;
 use fixed_amount::Amount;
 use item_lists::Items;
 use std::alloc::{AllocError, AllocFailed};
+use thiserror::Error;
 
 /// What an instrument gains where quotes are moved one way.
 #[derive(Clone, Copy)]
@@ -43,11 +44,12 @@ pub struct Ladder {
 }
 
 /// Why there is no ladder.
-#[derive(Clone, Copy)]
+#[derive(Clone, Copy, Debug, Error, PartialEq, Eq)]
 pub enum LadderFault {
     /// The instrument is worth nothing where no quote is moved, for this cause; the bench was called so many times.
+    #[error("the instrument is worth nothing")]
     Base { cause: Cause, runs: u128 },
-    /// Memory ran out.
+    #[error("out of memory")]
     NoMemory,
 }
 

@@ -13,6 +13,8 @@ use Rattle.bump_model.proofs.rows.a_limit_is_worked_through.Goals as goal
 pub returns : goal.returns
 unfolding below_by input_by input_at answer_by fresh is_frozen is_source is_late held_outcome seen_outcome now visit_by runs stored asked forwards told tell made notified revised quote_set with_values all_set rung_asking quotes_asking ladder_asking
 returns c = record {
+  below = refl;
+  above = refl;
   rungs = refl;
   runs = refl;
   market = refl;

@@ -1,5 +1,5 @@
-//! A list of items in the order in which they were pushed, which keeps the allocator that it was made with. Each list
-//! of the project's public calls is one of these under a name of its own, as `DayList` is.
+//! A list of items in the order in which they were pushed, which keeps the allocator that it was made with. Most lists
+//! of the project's public calls are these under names of their own, as `DayList` is.
 //!
 //! A contract sees an `Items<T>` as the list of its items, each as a contract sees it.
 #![tactic(auto)]

@@ -13,7 +13,7 @@ pub enum FileFault {
     /// There is no such file.
     #[error("no file")]
     Absent,
-    /// It has more than `desk_edge::MOST` bytes.
+    /// It has more than `text_limits::MOST_BYTES` bytes.
     #[error("the file is too long")]
     TooLong,
     /// A call of the shelf failed.

@@ -10,7 +10,8 @@ use desk_edge::{Shelf, read_whole};
 use std::alloc::Global;
 
 /// The bytes of the file at a path, or why it was not read whole: there is no such file, it has more than
-/// `desk_edge::MOST` bytes, a call of the shelf failed, or memory ran out. The shelf's counts say which calls were made.
+/// `text_limits::MOST_BYTES` bytes, a call of the shelf failed, or memory ran out. The shelf's counts say which calls were
+/// made.
 pub fn load_file<H: Shelf>(alloc: Global, path: &str, shelf: &mut H) -> Result<Vec<u8>, FileFault>
     ensures { Reads file_end (λ text. text.items) (file_of path.now) (file_calls path.now)
         (seen (H.contents shelf.old) (H.faults shelf.old) (H.misses shelf.old) (H.calls shelf.old))

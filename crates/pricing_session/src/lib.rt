@@ -1,5 +1,5 @@
-//! A session with the bench by which it prices, ready for the commands of a script. No call of it has a premise, so a
-//! program that uses it has nothing to prove.
+//! A session with the bench by which it prices, ready for the commands of a script. `open` wants a market as `read_market`
+//! gives it; no other call has a premise, so a program that uses it has nothing else to prove.
 //! Offers `PricingSession`, `StepFault`, `ChangeFault`, and `session_for`, which makes a session without a bench.
 #![tactic(auto)]
 

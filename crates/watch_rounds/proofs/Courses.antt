@@ -11,10 +11,10 @@ use Rattle.watch_rounds.specs.Course.{Happening, Tell, Start, Leave, after, MayH
 use Rattle.watch_rounds.proofs.Stays.{view_of, round_empty, round_with, round_without, round_over, round_after, may_run, ran_is, told_due, told_first, told_again}
 use Rattle.watch_rounds.proofs.Tallies.{read_blank}
 
-abbrev AreRound : Round → ℕ → Type 0
+abbrev pub AreRound : Round → ℕ → Type 0
 AreRound round nodes = IsRound (view_of round.due round.tallies nodes)
 
-runs_at : Round → ℕ → ℕ
+unfoldable pub runs_at : Round → ℕ → ℕ
 runs_at round name = (tally_at round name).runs
 
 -- a change of one name's tally that keeps its runs
@@ -29,7 +29,7 @@ same_runs tallies told name low = elim (cases_eq name told) [
 ]
 
 -- what holds of a round holds after a notice too, and no run begins
-told : (nodes watcher name : ℕ) (round : Round) → MayHappen nodes (Tell watcher name) round → AreRound round nodes
+pub told : (nodes watcher name : ℕ) (round : Round) → MayHappen nodes (Tell watcher name) round → AreRound round nodes
     → AreRound (with_notice watcher name round) nodes
     × ((other : ℕ) → runs_at (with_notice watcher name round) other ≡ runs_at round other)
 unfolding runs_at
@@ -63,7 +63,7 @@ one_run tallies ran name low = elim (cases_eq ran name) [
     more n = omega arith
 
 -- and after a run
-ran : (nodes at : ℕ) (round : Round) → AreRound round nodes → AreRound (with_run at round) nodes
+pub ran : (nodes at : ℕ) (round : Round) → AreRound round nodes → AreRound (with_run at round) nodes
     × ((name : ℕ) → runs_at (with_run at round) name ≡ runs_at round name + starts (Start at) name round)
 unfolding runs_at with_run
 ran nodes at round stands = elim (slice_get_cases round.due at).1 [

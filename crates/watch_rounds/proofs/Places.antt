@@ -1,7 +1,7 @@
 -- Lists of due watchers, and edits of them.
 use Rattle.std.proofs.Common.{◌≡◌, ◌≢◌, ℕ, zero, suc, ◌+◌, ◌<◌, ◌≤◌, Bool, true, false, List, [], ◌∷◌, ◌++◌, length, drop, take, refl, sym, ◌∙◌, ap, subst, arith, get_or, nat_lt}
 use Rattle.std.specs.Prelude.{◌==◌, if◌then◌else◌}
-use Rattle.std.specs.List.{insert, remove}
+use Rattle.std.specs.List.{insert, remove, filter}
 use Rattle.std.proofs.lemmas.Bool.{cond_both, ltb-true, ltb-false, eqb-true, eqb-false, lt-ltb, le-ltb, ne_eqb}
 use Rattle.watch_rounds.specs.declared.due.DueWatcher.{DueWatcher}
 use Rattle.watch_rounds.specs.Due.{with_due, without, AreAll, AreInOrder, IsRising, AreUnlike, IsOnly, IsPlace, is_at}
@@ -45,6 +45,23 @@ pub all_removed : (P : DueWatcher → Type 0) (due : List DueWatcher) (at : ℕ)
 all_removed P [] at low all = absurd (omega arith)
 all_removed P (first ∷ rest) zero low all = all.1
 all_removed P (first ∷ rest) (suc at) low all = (all.0, all_removed P rest at (omega arith) all.1)
+
+-- of those that a test keeps
+pub all_filtered : (P Q : DueWatcher → Type 0) (test : DueWatcher → Bool)
+    → ((one : DueWatcher) → P one → test one ≡ true → Q one) → (due : List DueWatcher) → AreAll P due
+    → AreAll Q (filter test due)
+all_filtered P Q test each [] all = tt
+all_filtered P Q test each (first ∷ rest) all =
+    cond_both (test first) (first ∷ filter test rest) (filter test rest) (AreAll Q)
+    (λ e. (each first all.0 e, all_filtered P Q test each rest all.1)) (λ e. all_filtered P Q test each rest all.1)
+
+pub order_filtered : (R : DueWatcher → DueWatcher → Type 0) (test : DueWatcher → Bool) (due : List DueWatcher)
+    → AreInOrder R due → AreInOrder R (filter test due)
+order_filtered R test [] all = tt
+order_filtered R test (first ∷ rest) all =
+    cond_both (test first) (first ∷ filter test rest) (filter test rest) (AreInOrder R)
+    (λ e. (all_filtered (R first) (R first) test (λ one is e. is) rest all.0, order_filtered R test rest all.1))
+    (λ e. order_filtered R test rest all.1)
 
 pub order_without : (R : DueWatcher → DueWatcher → Type 0) (watcher : ℕ) (due : List DueWatcher) → AreInOrder R due
     → AreInOrder R (without watcher due)

@@ -2,15 +2,17 @@
 use Rattle.std.proofs.Common.{◌≡◌, ◌≢◌, inl, inr, ℕ, zero, suc, ◌+◌, ◌-◌, ◌<◌, ◌≤◌, Bool, true, false, List, [], ◌∷◌, ◌++◌, length, refl, sym, ◌∙◌, ap, subst, arith, get_or, replicate, Option, Some, None}
 use Rattle.std.specs.Prelude.{slice_set, slice_get, nat_lt, max, ◌==◌}
 use Rattle.std.proofs.lemmas.List.{get_or_default}
-use Rattle.std.specs.List.{remove}
+use Rattle.std.specs.List.{remove, filter}
 use Rattle.std.proofs.lemmas.Bool.{cases_eq, lt-ltb, le-ltb}
 use Rattle.std.proofs.lemmas.List.{get_or-set_same, get_or-set_other, length-set, length-append}
 use Rattle.watch_rounds.specs.declared.due.DueWatcher.{DueWatcher}
 use Rattle.watch_rounds.specs.declared.tally.Tally.{Tally}
+use Rattle.watch_rounds.specs.declared.notice.Notice.{Notice}
+use Rattle.watch_rounds.specs.declared.notice.Notice.TheVariants as notices
 use Rattle.watch_rounds.specs.Due.{with_due, without, AreAll, AreUnlike, IsOnly}
-use Rattle.watch_rounds.specs.Round.{Round, RoundsView, IsRound, MayRun, blank, one_more, with_run, with_notice, notice_of, tally_at, watcher_at, watcher_of, runs_left, left_in}
-use Rattle.std.proofs.lemmas.Option.{slice_get_read}
-use Rattle.watch_rounds.proofs.Places.{all_map, all_both, all_at, all_with, all_without, all_removed, order_without, order_removed, rising_with, unlike_with, removed_unlike, rising_room}
+use Rattle.watch_rounds.specs.Round.{Round, RoundsView, IsRound, MayRun, blank, one_more, with_run, run_of, with_notice, with_notice_as, notice_of, tally_at, watcher_at, watcher_of, runs_left, left_in}
+use Rattle.std.proofs.lemmas.Option.{slice_get_read, slice_get_within}
+use Rattle.watch_rounds.proofs.Places.{all_map, all_both, all_at, all_with, all_without, all_removed, all_filtered, order_without, order_filtered, order_removed, rising_with, unlike_with, removed_unlike, rising_room}
 use Rattle.watch_rounds.proofs.Tallies.{tally_grown}
 
 abbrev pub view_of : List DueWatcher → List Tally → ℕ → RoundsView
@@ -57,6 +59,56 @@ round_without due tallies nodes watcher round = record {
   due = all_without (MayRun (view_of due tallies nodes)) watcher due round.due;
   most = round.most;
 }
+
+pub round_filtered : (due : List DueWatcher) (tallies : List Tally) (nodes : ℕ) (test : DueWatcher → Bool)
+    → IsRound (view_of due tallies nodes) → IsRound (view_of (filter test due) tallies nodes)
+round_filtered due tallies nodes test round = record {
+  rising = order_filtered (λ one later. one.watcher < later.watcher) test due round.rising;
+  unlike = order_filtered (λ one later. one.name ≢ later.name) test due round.unlike;
+  due = all_filtered (MayRun (view_of due tallies nodes)) (MayRun (view_of due tallies nodes)) test (λ one may e. may) due round.due;
+  most = round.most;
+}
+
+-- there is more room
+pub round_roomier : (due : List DueWatcher) (tallies : List Tally) (nodes more : ℕ) → nodes ≤ more
+    → IsRound (view_of due tallies nodes) → IsRound (view_of due tallies more)
+round_roomier due tallies nodes more le round = record {
+  rising = round.rising;
+  unlike = round.unlike;
+  due = all_map (MayRun (view_of due tallies nodes)) (MayRun (view_of due tallies more))
+      (λ one may. ((let low = may.0 in omega arith), may.1, may.2)) due round.due;
+  most = round.most;
+}
+
+-- a notice and a run count the same names, and what holds of who is due holds then
+noted_long : (n : Notice) (watcher name : ℕ) (round : Round) → length (with_notice_as n watcher name round).tallies ≡ length round.tallies
+noted_long notices.Due watcher name round = refl
+noted_long notices.OverFirst watcher name round = length-set round.tallies name (record (tally_at round name) { over = true })
+noted_long notices.OverAgain watcher name round = refl
+
+pub notice_long : (watcher name : ℕ) (round : Round) → length (with_notice watcher name round).tallies ≡ length round.tallies
+unfolding with_notice
+notice_long watcher name round = noted_long (notice_of (tally_at round name)) watcher name round
+
+noted_all : (Q : DueWatcher → Type 0) (n : Notice) (watcher name : ℕ) (round : Round) → AreAll Q round.due
+    → Q (record { watcher = watcher; name = name }) → AreAll Q (with_notice_as n watcher name round).due
+noted_all Q notices.Due watcher name round all one = all_with Q (record { watcher = watcher; name = name }) round.due all one
+noted_all Q notices.OverFirst watcher name round all one = all
+noted_all Q notices.OverAgain watcher name round all one = all
+
+pub notice_all : (Q : DueWatcher → Type 0) (watcher name : ℕ) (round : Round) → AreAll Q round.due
+    → Q (record { watcher = watcher; name = name }) → AreAll Q (with_notice watcher name round).due
+unfolding with_notice
+notice_all Q watcher name round all one = noted_all Q (notice_of (tally_at round name)) watcher name round all one
+
+pub ran_long : (o : Option DueWatcher) (at : ℕ) (round : Round) → length (run_of o at round).tallies ≡ length round.tallies
+ran_long None at round = refl
+ran_long (Some entry) at round = length-set round.tallies entry.name (one_more (tally_at round entry.name))
+
+pub ran_all : (Q : DueWatcher → Type 0) (o : Option DueWatcher) (at : ℕ) (round : Round) → slice_get round.due at ≡ o → AreAll Q round.due
+    → AreAll Q (run_of o at round).due
+ran_all Q None at round is all = all
+ran_all Q (Some entry) at round is all = all_removed Q round.due at (slice_get_within round.due at entry is) all
 
 -- another name is counted as before
 tally_other : (tallies : List Tally) (name other : ℕ) (tally : Tally) → other ≢ name

@@ -30,9 +30,9 @@ moments_of_all m (command ∷ commands) r = moment_of m r command ∷ moments_of
 abbrev pub moments_of_run : {P : Type 0} → Meaning P → Running P → List Moment
 moments_of_run m r = moments_of_all m (action_of r.standing (watcher_at (chosen m r) r.round)) (begun m r)
 
-abbrev pub none_unless_due : List DueWatcher → List Moment → List Moment
-none_unless_due [] moments = []
-none_unless_due (entry ∷ due) moments = moments
+abbrev pub none_unless_due : {A : Type 0} → List DueWatcher → List A → List A
+none_unless_due [] items = []
+none_unless_due (entry ∷ due) items = items
 
 -- those of at most n runs
 unfoldable pub moments_of_runs : {P : Type 0} → Meaning P → ℕ → Running P → List Moment

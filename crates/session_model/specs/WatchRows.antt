@@ -4,10 +4,11 @@ use Rattle.watch_rounds.specs.declared.picker.Order.{Order}
 use Rattle.watch_rounds.specs.declared.picker.Order.TheVariants.{First, Last, Seed}
 use Rattle.watch_rounds.specs.Round.{tally_at}
 use Rattle.session_commands.specs.declared.command.Command.{Command}
-use Rattle.session_commands.specs.declared.command.Command.TheVariants.{Quote, Stock, Set, Unset, Freeze, Thaw, Recalc, Forward, Defer, Resume, Watch, Register, Unregister, Drop, Ask}
+use Rattle.session_commands.specs.declared.command.Command.TheVariants.{Quote, Stock, Set, Unset, Today, Freeze, Thaw, Recalc, Forward, Defer, Resume, Watch, Register, Unregister, Drop, Ask}
 use Rattle.session_model.specs.Standing.{start_of}
-use Rattle.session_model.specs.Course.{Running, running}
+use Rattle.session_model.specs.Course.{Running, running, most_runs, round_of}
 use Rattle.session_model.specs.Rounds.{transcript}
+use Rattle.session_model.specs.Ends.{names_of_watchers, names_run_in}
 use Rattle.session_model.specs.Rows.{orders_by_hand, units, with_stock}
 use Rattle.session_model.specs.RoomRows.{left_by}
 
@@ -88,6 +89,22 @@ pub record AreRunEightTimes : Type 0 where
   pub runs : (runs_in sets (set_to_and_fro []) 4 ≡ 8) × (runs_in sets (set_to_and_fro []) 5 ≡ 5)
   pub namesakes : played again First made_again ≡ codes "over w\n"
   pub eight : runs_in again made_again 5 ≡ 8
+
+-- a session of the names `today` and `w` alone, whose watcher moves the evaluation date to and fro, and is registered with it
+abbrev pub two_names : Running Order
+two_names = left_by (running First (start_of (pos 0) (codes "today" ∷ codes "w" ∷ []) ((Today (pos 1) ∷ Today (pos 2) ∷ []) ∷ [])))
+    (Watch 1 0 ∷ Register 1 0 ∷ [])
+
+-- A round has room for 8 runs of each name, and not for one run more: all are run, also where nearly each name is a watcher's.
+pub record AreEnded : Type 0 where
+  pub eight : names_run_in orders_by_hand two_names (Today (pos 5)) ≡ 1 ∷ 1 ∷ 1 ∷ 1 ∷ 1 ∷ 1 ∷ 1 ∷ 1 ∷ []
+  pub over : (round_of orders_by_hand two_names (Today (pos 5))).lines ≡ codes "over w\n"
+  pub ends : (round_of orders_by_hand two_names (Today (pos 5))).next.round.due ≡ []
+  pub most : most_runs two_names ≡ 16
+  pub in_turn : names_run_in orders_by_hand (left_by (some_watchers sets First) (Quote 1 (Some (pos 0)) ∷ Stock 2 1 ∷ Watch 4 0
+      ∷ Watch 5 1 ∷ Register 4 1 ∷ Register 5 1 ∷ [])) (Set 1 (units 5))
+      ≡ 4 ∷ 4 ∷ 5 ∷ 4 ∷ 4 ∷ 5 ∷ 4 ∷ 4 ∷ 5 ∷ 4 ∷ 4 ∷ 5 ∷ 5 ∷ []
+  pub given : names_of_watchers ((Watch 6 0 ∷ Ask 2 ∷ Watch 5 0 ∷ []) ∷ []) (Watch 4 0 ∷ Watch 5 1 ∷ Register 4 1 ∷ []) ≡ 6 ∷ 4 ∷ 5 ∷ []
 
 -- two watchers, of which the first drops both
 abbrev pub drops : List (List Command)

@@ -1,8 +1,8 @@
 // What is proved of whole sessions, for every bench.
+ghost use Rattle.desk_terms.specs.Reading.{Calc};
 ghost use Rattle.session_model.specs.Afresh.{AnswersAreOfTheirMoments, PlainSessionsAreFresh, SessionsBeginUnheld};
-ghost use Rattle.session_model.specs.Ends.{RoundsEnd, EightRunsEach, MoreRunsChangeNothing};
+ghost use Rattle.session_model.specs.Ends.{EveryRoundEnds, EightRunsEach, MoreRunsChangeNothing};
 ghost use Rattle.session_model.specs.Moments.{TranscriptsAreOfMoments};
-ghost use Rattle.watch_rounds.specs.declared.picker.Order.{Order};
 
 use watch_rounds::Picker;
 
@@ -22,10 +22,11 @@ pub fn without_freezing_and_deferral_all_is_fresh<P: Picker>()
     ensures begins { SessionsBeginUnheld }
 {}
 
-/// Every round ends: a run takes one of the runs that are left, of which each name has 8 at first, and more runs than
-/// these change nothing.
-pub fn every_round_ends()
-    ensures ends { RoundsEnd Order }
+/// Every round ends, of every session and whoever picks who of the due runs next: nobody is due after it. In it each name
+/// runs at most 8 times, and there are at most 8 runs for each name that the script gives to watchers. As many runs as are
+/// left are enough, of which each name has 8 at first, and more runs than these change nothing.
+pub fn every_round_ends<P: Picker>()
+    ensures ends { (calc : Calc) → EveryRoundEnds (record { calc = calc; at = P.at; after = P.after }) }
     ensures eight { EightRunsEach }
-    ensures more { MoreRunsChangeNothing Order }
+    ensures more { (calc : Calc) → MoreRunsChangeNothing (record { calc = calc; at = P.at; after = P.after }) }
 {}

@@ -3,7 +3,7 @@
 //!
 //! `Act` with `Change`, `Growth` and `How`, `Place`, `is_quiet`, `MOST_LIVE`, `MOST_NUMBERS`. Words of `specs/`:
 //! `Standing`, `resolve`, `changed`, `pricing_of`, `step`, `Turn`, `turn`, `Running`, `course_of`, `run`, `round_of`, `rounds`, `transcript`,
-//! `calls_of`.
+//! `calls_of`, `moments`, `names_run`, `IsOver`.
 //! Its functions without a body are laws: their contracts are what is proved.
 #![tactic(auto)]
 
@@ -35,5 +35,5 @@ pub use rows::{
 };
 pub use watch_rows::{
     eight_runs_are_worked_through, notices_are_worked_through, picks_are_worked_through,
-    watchers_are_refused_in_order,
+    rounds_are_worked_to_their_end, watchers_are_refused_in_order,
 };

@@ -7,4 +7,5 @@ mod Given
 mod Holding
 mod Names
 pub mod Ends
+pub mod Shown
 pub mod Quieted

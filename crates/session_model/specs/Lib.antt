@@ -12,4 +12,5 @@ pub mod Moments
 pub mod RoomRows
 pub mod Rounds
 pub mod Rows
+pub mod Shows
 pub mod WatchRows

@@ -3,8 +3,17 @@ ghost use Rattle.desk_terms.specs.Reading.{Calc};
 ghost use Rattle.session_model.specs.Afresh.{AnswersAreOfTheirMoments, PlainSessionsAreFresh, SessionsBeginUnheld};
 ghost use Rattle.session_model.specs.Ends.{EveryRoundEnds, EightRunsEach, MoreRunsChangeNothing};
 ghost use Rattle.session_model.specs.Moments.{TranscriptsAreOfMoments};
+ghost use Rattle.session_model.specs.Shows.{EverySessionShows};
 
 use watch_rounds::Picker;
+
+/// What a whole session shows, in one piece: its transcript is the lines of its moments; at each of them an object that is clear
+/// is answered afresh from the market of that moment, or refused as that pricing refuses, and one that is frozen or late by its
+/// last value, or that it has none; and every round ends, in which each name runs at most 8 times, and there are at most 8
+/// runs for each name that the script gives to watchers.
+pub fn every_session_shows<P: Picker>()
+    ensures { (calc : Calc) → EverySessionShows (record { calc = calc; at = P.at; after = P.after }) }
+{}
 
 /// A transcript is the lines of its moments, which are the commands that are done, at the top and in the actions of
 /// watchers. At each moment an ask of an object writes its price afresh from the market of that moment, where neither it

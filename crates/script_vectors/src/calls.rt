@@ -72,8 +72,8 @@ fn agrees(alloc: Global, play: Play, row: &str) -> Result<bool, AllocError> {
 }
 
 // What is seen of a run of the words: the shelf's calls, faults and misses, the sink's calls and faults, how many bytes
-// were written, and the line of the status. Given are, before the words, the most bytes of a read and which call of the
-// shelf fails, the room of the sink, the most bytes of a put and which fails, 0 for none.
+// were written, the exit status, and the line of the status. Given are, before the words, the most bytes of a read and
+// which call of the shelf fails, the room of the sink, the most bytes of a put and which fails, 0 for none.
 fn seen(alloc: Global, play: Play, given: &str) -> Result<Option<String>, AllocError> {
     let parts: Vec<&str> = given.split(' ').collect(alloc)?;
     match parts.as_slice() {
@@ -147,7 +147,7 @@ fn told(
     }
 }
 
-// The counts of shelf and sink, and the status.
+// The counts of shelf and sink, the exit status, and its line, or `done`.
 fn counts(
     alloc: Global,
     shelf: &MemoryShelf,
@@ -156,10 +156,11 @@ fn counts(
 ) -> Result<String, AllocError> {
     let (taken, refused, missed) = (shelf.calls(), shelf.faults(), shelf.misses());
     let (put, failed, written) = (out.calls(), out.faults(), out.bytes().len());
+    let code = status.code();
     if status == Status::Done {
-        return format!(in alloc; "{taken} {refused} {missed} {put} {failed} {written} done");
+        return format!(in alloc; "{taken} {refused} {missed} {put} {failed} {written} {code} done");
     }
-    format!(in alloc; "{taken} {refused} {missed} {put} {failed} {written} {status}")
+    format!(in alloc; "{taken} {refused} {missed} {put} {failed} {written} {code} {status}")
 }
 
 // Words as texts of their own.

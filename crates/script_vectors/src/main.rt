@@ -1,7 +1,7 @@
 //! Runs scripts over the two-line market and over markets of every kind, and compares the bytes with those that an
 //! independent model of the session writes: prints each case that differs, and how many agree.
 //! Then runs one script with each call of the shelf and of the sink failing in turn, and compares how many calls were
-//! made, failed and missed, and how many bytes were written.
+//! made, failed and missed, how many bytes were written, and the exit status with its line.
 #![tactic(auto)]
 
 mod calls;

@@ -12,42 +12,52 @@ use text_limits::MOST_BYTES;
 
 const TEXT: &[u8] = b"[quotes]\nk = 2.5\n";
 
-#[test]
-fn a_file_of_8_mib_is_read(rt: HostRuntime) -> Result<(), Fail> {
-    let alloc = rt.alloc();
-    let mut files = FileList::new(alloc);
-    let path = String::from_str(alloc, "m")?;
-    files.push(MemoryFile::new(path, vec![in alloc; 7u8; MOST_BYTES]?))?;
-    let mut shelf = MemoryShelf::new(files, 1_048_576, CallList::new(alloc));
-    let mut out = Vec::new(alloc);
-    assert_eq!(rt; read_whole(&mut shelf, "m", &mut out), Ok(true));
-    // It is found, given in pieces of 4096 bytes, and seen to end.
-    assert_eq!(rt; shelf.calls(), 2050);
-    Ok(())
+// Ends the test where what is told of does not hold.
+fn holds(rt: &impl Abort, is_so: bool, told: &str) {
+    assert!(rt; is_so, "{told}");
 }
 
 #[test]
-fn the_systems_files_are_read(rt: HostRuntime) -> Result<(), Fail> {
-    const PATH: &str = "desk_edge_file_shelf_test";
-    const LONG_PATH: &str = "desk_edge_file_shelf_long";
-    fs::write(&rt, PATH, TEXT)?;
-    let long = three_pieces(rt.alloc())?;
-    fs::write(&rt, LONG_PATH, long.as_slice())?;
-    let mut shelf = FileShelf::new(rt.clone()?);
-    for (path, wanted, bytes) in [
-        (PATH, Ok(true), TEXT),
-        (LONG_PATH, Ok(true), long.as_slice()),
-        ("desk_edge_no_such_file", Ok(false), b""),
-        ("", Ok(false), b""),
-        (".", Err(ReadFault::Failed), b""),
-        ("desk_edge_file_shelf_test/x", Err(ReadFault::Failed), b""),
-        ("a\0b", Err(ReadFault::Failed), b""),
-    ] {
-        reads(&rt, rt.alloc(), &mut shelf, path, wanted, bytes);
-    }
-    fs::remove_file(&rt, PATH)?;
-    fs::remove_file(&rt, LONG_PATH)?;
+fn a_file_of_8_mib_is_read(rt: HostRuntime) -> Result<(), Fail> {
+    let calls = CallList::new(rt.alloc());
+    let mut shelf = MemoryShelf::new(longest_file(rt.alloc())?, 1_048_576, calls);
+    holds(&rt, is_found(rt.alloc(), &mut shelf, "m"), "it is found");
+    // It is found, given in pieces of 4096 bytes, and seen to end.
+    holds(&rt, shelf.calls() == 2050, "2050 calls are made");
     Ok(())
+}
+
+// A file `m` of as many bytes as a file may have.
+fn longest_file(alloc: Global) -> Result<FileList, AllocError> {
+    let path = String::from_str(alloc, "m")?;
+    let bytes = vec![in alloc; 7u8; MOST_BYTES]?;
+    let mut files = FileList::new(alloc);
+    files.push(MemoryFile::new(path, bytes))?;
+    Ok(files)
+}
+
+// Whether a path is read whole.
+fn is_found<H: Shelf>(alloc: Global, shelf: &mut H, path: &str) -> bool {
+    read_whole(shelf, path, &mut Vec::new(alloc)) == Ok(true)
+}
+
+const SHORT: &str = "desk_edge_file_shelf_test";
+
+const LONG: &str = "desk_edge_file_shelf_long";
+
+#[test]
+fn the_systems_files_are_read(rt: HostRuntime) -> Result<(), Fail> {
+    fs::write(&rt, SHORT, TEXT)?;
+    holds(&rt, long_file_is_read(&rt)?, "each path answers as wanted");
+    fs::remove_file(&rt, SHORT)?;
+    fs::remove_file(&rt, LONG)?;
+    Ok(())
+}
+
+// Writes the long file; whether it, the short one and paths that are no files answer as they should.
+fn long_file_is_read(rt: &HostRuntime) -> io::Result<bool> {
+    let long = three_pieces(rt.alloc())?;
+    files_are_read(rt, &long)
 }
 
 // A file of three pieces, none of them like another.
@@ -59,18 +69,41 @@ fn three_pieces(alloc: Global) -> Result<Vec<u8>, AllocError> {
     Ok(long)
 }
 
-// Asserts that reading a path answers what is wanted, and gives these bytes.
-fn reads<H: Shelf>(
-    rt: &impl Abort,
+// Writes a long file of these bytes; whether it, the short one and paths that are no files answer as they should.
+fn files_are_read(rt: &HostRuntime, long: &[u8]) -> io::Result<bool> {
+    fs::write(rt, LONG, long)?;
+    let mut shelf = FileShelf::new(rt.clone()?);
+    let all = is_read(rt.alloc(), &mut shelf, SHORT, Ok(true), TEXT)
+        && is_read(rt.alloc(), &mut shelf, LONG, Ok(true), long)
+        && is_read(
+            rt.alloc(),
+            &mut shelf,
+            "desk_edge_no_such_file",
+            Ok(false),
+            b"",
+        )
+        && is_read(rt.alloc(), &mut shelf, "", Ok(false), b"")
+        && is_refused(rt.alloc(), &mut shelf, ".")
+        && is_refused(rt.alloc(), &mut shelf, "desk_edge_file_shelf_test/x")
+        && is_refused(rt.alloc(), &mut shelf, "a\0b");
+    Ok(all)
+}
+
+// Whether reading a path fails, and gives no bytes.
+fn is_refused<H: Shelf>(alloc: Global, shelf: &mut H, path: &str) -> bool {
+    is_read(alloc, shelf, path, Err(ReadFault::Failed), b"")
+}
+
+// Whether reading a path answers what is wanted, and gives these bytes.
+fn is_read<H: Shelf>(
     alloc: Global,
     shelf: &mut H,
     path: &str,
     wanted: Result<bool, ReadFault>,
     bytes: &[u8],
-) {
+) -> bool {
     let mut out = Vec::new(alloc);
-    assert_eq!(rt; read_whole(shelf, path, &mut out), wanted, "{path}");
-    assert_eq!(rt; out.as_slice(), bytes, "{path}");
+    read_whole(shelf, path, &mut out) == wanted && out.as_slice() == bytes
 }
 
 // A shelf that loses the first byte behind an open is refused here.
@@ -78,67 +111,116 @@ fn reads<H: Shelf>(
 fn a_file_is_taken_from_its_first_byte(rt: HostRuntime) -> Result<(), Fail> {
     const PATH: &str = "desk_edge_first_byte_test";
     fs::write(&rt, PATH, TEXT)?;
-    let mut shelf = FileShelf::new(rt.clone()?);
-    // Begun again, it is taken from its first byte again.
-    for _ in 0..2 {
-        begins(&rt, &mut shelf, PATH);
-    }
+    holds(
+        &rt,
+        begins_twice(&rt, PATH)?,
+        "each time it begins with its first byte",
+    );
     fs::remove_file(&rt, PATH)?;
     Ok(())
 }
 
-// Asserts that the file at a path is found, and gives the first three bytes of the text one by one.
-fn begins<H: Shelf>(rt: &impl Abort, shelf: &mut H, path: &str) {
-    let mut buf = [0u8; 1];
-    assert_eq!(rt; shelf.find(path), Ok(true));
-    for byte in &TEXT[..3] {
-        assert_eq!(rt; shelf.take(&mut buf), Ok(1));
-        assert_eq!(rt; buf[0], *byte);
-    }
+// Whether the file at a path is taken from its first byte, and begun again, from its first byte again.
+fn begins_twice(rt: &HostRuntime, path: &str) -> io::Result<bool> {
+    let mut shelf = FileShelf::new(rt.clone()?);
+    Ok(begins(&mut shelf, path) && begins(&mut shelf, path))
 }
 
-// A shelf that opens another path for one of these names is refused here: they are those that files of a session have.
+// Whether the file at a path is found, and gives the first three bytes of the text one by one.
+fn begins<H: Shelf>(shelf: &mut H, path: &str) -> bool {
+    shelf.find(path) == Ok(true)
+        && taken(shelf) == Some(TEXT[0])
+        && taken(shelf) == Some(TEXT[1])
+        && taken(shelf) == Some(TEXT[2])
+}
+
+// The next byte of a file; none where no byte is taken.
+fn taken<H: Shelf>(shelf: &mut H) -> Option<u8> {
+    let mut buf = [0u8; 1];
+    if shelf.take(&mut buf) == Ok(1) {
+        return Some(buf[0]);
+    }
+    None
+}
+
+// The names that files of a session have.
+const PATHS: [&str; 10] = [
+    "market",
+    "script",
+    "quotes",
+    "fixings",
+    "market.toml",
+    "script.txt",
+    "quotes.csv",
+    "fixings.csv",
+    "m",
+    "s",
+];
+
+// A shelf that opens another path for one of these names is refused here.
 #[test]
 fn each_path_has_its_own_file(rt: HostRuntime) -> Result<(), Fail> {
-    const PATHS: [&str; 10] = [
-        "market",
-        "script",
-        "quotes",
-        "fixings",
-        "market.toml",
-        "script.txt",
-        "quotes.csv",
-        "fixings.csv",
-        "m",
-        "s",
-    ];
     for path in &PATHS {
         fs::write(&rt, path, path.as_bytes())?;
     }
+    holds(
+        &rt,
+        own_files_are_read(&rt)?,
+        "each path gives its own name",
+    );
+    remove_each(&rt)?;
+    Ok(())
+}
+
+// Whether each of the paths gives its own name.
+fn own_files_are_read(rt: &HostRuntime) -> io::Result<bool> {
     let mut shelf = FileShelf::new(rt.clone()?);
+    Ok(own_names_are_read(rt.alloc(), &mut shelf))
+}
+
+// The same of any shelf.
+fn own_names_are_read<H: Shelf>(alloc: Global, shelf: &mut H) -> bool {
     for path in &PATHS {
-        reads(&rt, rt.alloc(), &mut shelf, path, Ok(true), path.as_bytes());
+        if !is_read(alloc, shelf, path, Ok(true), path.as_bytes()) {
+            return false;
+        }
     }
+    true
+}
+
+// Removes each of the paths.
+fn remove_each(rt: &HostRuntime) -> io::Result<()> {
     for path in &PATHS {
-        fs::remove_file(&rt, path)?;
+        fs::remove_file(rt, path)?;
     }
     Ok(())
 }
 
 #[test]
-fn a_writer_takes_the_bytes(rt: HostRuntime) -> Result<(), Fail> {
-    let mut taken = Vec::new(rt.alloc());
-    let mut sink = OutSink::new(&mut taken);
-    assert_eq!(rt; write_whole(&mut sink, TEXT), Ok(()));
-    drop(sink);
-    assert_eq!(rt; taken.as_slice(), TEXT);
-    // A writer with no room left writes nothing, which is a fault.
+fn a_writer_takes_the_bytes(rt: HostRuntime) {
+    holds(&rt, is_written(rt.alloc()), "a vector takes the bytes");
+    holds(
+        &rt,
+        is_cut(),
+        "a writer with no room left takes no more, which is a fault",
+    );
+}
+
+// Whether a vector takes the text.
+fn is_written(alloc: Global) -> bool {
+    let mut taken = Vec::new(alloc);
+    write_text(OutSink::new(&mut taken)) == Ok(()) && taken.as_slice() == TEXT
+}
+
+// Whether a slice of five bytes takes five bytes, and then fails.
+fn is_cut() -> bool {
     let mut room = [0u8; 5];
-    let mut sink = OutSink::new(room.as_mut_slice());
-    assert_eq!(rt; write_whole(&mut sink, TEXT), Err(Failed));
-    drop(sink);
-    assert_eq!(rt; room.as_slice(), &TEXT[..5]);
-    Ok(())
+    write_text(OutSink::new(room.as_mut_slice())) == Err(Failed) && room.as_slice() == &TEXT[..5]
+}
+
+// Writes the text to a sink.
+fn write_text<S: Sink + Drop>(mut sink: S) -> Result<(), Failed> {
+    write_whole(&mut sink, TEXT)
 }
 
 // A writer that takes each piece whole and cannot hand it on.
@@ -159,6 +241,10 @@ impl Write for Stuck {
 #[test]
 fn a_piece_that_is_not_handed_on_is_a_fault(rt: HostRuntime) {
     let mut sink = OutSink::new(Stuck);
-    assert_eq!(rt; sink.put(TEXT), Err(Failed));
-    assert_eq!(rt; write_whole(&mut sink, TEXT), Err(Failed));
+    holds(&rt, sink.put(TEXT) == Err(Failed), "a piece is a fault");
+    holds(
+        &rt,
+        write_whole(&mut sink, TEXT) == Err(Failed),
+        "a text is a fault",
+    );
 }

@@ -67,8 +67,9 @@ pub(crate) fn take_out(slots: &mut Slab<Edge>, nodes: &mut [Option<Heads>], edge
     slots.remove(edge.key());
 }
 
-/// Finds room for so many pairs. The slots are copied before they grow, so that they stay as they were where memory is
-/// wanting, or where they would have more numbers than there are names of pairs.
+/// Finds room for so many pairs, and for half as many again, so that calls that ask for one pair more each time copy the
+/// slots seldom. The slots are copied before they grow, so that they stay as they were where memory is wanting, or where
+/// they would have more numbers than there are names of pairs.
 pub(crate) fn make_room(slots: &mut Slab<Edge>, pairs: usize) -> Result<(), AllocError>
     requires { slots.old.capacity ≤ 2 ^ 32 }
     ensures room { OnOk result (HasRoomFor slots.new pairs) }
@@ -80,7 +81,7 @@ pub(crate) fn make_room(slots: &mut Slab<Edge>, pairs: usize) -> Result<(), Allo
         return Ok(());
     }
     let mut larger = slots.clone()?;
-    larger.reserve(pairs)?;
+    larger.reserve(pairs.saturating_add(pairs / 2))?;
     if larger.capacity() > MOST_SLOTS {
         return Err(AllocError);
     }

@@ -1,16 +1,14 @@
 -- What holds of a session with watchers stays while they are told and run.
 use Rattle.std.proofs.Common.{◌≡◌, ℕ, zero, suc, ◌-◌, Option, Some, None, ◌<◌, ◌≤◌, ◌+◌, true, false, List, [], ◌∷◌, ◌++◌, length, replicate, refl, sym, ap, subst, ◌∙◌, arith}
 use Rattle.std.specs.Prelude.{slice_get, IfSome, IfNone, max}
-use Rattle.std.proofs.lemmas.List.{length-set, length-replicate, append-nil}
-use Rattle.std.proofs.lemmas.Option.{slice_get_within, slice_get-get_or}
+use Rattle.std.proofs.lemmas.List.{length-replicate, append-nil}
+use Rattle.std.proofs.lemmas.Option.{slice_get-get_or}
 use Rattle.watch_rounds.specs.declared.due.DueWatcher.{DueWatcher}
 use Rattle.watch_rounds.specs.declared.tally.Tally.{Tally}
-use Rattle.watch_rounds.specs.declared.notice.Notice.{Notice}
-use Rattle.watch_rounds.specs.declared.notice.Notice.TheVariants as notices
 use Rattle.watch_rounds.specs.Due.{AreAll, IsOnly}
-use Rattle.watch_rounds.specs.Round.{Round, RoundsView, IsRound, blank, no_round, grown, tally_at, notice_of, with_notice, with_notice_as, with_run, run_of, one_more, watcher_of}
-use Rattle.watch_rounds.proofs.Stays.{nobody_ran}
-use Rattle.watch_rounds.proofs.Places.{all_map, all_with, all_removed}
+use Rattle.watch_rounds.specs.Round.{Round, RoundsView, IsRound, blank, no_round, grown, with_notice, with_run, watcher_of}
+use Rattle.watch_rounds.proofs.Stays.{nobody_ran, notice_long, notice_all, ran_long, ran_all}
+use Rattle.watch_rounds.proofs.Places.{all_map}
 use Rattle.session_model.specs.Standing.{Standing, name_of}
 use Rattle.session_model.specs.Course.{Running, running}
 use Rattle.session_core.specs.Watchers.{IsAWatcher, AreWatchers}
@@ -28,26 +26,14 @@ only_of p w name due all watcher named = all_map (IsDueOf p)
       (λ same. watcher.alone one.watcher is.0 (sym is.1 ∙ same ∙ named)),
     )) due all
 
-noted_tallies : (n : Notice) (w name : ℕ) (round : Round) → length (with_notice_as n w name round).tallies ≡ length round.tallies
-noted_tallies notices.Due w name round = refl
-noted_tallies notices.OverFirst w name round = length-set round.tallies name (record (tally_at round name) { over = true })
-noted_tallies notices.OverAgain w name round = refl
-
-noted_due : (Q : DueWatcher → Type 0) (n : Notice) (w name : ℕ) (round : Round) → AreAll Q round.due → Q (record { watcher = w; name = name })
-    → AreAll Q (with_notice_as n w name round).due
-noted_due Q notices.Due w name round all one = all_with Q (record { watcher = w; name = name }) round.due all one
-noted_due Q notices.OverFirst w name round all one = all
-noted_due Q notices.OverAgain w name round all one = all
-
 -- a watcher was told
 pub fits_notice : {P : Type 0} → (r : Running P) (nodes w name : ℕ) → Fits P r nodes → IsAWatcher r.standing w → name ≡ name_of r.standing w
     → Fits P (record r { round = with_notice w name r.round }) nodes
-unfolding with_notice
 fits_notice r nodes w name fits watcher named = record {
-  counted = noted_tallies (notice_of (tally_at r.round name)) w name r.round ∙ fits.counted;
+  counted = notice_long w name r.round ∙ fits.counted;
   room = fits.room;
   spare = fits.spare;
-  due = noted_due (IsDueOf r.standing) (notice_of (tally_at r.round name)) w name r.round fits.due (watcher.live, named);
+  due = notice_all (IsDueOf r.standing) w name r.round fits.due (watcher.live, named);
   known = fits.known;
 }
 
@@ -58,24 +44,15 @@ fits_leaving {P} r nodes rest new fits is =
     subst (λ (p : Standing). Fits P (record r { standing = p }) nodes) (sym is)
     (record { counted = fits.counted; room = fits.room; spare = fits.spare; due = fits.due; known = fits.known })
 
-ran_tallies : (o : Option DueWatcher) (at : ℕ) (round : Round) → length (run_of o at round).tallies ≡ length round.tallies
-ran_tallies None at round = refl
-ran_tallies (Some entry) at round = length-set round.tallies entry.name (one_more (tally_at round entry.name))
-
-ran_due : (Q : DueWatcher → Type 0) (o : Option DueWatcher) (at : ℕ) (round : Round) → slice_get round.due at ≡ o → AreAll Q round.due
-    → AreAll Q (run_of o at round).due
-ran_due Q None at round is all = all
-ran_due Q (Some entry) at round is all = all_removed Q round.due at (slice_get_within round.due at entry is) all
-
 -- a run begins
 pub fits_ran : {P : Type 0} → (r : Running P) (nodes at : ℕ) (picker : P) → Fits P r nodes
     → Fits P (record r { round = with_run at r.round; picker = picker }) nodes
 unfolding with_run
 fits_ran r nodes at picker fits = record {
-  counted = ran_tallies (slice_get r.round.due at) at r.round ∙ fits.counted;
+  counted = ran_long (slice_get r.round.due at) at r.round ∙ fits.counted;
   room = fits.room;
   spare = fits.spare;
-  due = ran_due (IsDueOf r.standing) (slice_get r.round.due at) at r.round refl fits.due;
+  due = ran_all (IsDueOf r.standing) (slice_get r.round.due at) at r.round refl fits.due;
   known = fits.known;
 }
 

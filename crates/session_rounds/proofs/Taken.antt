@@ -1,6 +1,6 @@
 -- What a command leaves in a round.
 use Rattle.std.proofs.Common.{◌≡◌, ℕ, ◌+◌, ◌≤◌, Bool, true, false, List, [], ◌∷◌, length, Option, Result, Ok, Err, refl, sym, ap, subst, ◌∙◌, arith}
-use Rattle.std.specs.Prelude.{if◌then◌else◌, OnOk, OnErr}
+use Rattle.std.specs.Prelude.{OnOk, OnErr}
 use Rattle.std.specs.List.{filter}
 use Rattle.std.proofs.lemmas.Bool.{false≢true}
 use Rattle.std.proofs.lemmas.List.{append-nil}
@@ -10,6 +10,7 @@ use Rattle.session_commands.specs.declared.command.Command.{Command}
 use Rattle.session_commands.specs.declared.refusal.Refusal.{Refusal}
 use Rattle.watch_rounds.specs.declared.due.DueWatcher.{DueWatcher}
 use Rattle.watch_rounds.specs.Due.{AreAll}
+use Rattle.watch_rounds.proofs.Places.{all_filtered}
 use Rattle.session_model.specs.Standing.{Standing}
 use Rattle.session_model.specs.declared.act.Act.{Act}
 use Rattle.session_model.specs.declared.act.Act.TheVariants as act
@@ -21,7 +22,7 @@ use Rattle.session_core.specs.Watchers.{AreWatchers}
 use Rattle.session_rounds.specs.Fits.{Fits, IsDueOf}
 use Rattle.session_rounds.specs.Goes.{Does, Halts}
 use Rattle.session_rounds.proofs.Known.{known_same}
-use Rattle.session_rounds.proofs.Live.{acted_live, acted_named, acted_long}
+use Rattle.session_model.proofs.Live.{acted_live, acted_named, acted_long}
 
 module _ {P : Type 0} (t : Turn) (r : Running P) (lines_old lines_new : List ℕ) (count_old count_new : ℕ)
     (log_old log_new : Option (List (ℕ × Bool))) where
@@ -49,20 +50,11 @@ module _ {P : Type 0} (t : Turn) (r : Running P) (lines_old lines_new : List ℕ
     out = λ i. record { lines = (ends.written ∙ sym (append-nil lines_old)) i; count = ends.count i; log = ends.log i };
   }
 
-filtered : (Q R : DueWatcher → Type 0) (test : DueWatcher → Bool) → ((one : DueWatcher) → Q one → test one ≡ true → R one)
-    → (due : List DueWatcher) → AreAll Q due → AreAll R (filter test due)
-filtered Q R test each [] all = tt
-filtered Q R test each (first ∷ rest) all = by (filtered Q R test each rest all.1) (test first) refl
-  where
-    by : AreAll R (filter test rest) → (b : Bool) → test first ≡ b → AreAll R (if b then first ∷ filter test rest else filter test rest)
-    by more true is = (each first all.0 is, more)
-    by more false is = more
-
 -- each watcher that is due after a command is live
 due_then : (calc : Calc) (p : Standing) (c : Command) (due : List DueWatcher) → AreWatchers p → AreAll (IsDueOf p) due
     → AreAll (IsDueOf (turn calc p c).next) (filter (λ one. is_watching (turn calc p c).next.state one.watcher) due)
 due_then calc p c due are all =
-    filtered (IsDueOf p) (IsDueOf (turn calc p c).next) (λ one. is_watching (turn calc p c).next.state one.watcher)
+    all_filtered (IsDueOf p) (IsDueOf (turn calc p c).next) (λ one. is_watching (turn calc p c).next.state one.watcher)
     (λ one is watching. (
       acted_live calc p c one.watcher is.0 watching,
       is.1 ∙ sym (acted_named calc p c one.watcher (are one.watcher is.0).listed),

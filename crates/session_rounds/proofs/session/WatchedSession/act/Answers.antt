@@ -9,7 +9,7 @@ use Rattle.session_model.specs.Turn.{turn}
 use Rattle.session_model.specs.Course.{Running, taken}
 use Rattle.session_rounds.specs.Fits.{Fits}
 use Rattle.session_rounds.proofs.Going.{does_halts}
-use Rattle.session_rounds.proofs.Live.{acted_long}
+use Rattle.session_model.proofs.Live.{acted_long}
 use Rattle.session_rounds.proofs.Taken.{does_taken, halts_taken, fits_acted, stopped_or_same, quiet_numbers}
 use Rattle.session_rounds.proofs.session.WatchedSession.act.Goals as goal
 

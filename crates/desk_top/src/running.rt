@@ -12,6 +12,7 @@ ghost use Rattle.desk_plan.specs.Verdict.{Plan as Wanted, IsAccepted, IsCheck, r
 ghost use Rattle.session_play.specs.Early.{outside, IsCut, IsHalted};
 ghost use Rattle.session_play.specs.Output.{computed_by, output_of, rounds_of};
 ghost use Rattle.session_play.specs.Written.{Writes};
+ghost use Rattle.desk_top.specs.Headline.{IsHeadline};
 ghost use Rattle.desk_top.specs.Run.{IsOutside, IsEarly, IsQuiet};
 
 use crate::Status;
@@ -38,6 +39,13 @@ pub fn run<H: Shelf, K: Sink, B: Bench>(
     out: &mut K,
     bench: &mut B,
 ) -> Status
+    // THE HEADLINE. At Done the bytes are the transcript of what was accepted, at each moment of which an object that is clear is
+    // answered afresh from the market of that moment, or refused as that pricing refuses, and one that is frozen or late by its
+    // last value, or that it has none. Every round ends: in it each name runs at most 8 times, and there are at most 8 runs for
+    // each name that the script gives to watchers.
+    ensures headline { IfSome (files_of (H.contents shelf.old)) (λ files. result ≡ Status.Done
+        → IsHeadline (B.calc bench.old) (verdict_of files (map string_bytes words.now)) (K.bytes out.old) (K.bytes out.new)) }
+
     // The status is that of the words and the files, but for a fault outside or want of memory.
     ensures status { IfSome (files_of (H.contents shelf.old)) (λ files.
         IsOutside result ⊎ (result ≡ status_of (verdict_of files (map string_bytes words.now)))) }

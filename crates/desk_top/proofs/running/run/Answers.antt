@@ -6,6 +6,7 @@ use Rattle.desk_plan.specs.Found.{plan_in}
 use Rattle.desk_plan.specs.Verdict.{Check}
 use Rattle.session_play.proofs.Progress.{halted_before}
 use Rattle.desk_top.proofs.Ended.{told_written}
+use Rattle.desk_top.proofs.Headlines.{told_headline, no_headline, late_headline}
 use Rattle.desk_top.proofs.running.run.Goals as goal
 
 pub returns-in-Err-clause-halted : goal.returns-in-Err-clause-halted
@@ -21,3 +22,21 @@ returns-in-Err-carry_out-clause-written g c =
     told_written (files_of (g.H.Shelf.contents c.args.shelf.now)) (map string_bytes c.args.words.now)
     (g.B.Bench.calc c.args.bench.now) (plan_in c.in-Ok.plan) (g.K.Sink.bytes c.args.out.now) (g.K.Sink.bytes c.carry_out.new.out)
     c.in-Err-carry_out.status c.in-Ok.ensures.plans c.in-Err-carry_out.ensures.written
+
+pub returns-in-Err-clause-headline : goal.returns-in-Err-clause-headline
+returns-in-Err-clause-headline g c =
+    no_headline (files_of (g.H.Shelf.contents c.args.shelf.now)) (map string_bytes c.args.words.now) (g.B.Bench.calc c.args.bench.now)
+    (g.K.Sink.bytes c.args.out.now) (g.K.Sink.bytes c.args.out.now) c.in-Err.status c.in-Err.ensures.before
+
+pub returns-in-Ok-carry_out-clause-headline : goal.returns-in-Ok-carry_out-clause-headline
+returns-in-Ok-carry_out-clause-headline g c =
+    told_headline (files_of (g.H.Shelf.contents c.args.shelf.now)) (map string_bytes c.args.words.now)
+    (g.B.Bench.calc c.args.bench.now) c.in-Ok.plan (g.K.Sink.bytes c.args.out.now) (g.K.Sink.bytes c.carry_out.new.out) _
+    c.in-Ok.ensures.can c.in-Ok.ensures.plans (λ done. c.carry_out.ensures.written)
+
+pub returns-in-Err-carry_out-clause-headline : goal.returns-in-Err-carry_out-clause-headline
+returns-in-Err-carry_out-clause-headline g c =
+    told_headline (files_of (g.H.Shelf.contents c.args.shelf.now)) (map string_bytes c.args.words.now)
+    (g.B.Bench.calc c.args.bench.now) c.in-Ok.plan (g.K.Sink.bytes c.args.out.now) (g.K.Sink.bytes c.carry_out.new.out)
+    c.in-Err-carry_out.status c.in-Ok.ensures.can c.in-Ok.ensures.plans
+    (late_headline c.in-Err-carry_out.status _ _ _ c.in-Err-carry_out.ensures.late)

@@ -1,7 +1,7 @@
 // The top call.
 ghost use Rattle.std.specs.Prelude.{◌≡◌, ◌⊎◌, ◌↔◌, ◌+◌, ◌≤◌, Ok, length, map, None, IfSome};
 ghost use Rattle.std.specs.String.{string_bytes};
-ghost use Rattle.desk_edge.specs.Count.{Rose};
+ghost use Rattle.desk_edge.specs.Count.{Rose, raised};
 ghost use Rattle.desk_edge.specs.Shelf.{files_of};
 ghost use Rattle.desk_terms.specs.Bench.{counted, logged};
 ghost use Rattle.desk_words.specs.Words.{request_of};
@@ -93,6 +93,12 @@ pub fn run<H: Shelf, K: Sink, B: Bench>(
     // A call of the shelf that failed is the answer, and was the last: any call may fail, and one more would be counted too.
     ensures counted { H.faults shelf.new ≡ faults_then result (H.faults shelf.old) }
     ensures write { result ≡ Status.WriteFault → Rose (K.faults out.old) (K.faults out.new) }
+    // The put that failed is the answer, and was the last: any put may fail, and one more would be counted too. At Done none failed. Where
+    // memory ran out the put of what was written till then may have failed.
+    ensures once { result ≡ Status.WriteFault → K.faults out.new ≡ raised (K.faults out.old) }
+    ensures clean { result ≡ Status.Done → K.faults out.new ≡ K.faults out.old }
+    ensures at_most { result ≡ Status.NoMemory
+        → (K.faults out.new ≡ K.faults out.old) ⊎ (K.faults out.new ≡ raised (K.faults out.old)) }
     ensures absent { (role : FileRole) → result ≡ Status.Absent role → Rose (H.misses shelf.old) (H.misses shelf.new) }
     ensures files { files_of (H.contents shelf.new) ≡ files_of (H.contents shelf.old) }
 

@@ -1,6 +1,6 @@
 // What a plan says is done.
-ghost use Rattle.std.specs.Prelude.{◌≡◌, length, IfErr, IsErrOf, OnOk};
-ghost use Rattle.desk_edge.specs.Count.{Rose};
+ghost use Rattle.std.specs.Prelude.{◌≡◌, ◌⊎◌, length, IfErr, IsErrOf, OnOk};
+ghost use Rattle.desk_edge.specs.Count.{Rose, raised};
 ghost use Rattle.desk_terms.specs.Bench.{counted, logged};
 ghost use Rattle.desk_plan.specs.Found.{CanRun, CanDo, run_in, plan_in};
 ghost use Rattle.desk_plan.specs.Verdict.{Run as RunWanted, IsReport};
@@ -41,6 +41,12 @@ pub fn carry_out<K: Sink, B: Bench>(
     ensures same { B.calc bench.new ≡ B.calc bench.old }
     ensures late { IfErr result IsLate }
     ensures write { IsErrOf result Status.WriteFault → Rose (K.faults out.old) (K.faults out.new) }
+    // At Ok no put failed. After a fault of writing one did, and none was made behind it: any put may fail. Where memory ran out the
+    // put of what was written till then may have failed.
+    ensures clean { OnOk result (K.faults out.new ≡ K.faults out.old) }
+    ensures once { IsErrOf result Status.WriteFault → K.faults out.new ≡ raised (K.faults out.old) }
+    ensures at_most { IsErrOf result Status.NoMemory
+        → (K.faults out.new ≡ K.faults out.old) ⊎ (K.faults out.new ≡ raised (K.faults out.old)) }
 {
     match plan {
         Plan::Run { run, order } => play_script(alloc, run, order, out, bench),
@@ -68,6 +74,10 @@ fn play_script<K: Sink, B: Bench>(
     ensures same { B.calc bench.new ≡ B.calc bench.old }
     ensures late { IfErr result IsLate }
     ensures write { IsErrOf result Status.WriteFault → Rose (K.faults out.old) (K.faults out.new) }
+    ensures clean { OnOk result (K.faults out.new ≡ K.faults out.old) }
+    ensures once { IsErrOf result Status.WriteFault → K.faults out.new ≡ raised (K.faults out.old) }
+    ensures at_most { IsErrOf result Status.NoMemory
+        → (K.faults out.new ≡ K.faults out.old) ⊎ (K.faults out.new ≡ raised (K.faults out.old)) }
 {
     let (mut session, commands) = begun(alloc, run, order)?;
     let played = play(alloc, &mut session, commands.items(), out, bench);

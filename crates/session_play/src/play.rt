@@ -53,6 +53,10 @@ pub(crate) fn play<P: Picker, K: Sink, B: Bench>(
 
     ensures late { IfErr result IsLate }
     ensures write { IsErrOf result Status.WriteFault → Rose (K.faults out.old) (K.faults out.new) }
+    ensures clean { OnOk result (K.faults out.new ≡ K.faults out.old) }
+    ensures once { IsErrOf result Status.WriteFault → K.faults out.new ≡ raised (K.faults out.old) }
+    ensures at_most { IsErrOf result Status.NoMemory
+        → (K.faults out.new ≡ K.faults out.old) ⊎ (K.faults out.new ≡ raised (K.faults out.old)) }
     ensures faults { K.faults out.old ≤ K.faults out.new }
 {
     let mut lines = Vec::new(alloc);
@@ -89,6 +93,10 @@ fn play_round<P: Picker, K: Sink, B: Bench>(
     ensures actions { OnOk result (session.new.standing.actions ≡ session.old.standing.actions) }
     ensures late { IfErr result IsLate }
     ensures write { IsErrOf result Status.WriteFault → Rose (K.faults out.old) (K.faults out.new) }
+    ensures clean { OnOk result (K.faults out.new ≡ K.faults out.old) }
+    ensures once { IsErrOf result Status.WriteFault → K.faults out.new ≡ raised (K.faults out.old) }
+    ensures at_most { IsErrOf result Status.NoMemory
+        → (K.faults out.new ≡ K.faults out.old) ⊎ (K.faults out.new ≡ raised (K.faults out.old)) }
     ensures faults { K.faults out.old ≤ K.faults out.new }
 {
     lines.clear();
@@ -107,6 +115,7 @@ fn write_front<K: Sink>(out: &mut K, lines: &[u8])
     ensures front { (count : ℕ) × (count ≤ length lines.now) × (K.bytes out.new ≡ appended (take count lines.now) (K.bytes out.old)) }
     // All of them, unless a put failed.
     ensures whole { (K.bytes out.new ≡ appended lines.now (K.bytes out.old)) ⊎ (K.faults out.new ≡ raised (K.faults out.old)) }
+    ensures at_most { (K.faults out.new ≡ K.faults out.old) ⊎ (K.faults out.new ≡ raised (K.faults out.old)) }
     ensures nothing { lines.now ≡ [] → out.new ≡ out.old }
     ensures faults { K.faults out.old ≤ K.faults out.new }
 {

@@ -1,6 +1,6 @@
 // The report of a market.
 ghost use Rattle.std.specs.Prelude.{◌≡◌, ◌≤◌, ◌<◌, ℕ, length, take, IfOk, OnOk, IfErr, IsErrOf};
-ghost use Rattle.desk_edge.specs.Count.{Rose};
+ghost use Rattle.desk_edge.specs.Count.{Rose, raised};
 ghost use Rattle.desk_edge.specs.Sink.{appended};
 ghost use Rattle.session_play.specs.Report.{check_line};
 ghost use Rattle.session_play.specs.Written.{IsLate};
@@ -22,6 +22,9 @@ pub(crate) fn report<K: Sink>(
     ensures nothing { IsErrOf result Status.NoMemory → K.bytes out.new ≡ K.bytes out.old }
     ensures late { IfErr result IsLate }
     ensures write { IsErrOf result Status.WriteFault → Rose (K.faults out.old) (K.faults out.new) }
+    ensures clean { OnOk result (K.faults out.new ≡ K.faults out.old) }
+    ensures once { IsErrOf result Status.WriteFault → K.faults out.new ≡ raised (K.faults out.old) }
+    ensures at_most { IsErrOf result Status.NoMemory → K.faults out.new ≡ K.faults out.old }
     ensures faults { K.faults out.old ≤ K.faults out.new }
 {
     let line = check_line(alloc, objects, fixings)?;

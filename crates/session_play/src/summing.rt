@@ -1,6 +1,6 @@
 // A load: its script is run, and what it writes is summed up.
 ghost use Rattle.std.specs.Prelude.{◌≡◌, ◌+◌, ◌≤◌, ◌^◌, false, None, length, All, IfOk, IfErr, OnOk, OnErr, IsErrOf};
-ghost use Rattle.desk_edge.specs.Count.{Rose};
+ghost use Rattle.desk_edge.specs.Count.{Rose, raised};
 ghost use Rattle.desk_terms.specs.Bench.{counted, logged};
 ghost use Rattle.desk_model.specs.Sound.{IsSound};
 ghost use Rattle.session_model.specs.Standing.{IsKnown};
@@ -44,6 +44,9 @@ pub(crate) fn sum_up<K: Sink, B: Bench>(
     ensures same { B.calc bench.new ≡ B.calc bench.old }
     ensures late { IfErr result IsLate }
     ensures write { IsErrOf result Status.WriteFault → Rose (K.faults out.old) (K.faults out.new) }
+    ensures clean { OnOk result (K.faults out.new ≡ K.faults out.old) }
+    ensures once { IsErrOf result Status.WriteFault → K.faults out.new ≡ raised (K.faults out.old) }
+    ensures at_most { IsErrOf result Status.NoMemory → K.faults out.new ≡ K.faults out.old }
 {
     let (mut session, commands) = begun(alloc, run, Order::First)?;
     let counted = tallied(alloc, &mut session, commands.items(), bench);

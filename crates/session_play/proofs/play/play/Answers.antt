@@ -16,7 +16,7 @@ loop-command-init g c =
       same = refl;
       progress = progress_none m c.args.session.now c.args.commands.now start c.requires.running
           c.requires.sound;
-      faults = omega arith;
+      faults = refl;
     }
 
 pub returns-in_err-play_round-clause-written : goal.returns-in_err-play_round-clause-written
@@ -70,7 +70,7 @@ loop-command-preserved g c =
           (subst (λ (k : Calc). IsPlayed (round_of (record m { calc = k }) c.loop-command.session c.command-item.result) now new) same round.ends)
           (round.next ∙ ap (λ (k : Calc). (round_of (record m { calc = k }) c.loop-command.session c.command-item.result).next) same)
           round.names round.actions round.running (subst (λ (k : Calc). IsSound k c.play_round.new.session.standing.state) same c.play_round.ensures.sound);
-      faults = omega (arith, c.play_round.ensures.faults, c.loop-command.invariant.faults);
+      faults = round.clean ∙ c.loop-command.invariant.faults;
     }
 
 pub returns-clause-written : goal.returns-clause-written

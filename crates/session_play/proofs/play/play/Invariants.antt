@@ -1,4 +1,4 @@
-use Rattle.std.proofs.Common.{◌≡◌, ◌≤◌, drop}
+use Rattle.std.proofs.Common.{◌≡◌, drop}
 use Rattle.session_play.specs.Early.{outside}
 use Rattle.session_play.proofs.Progress.{Progress}
 use Rattle.session_play.proofs.play.play.Given as goal
@@ -10,5 +10,5 @@ invariant-loop-command g l = record {
       l.initial.session l.commands (drop l.command-index l.commands) l.session
       (outside (g.K.Sink.bytes l.initial.out) (g.B.Bench.count l.initial.bench) (g.B.Bench.log l.initial.bench))
       (outside (g.K.Sink.bytes l.out) (g.B.Bench.count l.bench) (g.B.Bench.log l.bench));
-  faults : g.K.Sink.faults l.initial.out ≤ g.K.Sink.faults l.out;
+  faults : g.K.Sink.faults l.out ≡ g.K.Sink.faults l.initial.out;
 }

@@ -10,7 +10,7 @@ cargo builds only what did.
 import os, re, shutil, sys
 
 HERE = os.path.dirname(os.path.abspath(__file__))
-ROOTS = "session_rounds session_lang watch_rounds desk_bench load_maker desk_model session_commands script_words market_loader market_session desk_edge".split()
+ROOTS = "session_rounds session_lang watch_rounds desk_bench load_maker desk_model session_commands script_words market_loader market_session scenario_grid desk_edge".split()
 SHIMS = ["rt_std", "slab", "itoa", "indexmap", "jiff", "jiff_core", "toml", "csv"]
 WORD = re.compile(r"[A-Za-z_][A-Za-z_0-9]*")
 
@@ -133,7 +133,8 @@ def unchecked(text):
 def convert(text, path):
     text = strip(text)
     text = re.sub(r"^(\s*)//[/!]", r"\1//", text, flags=re.M)
-    text = without_impls(text, "Model")
+    for name in ("Model", "Drop"):
+        text = without_impls(text, name)
     text = re.sub(r"#\[derive\(([^)]*)\)\]", derived, text)
     text = re.sub(r"^\s*#\[error\([^\n]*\)\]\n", "", text, flags=re.M)
     text = re.sub(r"^use thiserror::Error;\n", "", text, flags=re.M)

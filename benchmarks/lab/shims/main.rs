@@ -1,4 +1,4 @@
-//! The lab's program: `desk_lab run MARKET SCRIPT [ORDER]` and `desk_lab load N`.
+//! The lab's program: `desk_lab run MARKET SCRIPT [ORDER]`, `desk_lab grid MARKET SCRIPT` and `desk_lab load N`.
 use desk_bench::DeskBench;
 use desk_names::Names;
 use rt_std::Vec;
@@ -117,10 +117,25 @@ fn load(n: u32) {
     print!("load {n} lines {} bytes {}\n{}", tally.lines, tally.bytes, std::string::String::from_utf8_lossy(&tally.last));
 }
 
+fn grid(market: &str, text: &[u8]) {
+    let mut names = Names::new(Global);
+    let mut files = Files { given: std::vec::Vec::new(), begun: std::vec::Vec::new(), at: 0 };
+    let Ok(texts) = market_loader::load_texts(Global, market, &mut files) else { return println!("desk_grid: no market") };
+    let Ok(_) = texts.market(Global, &mut names) else { return println!("desk_grid: no market") };
+    let Ok(script) = read_script(Global, text, &mut names) else { return println!("desk_grid: no script") };
+    let mut bench = DeskBench::new();
+    let lines = scenario_grid::grid_lines(Global, &texts, &names, &script, &mut bench).unwrap();
+    unsafe { std::fs::File::from_raw_fd(1) }.write_all(&lines).unwrap();
+}
+
 fn main() {
     let args: std::vec::Vec<std::string::String> = std::env::args().collect();
     if args[1] == "load" {
         return load(args[2].parse().unwrap());
+    }
+    if args[1] == "grid" {
+        grid(&args[2], &file(&args[3]));
+        std::process::exit(0);
     }
     let order = match args.get(4).map(|a| a.as_str()) {
         None | Some("first") => Order::First,

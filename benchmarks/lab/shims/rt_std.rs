@@ -209,6 +209,9 @@ pub mod collections {
         pub fn iter(&self) -> std_collections::btree_map::Iter<'_, K, V> { self.0.iter() }
         pub fn remove(&mut self, k: &K) -> Option<V> { self.0.remove(k) }
     }
+    impl<K: Clone, V: Clone> BTreeMap<K, V> {
+        pub fn clone(&self) -> Result<Self, AllocError> { Ok(BTreeMap(self.0.clone())) }
+    }
 }
 
 #[macro_export]

@@ -1,7 +1,8 @@
 #!/usr/bin/env bash
 # One grid of 1,000 scenarios over the example desk by examples/grid_over_machines, with 1, 2 and 4 processes, in parts of 1, 7 and 100
 # blocks: the seconds of each, and whether the joined bytes are those of one run. Then one part is killed in its middle: no joined file
-# may be there. And how many scenarios a second one process does over 10, 100 and 1,000 instruments.
+# may be there. And how many scenarios a second one process does over 10, 100 and 1,000 instruments, and the millions of instructions of
+# each, counted from 10 to 20 scenarios. No line of these may say `refused`: each book is priced, and its bonds end within the curve.
 #
 #   (cd crates/desk_grid && rt run)     # builds the program
 #   apt-get install parallel
@@ -29,21 +30,31 @@ for size in (10, 100, 1000):
              '', '[[object]]', 'kind = "engine"', 'name = "e"', 'curve = "c"']
     for k in range(size):
         lines += ['', '[[object]]', 'kind = "bond"', f'name = "b{k}"', 'notional = "100"', 'start = "2024-02-01"',
-                  f'end = "{2025 + k % 10}-02-01"', 'calendar = "t"', 'engine = "e"', 'coupon = "0.03"', 'every = "1Y"',
+                  f'end = "{2025 + k % 9}-02-01"', 'calendar = "t"', 'engine = "e"', 'coupon = "0.03"', 'every = "1Y"',
                   'counter = "act360"']
     lines += ['', '[[object]]', 'kind = "composite"', 'name = "book"',
               'parts = [' + ", ".join(f'{{part = "b{k}", weight = 1}}' for k in range(size)) + ']']
     open(f"{work}/market{size}.toml", "w").write("\n".join(lines) + "\n")
 open(f"{work}/quotes.csv", "w").write("name,value\n" + "".join(f"q{k},0.03\n" for k in range(10)))
-with open(f"{work}/hundred", "w") as out:
-    for n in range(100):
-        out.write(f"action s{n}\n" + "".join(f"set q{k} {0.03 + n / 100000:.5f}\n" for k in range(10)) + "end\n")
-    out.write("ask book\n")
+for scenarios in (10, 20, 100):
+    with open(f"{work}/{scenarios}", "w") as out:
+        for n in range(scenarios):
+            out.write(f"action s{n}\n" + "".join(f"set q{k} {0.03 + n / 100000:.5f}\n" for k in range(10)) + "end\n")
+        out.write("ask book\n")
 MAKE
+# Ends the script where a value of a grid is refused.
+priced() { if grep -m 1 refused "$1"; then echo "not priced" >&2; exit 1; fi; }
+# The instructions of one grid.
+count() {
+    valgrind --tool=callgrind --callgrind-out-file="$work/calls" "$DESK_GRID" "$1" "$2" 2> "$work/log" > "$work/out"
+    priced "$work/out"
+    sed -n 's/.*Collected : \([0-9]*\).*/\1/p' "$work/log"
+}
 seconds() { local begun; begun=$(date +%s%N); "$@"; echo "$(( ($(date +%s%N) - begun) / 1000000 ))"; }
 
 one() { "$DESK_GRID" examples/desk/market.toml "$work/script" > "$work/whole"; }
 echo "one run: $(seconds one) ms, $(wc -c < "$work/whole") bytes"
+priced "$work/whole"
 for blocks in 1 7 100; do
     for processes in 1 2 4; do
         took=$(seconds "$over/grid.sh" examples/desk/market.toml "$work/script" "$blocks" "$work/joined" "$processes")
@@ -65,7 +76,10 @@ else
     [ ! -e "$work/joined" ] && echo "a killed part: no joined file; $(grep -c 'was not done' "$work/told") named"
 fi
 for size in 10 100 1000; do
-    each() { "$DESK_GRID" "$work/market$size.toml" "$work/hundred" > "$work/out"; }
+    each() { "$DESK_GRID" "$work/market$size.toml" "$work/100" > "$work/out"; }
     took=$(seconds each)
-    echo "$size instruments: 101 scenarios in $took ms, $((101000 / took)) a second"
+    priced "$work/out"
+    few=$(count "$work/market$size.toml" "$work/10")
+    some=$(count "$work/market$size.toml" "$work/20")
+    echo "$size instruments: 101 scenarios in $took ms, $((101000 / took)) a second, $(((some - few) / 10000)) thousand instructions each"
 done

@@ -1,10 +1,10 @@
 // The stored rates of an index. A clause sees them as the list of the days with their rates.
-ghost use Rattle.std.specs.Prelude.{◌≡◌, ◌↔◌, ℤ, [], length, IfSome, OnOk, OnErr, Err, Some};
+ghost use Rattle.std.specs.Prelude.{◌≡◌, ◌↔◌, ℤ, [], length, IfOk, IfSome, OnOk, OnErr, Err, Some};
 ghost use Rattle.flow_terms.specs.Fixings.{IsRate, AreByDay, fixing_on, with_fixing};
 
 use day_number::Day;
 use fixed_amount::Rate;
-use std::alloc::{AllocFailed, Global};
+use std::alloc::{AllocError, AllocFailed, Global};
 use std::collections::BTreeMap;
 use std::marker::Model;
 use thiserror::Error;
@@ -90,5 +90,13 @@ impl Fixings {
         }
         self.rates.insert(day, rate)?;
         Ok(())
+    }
+
+    /// The same rates, in memory of their own.
+    pub fn copy(&self) -> Result<Fixings, AllocError>
+        ensures { IfOk result (λ copy. copy ≡ self.now) }
+    {
+        let rates = self.rates.clone()?;
+        Ok(Fixings { rates })
     }
 }

@@ -24,7 +24,7 @@ pub enum FileFault {
 }
 
 /// A file of a market, in reading order.
-#[derive(Clone, Copy, PartialEq, Eq)]
+#[derive(Clone, Copy, Debug, PartialEq, Eq)]
 pub enum MarketRole {
     Market,
     /// The table of quotes that the market names.
@@ -34,19 +34,22 @@ pub enum MarketRole {
 }
 
 /// Why a market was not read: the first failure in reading order.
-#[derive(Clone, Copy)]
+#[derive(Clone, Copy, Debug, Error, PartialEq, Eq)]
 pub enum LoadFault {
     /// The market is refused: where, at which entry, and why.
+    #[error("the market is refused")]
     Fault {
         section: Section,
         entry: u32,
         kind: MarketKind,
     },
     /// A file could not be read.
+    #[error("the read failed")]
     Read,
     /// There is no such file.
+    #[error("no file")]
     Absent(MarketRole),
-    /// Memory ran out.
+    #[error("out of memory")]
     NoMemory,
 }
 

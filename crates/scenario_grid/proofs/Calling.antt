@@ -1,25 +1,13 @@
 -- What a bench was called for: begin, go on, break off.
-use Rattle.std.proofs.Common.{◌≡◌, ℕ, suc, zero, ◌+◌, Bool, List, [], ◌++◌, length, take, Option, Some, None, Result, Ok, Err, refl, sym, ◌∙◌, ap, arith}
+use Rattle.std.proofs.Common.{◌≡◌, ℕ, ◌+◌, Bool, List, [], ◌++◌, length, take, Option, Result, Ok, Err, refl, sym, ◌∙◌, ap, arith}
 use Rattle.std.proofs.Math.Seq.{take-append-add}
-use Rattle.std.proofs.lemmas.List.{append_assoc, append-nil, length-append, take_all, take-append-le}
+use Rattle.std.proofs.lemmas.List.{length-append, take_all, take-append-le}
 use Rattle.desk_terms.specs.Bench.{counted, logged}
+use Rattle.session_rounds.proofs.Going.{counted_more, logged_more, logged_none}
 use Rattle.scenario_grid.specs.Calls.{Makes, Begins, Calls}
 
 abbrev Log : Type 0
 Log = Option (List (ℕ × Bool))
-
--- counts and logs go on
-counted_more : (count n m : ℕ) → counted (counted count n) m ≡ counted count (n + m)
-counted_more count n zero = let e : n + zero ≡ n = omega arith in ap (counted count) (sym e)
-counted_more count n (suc m) = let e : n + suc m ≡ suc (n + m) = omega arith in rw e (rw (counted_more count n m) refl)
-
-logged_more : (log : Log) (calls more : List (ℕ × Bool)) → logged (logged log calls) more ≡ logged log (calls ++ more)
-logged_more None calls more = refl
-logged_more (Some log) calls more = ap Some (append_assoc log calls more)
-
-logged_nothing : (log : Log) → log ≡ logged log []
-logged_nothing None = refl
-logged_nothing (Some calls) = ap Some (sym (append-nil calls))
 
 -- nothing was called for yet
 pub begins_none : (calls : List (ℕ × Bool)) (count : ℕ) (log : Log) → Begins calls count count log log
@@ -29,11 +17,11 @@ begins_none calls count log = record {
   most = omega arith;
   last = (omega arith, omega arith);
   count = refl;
-  log = logged_nothing log;
+  log = logged_none log;
 }
 
 pub makes_none : (count : ℕ) (log : Log) → Makes [] count count log log
-makes_none count log = record { count = refl; log = logged_nothing log }
+makes_none count log = record { count = refl; log = logged_none log }
 
 -- all of it was made
 pub makes_begins : (calls : List (ℕ × Bool)) (count now : ℕ) (log log_now : Log) → Makes calls count now log log_now

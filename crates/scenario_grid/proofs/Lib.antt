@@ -1,6 +1,7 @@
 mod Asks
 mod Begun
 mod Grids
+mod LetGo
 mod Money
 mod Named
 mod Scenarios

@@ -13,7 +13,6 @@ use Rattle.market_session.proofs.Started.{starts_known}
 use Rattle.session_rounds.specs.Goes.{Output, Does, Halts, with_more}
 use Rattle.session_rounds.proofs.Going.{does_both, halts_first, halts_second, halts_at_once}
 use Rattle.grid_model.specs.Scenario.{Basis, ordered, first_of, after, values_of}
-use Rattle.scenario_grid.specs.Calls.{Begins}
 use Rattle.scenario_grid.specs.Course.{course_of, output}
 use Rattle.scenario_grid.specs.Going.{Extends}
 use Rattle.scenario_grid.proofs.Courses.{course_lines, course_calls, course_next, course_joined}
@@ -61,21 +60,7 @@ module _ (calc : Calc) (moves asks : List Command) (first : Running Order) where
       subst (λ (t : Course Order). Halts Order t old later) (sym (course_joined calc moves asks first))
       (halts_second (course_of calc moves first) (course_of calc asks) middle old now later one halts)
 
-  -- a front of the computations was made
-  pub halts_begins : (lines late : List ℕ) (count now : ℕ) (log log_now : Option (List (ℕ × Bool)))
-      → Halts Order whole (output lines count log) (output late now log_now)
-      → Begins (calls_of (ordered calc) first (moves ++ asks)) count now log log_now
-  halts_begins lines late count now log log_now halts =
-      subst (λ (calls : List (ℕ × Bool)). Begins calls count now log log_now) (course_calls calc (moves ++ asks) first) (record {
-        begun = halts.begun;
-        ended = halts.ended;
-        most = halts.most;
-        last = halts.last;
-        count = ap (λ (o : Output). o.count) halts.out;
-        log = ap (λ (o : Output). o.log) halts.out;
-      })
-
-  -- and what was appended is cut off again
+  -- what was appended is cut off again
   pub halts_cut : (lines late : List ℕ) (count now : ℕ) (log log_now : Option (List (ℕ × Bool)))
       → Halts Order whole (output lines count log) (output late now log_now) → take (length lines) late ≡ lines
   halts_cut lines late count now log log_now halts =

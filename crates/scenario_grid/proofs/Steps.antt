@@ -4,6 +4,7 @@ use Rattle.std.specs.Prelude.{OnOk, OnErr}
 use Rattle.std.proofs.lemmas.List.{append_assoc, append-nil, drop_more, drop_all}
 use Rattle.std.proofs.lemmas.List.Elements.{All-nil}
 use Rattle.desk_terms.specs.Reading.{Calc}
+use Rattle.desk_model.specs.Sound.{IsSound}
 use Rattle.desk_model.specs.Unheld.{HoldsNothing}
 use Rattle.session_commands.specs.declared.command.Command.{Command}
 use Rattle.session_commands.specs.Whole.{IsCommand}
@@ -23,11 +24,19 @@ module _ (calc : Calc) (commands : List Command) (first : Running Order) (start 
   -- these commands are left, over this session
   pub record Progress (rest : List Command) (r : Running Order) (now : Output) : Type 0 where
     pub goes : Goes Order (course_of calc commands first) (course_of calc rest r) start now
-    pub going : IsGoing calc r
+    pub running : r.standing.stopped ≡ false
+    pub sound : IsSound calc r.standing.state
     pub names : r.standing.names ≡ first.standing.names
+    pub actions : r.standing.actions ≡ first.standing.actions
 
-  pub progress_none : IsGoing calc first → Progress commands first start
-  progress_none going = record { goes = goes_start (course_of calc commands first) start; going = going; names = refl }
+  pub progress_none : first.standing.stopped ≡ false → IsSound calc first.standing.state → Progress commands first start
+  progress_none running sound = record {
+    goes = goes_start (course_of calc commands first) start;
+    running = running;
+    sound = sound;
+    names = refl;
+    actions = refl;
+  }
 
   -- the next command at a place, or none
   pub progress_next : (i : ℕ) (c : Command) (r : Running Order) (now : Output) → i < length commands → c ≡ get_or commands i c
@@ -41,23 +50,17 @@ module _ (calc : Calc) (commands : List Command) (first : Running Order) (start 
   progress_last i r now past p = subst (λ (rest : List Command). Progress rest r now) (drop_all i commands past) p
 
   -- one is done
-  pub progress_more : (c : Command) (rest : List Command) (r new : Running Order) (now later : Output) → holds_nothing c ≡ true
-      → Progress (c ∷ rest) r now → Does Order (round_of (ordered calc) r c) new now later
-      → Stays calc r.standing new.standing → new.standing.stopped ≡ false → Progress rest new later
+  pub progress_more : (c : Command) (rest : List Command) (r new : Running Order) (now later : Output) → Progress (c ∷ rest) r now
+      → Does Order (round_of (ordered calc) r c) new now later → Stays calc r.standing new.standing → new.standing.stopped ≡ false
+      → Progress rest new later
   unfolding course_of
-  progress_more c rest r new now later plain p does stays running = record {
+  progress_more c rest r new now later p does stays running = record {
     goes = goes_on (course_of calc commands first) (round_of (ordered calc) r c) (course_of calc rest) new start now later
         p.goes does;
-    going = record {
-      running = running;
-      sound = stays.sound;
-      unheld = subst (λ (q : Running Order). HoldsNothing q.standing.state) (sym does.next)
-          (round_unheld (ordered calc) r c plain p.going.unheld
-          (subst (λ (actions : List (List Command)). All (λ action. All (λ d. holds_nothing d ≡ true) action) actions)
-          (sym p.going.actions) (All-nil (λ action. All (λ d. holds_nothing d ≡ true) action))));
-      actions = stays.actions ∙ p.going.actions;
-    };
+    running = running;
+    sound = stays.sound;
     names = stays.names ∙ p.names;
+    actions = stays.actions ∙ p.actions;
   }
 
   -- memory runs out in it
@@ -74,10 +77,24 @@ module _ (calc : Calc) (commands : List Command) (first : Running Order) (start 
 
   -- a command is one of the session all the way
   pub progress_known : (rest : List Command) (c : Command) (r : Running Order) (now : Output) → Progress rest r now
-      → first.standing.actions ≡ [] → IsKnown first.standing c → IsKnown r.standing c
-  progress_known rest c r now p actions known =
+      → IsKnown first.standing c → IsKnown r.standing c
+  progress_known rest c r now p known =
       subst (λ (n : List (List ℕ)). IsCommand (length n) (length r.standing.actions) c) (sym p.names)
-      (subst (λ (a : List (List Command)). IsCommand (length first.standing.names) (length a) c) (actions ∙ sym p.going.actions) known)
+      (subst (λ (a : List (List Command)). IsCommand (length first.standing.names) (length a) c) (sym p.actions) known)
+
+-- a scenario goes on after a round that holds nothing back
+pub going_more : (calc : Calc) (r new : Running Order) (c : Command) (now later : Output) → holds_nothing c ≡ true → IsGoing calc r
+    → Does Order (round_of (ordered calc) r c) new now later → Stays calc r.standing new.standing → new.standing.stopped ≡ false
+    → IsGoing calc new
+going_more calc r new c now later plain going does stays running = record {
+  running = running;
+  sound = stays.sound;
+  unheld = subst (λ (q : Running Order). HoldsNothing q.standing.state) (sym does.next)
+      (round_unheld (ordered calc) r c plain going.unheld
+      (subst (λ (actions : List (List Command)). All (λ action. All (λ d. holds_nothing d ≡ true) action) actions)
+      (sym going.actions) (All-nil (λ action. All (λ d. holds_nothing d ≡ true) action))));
+  actions = stays.actions ∙ going.actions;
+}
 
 -- ---- the values of the asks
 

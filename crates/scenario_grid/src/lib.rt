@@ -1,14 +1,17 @@
-//! Scenarios beside each other: a session of its own for each, over a market that is read anew for it, in which the moves
-//! of the scenario are done and then what is asked for is asked; and the lines of a whole grid of them.
+//! Scenarios beside each other: a session of its own for each, of a copy of the market's objects, in which the moves of the
+//! scenario are done and then what is asked for is asked; and the lines of a whole grid of them. And a script whose
+//! lines are let go, as a graph wants it.
 //!
-//! `one_scenario`, `MoneyList`; `grid_lines`.
+//! `one_scenario`, `MoneyList`; `grid_lines`; `play_all`.
 #![tactic(auto)]
 
 mod asking;
 mod grid;
 mod moving;
 mod opening;
+mod playing;
 mod scenario;
 
 pub use grid::grid_lines;
+pub use playing::play_all;
 pub use scenario::{MoneyList, one_scenario};

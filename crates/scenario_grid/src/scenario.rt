@@ -1,7 +1,7 @@
 // One scenario.
 ghost use Rattle.std.specs.Prelude.{◌≡◌, ◌++◌, true, length, All, OnOk, OnErr};
 ghost use Rattle.desk_terms.specs.Bench.{counted, logged};
-ghost use Rattle.market_loader.specs.Market.{texts_in};
+ghost use Rattle.market_file.specs.Standing.{IsReady};
 ghost use Rattle.session_commands.specs.Whole.{IsCommand};
 ghost use Rattle.session_model.specs.Standing.{IsKnown};
 ghost use Rattle.session_model.specs.Rounds.{transcript, calls_of};
@@ -9,7 +9,7 @@ ghost use Rattle.session_rounds.specs.Goes.{Halts, with_more};
 ghost use Rattle.watch_rounds.specs.declared.picker.Order.{Order as OfOrder};
 ghost use Rattle.grid_shape.specs.Kinds.{is_move, is_ask};
 ghost use Rattle.grid_model.specs.Scenario.{ordered, first_of, after, values_of, scenario_lines, scenario_calls, scenario_values};
-ghost use Rattle.scenario_grid.specs.Basis.{basis_of, IsGround};
+ghost use Rattle.scenario_grid.specs.Basis.{basis_in};
 ghost use Rattle.scenario_grid.specs.Course.{course_of, output, scenario_of};
 ghost use Rattle.scenario_grid.specs.Calls.{Begins};
 ghost use Rattle.scenario_grid.specs.Going.{IsGoing, Extends};
@@ -21,7 +21,7 @@ use desk_names::Names;
 use desk_terms::Bench;
 use fixed_amount::Amount;
 use item_lists::Items;
-use market_loader::MarketTexts;
+use market_file::Market;
 use session_commands::{Command, CommandList};
 use session_rounds::WatchedSession;
 use std::alloc::{AllocError, Global};
@@ -30,14 +30,14 @@ use watch_rounds::Order;
 /// The money that each ask of a scenario shows, in order; none where an ask shows none. A clause sees the list.
 pub type MoneyList = Items<Option<Amount>>;
 
-/// Does a scenario in a session of its own: the market that the texts say, read anew, under these names; then the moves, and
-/// then the asks. The lines are appended to `lines`, and to `values` for each ask the money that it shows. The texts, the
-/// names and the commands are read alone, so that the next scenario has the same market. One session stands at a time.
+/// Does a scenario in a session of its own, of a copy of the market's objects under these names: the moves, and then the
+/// asks. The lines are appended to `lines`, and to `values` for each ask the money that it shows. The market, the names and
+/// the commands are read alone, so that the next scenario has the same market. One session stands at a time.
 ///
 /// It fails for want of memory alone, and then lines and values are as before.
 pub fn one_scenario<B: Bench>(
     alloc: Global,
-    texts: &MarketTexts,
+    market: &Market,
     names: &Names,
     moves: &CommandList,
     asks: &CommandList,
@@ -45,25 +45,25 @@ pub fn one_scenario<B: Bench>(
     lines: &mut Vec<u8>,
     values: &mut MoneyList,
 ) -> Result<(), AllocError>
-    requires ground { IsGround (texts_in texts.now) names.now }
+    requires ready { IsReady names.now market.now.made.items }
     requires moves { All (λ c. is_move c ≡ true) moves.now }
     requires asks { All (λ c. is_ask c ≡ true) asks.now }
     requires known { All (IsCommand (length names.now) 0) moves.now }
     requires named { All (IsCommand (length names.now) 0) asks.now }
     ensures same { B.calc bench.new ≡ B.calc bench.old }
 
-    // The lines and the values are those of the scenario on the basis that the texts say.
+    // The lines and the values are those of the scenario on the basis of the market.
     ensures lines { OnOk result (lines.new.items ≡ lines.old.items
-        ++ scenario_lines (B.calc bench.old) (basis_of (texts_in texts.now) names.now) asks.now (scenario_of moves.now)) }
+        ++ scenario_lines (B.calc bench.old) (basis_in market.now names.now) asks.now (scenario_of moves.now)) }
     ensures values { OnOk result (values.new ≡ values.old
-        ++ scenario_values (B.calc bench.old) (basis_of (texts_in texts.now) names.now) asks.now (scenario_of moves.now)) }
+        ++ scenario_values (B.calc bench.old) (basis_in market.now names.now) asks.now (scenario_of moves.now)) }
 
     // The bench was called for its computations, in their order, and for no other; where memory ran out, for a front of them.
     ensures count { OnOk result (B.count bench.new ≡ counted (B.count bench.old)
-        (length (scenario_calls (B.calc bench.old) (basis_of (texts_in texts.now) names.now) asks.now (scenario_of moves.now)))) }
+        (length (scenario_calls (B.calc bench.old) (basis_in market.now names.now) asks.now (scenario_of moves.now)))) }
     ensures log { OnOk result (B.log bench.new ≡ logged (B.log bench.old)
-        (scenario_calls (B.calc bench.old) (basis_of (texts_in texts.now) names.now) asks.now (scenario_of moves.now))) }
-    ensures begins { OnErr result (Begins (scenario_calls (B.calc bench.old) (basis_of (texts_in texts.now) names.now) asks.now (scenario_of moves.now))
+        (scenario_calls (B.calc bench.old) (basis_in market.now names.now) asks.now (scenario_of moves.now))) }
+    ensures begins { OnErr result (Begins (scenario_calls (B.calc bench.old) (basis_in market.now names.now) asks.now (scenario_of moves.now))
         (B.count bench.old) (B.count bench.new) (B.log bench.old) (B.log bench.new)) }
 
     // After want of memory nothing is left of it.
@@ -74,7 +74,7 @@ pub fn one_scenario<B: Bench>(
     let values_before = values.len();
     match played(
         alloc,
-        texts,
+        market,
         names,
         moves.items(),
         asks.items(),
@@ -94,7 +94,7 @@ pub fn one_scenario<B: Bench>(
 // The same, where what was appended before memory ran out is left.
 fn played<B: Bench>(
     alloc: Global,
-    texts: &MarketTexts,
+    market: &Market,
     names: &Names,
     moves: &[Command],
     asks: &[Command],
@@ -102,25 +102,25 @@ fn played<B: Bench>(
     lines: &mut Vec<u8>,
     values: &mut MoneyList,
 ) -> Result<(), AllocError>
-    requires ground { IsGround (texts_in texts.now) names.now }
+    requires ready { IsReady names.now market.now.made.items }
     requires moves { All (λ c. is_move c ≡ true) moves.now }
     requires asks { All (λ c. is_ask c ≡ true) asks.now }
     requires known { All (IsCommand (length names.now) 0) moves.now }
     requires named { All (IsCommand (length names.now) 0) asks.now }
     ensures same { B.calc bench.new ≡ B.calc bench.old }
     ensures out { OnOk result (output lines.new.items (B.count bench.new) (B.log bench.new)
-        ≡ with_more (scenario_lines (B.calc bench.old) (basis_of (texts_in texts.now) names.now) asks.now (scenario_of moves.now))
-        (scenario_calls (B.calc bench.old) (basis_of (texts_in texts.now) names.now) asks.now (scenario_of moves.now))
+        ≡ with_more (scenario_lines (B.calc bench.old) (basis_in market.now names.now) asks.now (scenario_of moves.now))
+        (scenario_calls (B.calc bench.old) (basis_in market.now names.now) asks.now (scenario_of moves.now))
         (output lines.old.items (B.count bench.old) (B.log bench.old))) }
     ensures values { OnOk result (values.new ≡ values.old
-        ++ scenario_values (B.calc bench.old) (basis_of (texts_in texts.now) names.now) asks.now (scenario_of moves.now)) }
+        ++ scenario_values (B.calc bench.old) (basis_in market.now names.now) asks.now (scenario_of moves.now)) }
     ensures halts { OnErr result (Halts OfOrder
-        (course_of (B.calc bench.old) (moves.now ++ asks.now) (first_of (basis_of (texts_in texts.now) names.now)))
+        (course_of (B.calc bench.old) (moves.now ++ asks.now) (first_of (basis_in market.now names.now)))
         (output lines.old.items (B.count bench.old) (B.log bench.old))
         (output lines.new.items (B.count bench.new) (B.log bench.new))) }
     ensures kept { Extends values.old values.new }
 {
-    let mut session = begun(alloc, texts, names)?;
+    let mut session = begun(alloc, market, names)?;
     move_and_ask(&mut session, moves, asks, bench, lines, values)
 }
 

@@ -7,14 +7,16 @@ use Rattle.session_rounds.specs.Goes.{Stays}
 use Rattle.grid_shape.specs.Kinds.{is_ask}
 use Rattle.grid_model.proofs.Moved.{ask_holds}
 use Rattle.scenario_grid.specs.Course.{output}
-use Rattle.scenario_grid.proofs.Steps.{progress_none, progress_next, progress_last, progress_more, progress_halts, progress_done, progress_known, values_none, values_next, values_more, values_done, values_kept, item_of, does_of, halts_of, going_of, shown_of}
+use Rattle.scenario_grid.proofs.Steps.{progress_none, progress_next, progress_last, progress_more, progress_halts, progress_done, progress_known, going_more, values_none, values_next, values_more, values_done, values_kept, item_of, does_of, halts_of, going_of, shown_of}
 use Rattle.scenario_grid.proofs.asking.ask_all.Goals as goal
 
 pub loop-ask-init : goal.loop-ask-init
 loop-ask-init g c = record {
   same = refl;
   progress = progress_none (g.B.Bench.calc c.args.bench.now) c.args.asks.now c.args.session.now
-      (output c.args.lines.now.items (g.B.Bench.count c.args.bench.now) (g.B.Bench.log c.args.bench.now)) c.requires.going;
+      (output c.args.lines.now.items (g.B.Bench.count c.args.bench.now) (g.B.Bench.log c.args.bench.now)) c.requires.going.running
+      c.requires.going.sound;
+  going = c.requires.going;
   values = values_none (g.B.Bench.calc c.args.bench.now) c.args.asks.now c.args.session.now c.args.values.now;
 }
 
@@ -23,11 +25,10 @@ ask_next-requires g c =
     let calc = g.B.Bench.calc c.args.bench.now in
     let start = output c.args.lines.now.items (g.B.Bench.count c.args.bench.now) (g.B.Bench.log c.args.bench.now) in
     let now = output c.loop-ask.lines.items (g.B.Bench.count c.loop-ask.bench) (g.B.Bench.log c.loop-ask.bench) in
-    let p = c.loop-ask.invariant.progress in
     record {
-      going = going_of calc _ c.loop-ask.session c.loop-ask.invariant.same p.going;
-      known = progress_known calc c.args.asks.now c.args.session.now start _ c.ask-item.result c.loop-ask.session now p
-          c.requires.going.actions
+      going = going_of calc _ c.loop-ask.session c.loop-ask.invariant.same c.loop-ask.invariant.going;
+      known = progress_known calc c.args.asks.now c.args.session.now start _ c.ask-item.result c.loop-ask.session now
+          c.loop-ask.invariant.progress
           (item_of (IsKnown c.args.session.now.standing) c.args.asks.now c.loop-ask.ask-index c.ask-item.result
           c.loop-ask-test.true c.ask-item.is c.requires.known);
       ask = item_of (λ (d : Command). is_ask d ≡ true) c.args.asks.now c.loop-ask.ask-index c.ask-item.result c.loop-ask-test.true
@@ -42,17 +43,18 @@ loop-ask-preserved g c =
     let new = output c.ask_next.new.lines.items (g.B.Bench.count c.ask_next.new.bench) (g.B.Bench.log c.ask_next.new.bench) in
     let same = c.loop-ask.invariant.same in
     let does = does_of calc _ c.loop-ask.session c.ask_next.new.session c.ask-item.result now new same c.in_ok-ask_next.ensures.does in
+    let stays = subst (λ (k : Calc). Stays k c.loop-ask.session.standing c.ask_next.new.session.standing) same c.ask_next.ensures.stays in
     record {
       same = c.ask_next.ensures.same ∙ same;
       progress = progress_more calc c.args.asks.now c.args.session.now start c.ask-item.result _ c.loop-ask.session
           c.ask_next.new.session now new
-          (ask_holds c.ask-item.result (item_of (λ (d : Command). is_ask d ≡ true) c.args.asks.now c.loop-ask.ask-index
-          c.ask-item.result c.loop-ask-test.true c.ask-item.is c.requires.asks))
           (progress_next calc c.args.asks.now c.args.session.now start c.loop-ask.ask-index c.ask-item.result
           c.loop-ask.session now c.loop-ask-test.true c.ask-item.is c.loop-ask.invariant.progress)
-          does
-          (subst (λ (k : Calc). Stays k c.loop-ask.session.standing c.ask_next.new.session.standing) same c.ask_next.ensures.stays)
-          c.in_ok-ask_next.ensures.running;
+          does stays c.in_ok-ask_next.ensures.running;
+      going = going_more calc c.loop-ask.session c.ask_next.new.session c.ask-item.result now new
+          (ask_holds c.ask-item.result (item_of (λ (d : Command). is_ask d ≡ true) c.args.asks.now c.loop-ask.ask-index
+          c.ask-item.result c.loop-ask-test.true c.ask-item.is c.requires.asks))
+          c.loop-ask.invariant.going does stays c.in_ok-ask_next.ensures.running;
       values = values_more calc c.args.asks.now c.args.session.now c.args.values.now c.ask-item.result _ c.loop-ask.session
           c.ask_next.new.session c.loop-ask.values c.ask_next.new.values
           (values_next calc c.args.asks.now c.args.session.now c.args.values.now c.loop-ask.ask-index c.ask-item.result

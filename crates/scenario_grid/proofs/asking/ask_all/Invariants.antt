@@ -1,5 +1,6 @@
 use Rattle.std.proofs.Common.{◌≡◌, drop}
 use Rattle.scenario_grid.specs.Course.{output}
+use Rattle.scenario_grid.specs.Going.{IsGoing}
 use Rattle.scenario_grid.proofs.Steps.{Progress, Values}
 use Rattle.scenario_grid.proofs.asking.ask_all.Given as goal
 
@@ -9,6 +10,7 @@ invariant-loop-ask g l = record {
   progress : Progress (g.B.Bench.calc l.initial.bench) l.asks l.initial.session
       (output l.initial.lines.items (g.B.Bench.count l.initial.bench) (g.B.Bench.log l.initial.bench))
       (drop l.ask-index l.asks) l.session (output l.lines.items (g.B.Bench.count l.bench) (g.B.Bench.log l.bench));
+  going : IsGoing (g.B.Bench.calc l.initial.bench) l.session;
   values : Values (g.B.Bench.calc l.initial.bench) l.asks l.initial.session l.initial.values (drop l.ask-index l.asks)
       l.session l.values;
 }

@@ -1,13 +1,12 @@
 use Rattle.std.proofs.Common.{◌≡◌, ◌<◌, ◌≤◌, true, [], length, List, sym, ◌∙◌, subst, arith, All}
 use Rattle.std.proofs.lemmas.Result.{err_from_is_err_and}
 use Rattle.std.proofs.lemmas.List.Elements.{All-nil}
-use Rattle.market_loader.specs.Market.{texts_in}
 use Rattle.session_commands.specs.declared.command.Command.{Command}
 use Rattle.session_commands.specs.Whole.{IsCommand}
 use Rattle.grid_shape.specs.Kinds.{is_move}
 use Rattle.grid_model.specs.Grid.{scenarios_of}
 use Rattle.grid_report.specs.Shown.{rows_in}
-use Rattle.scenario_grid.specs.Basis.{basis_of}
+use Rattle.scenario_grid.specs.Basis.{basis_in}
 use Rattle.scenario_grid.proofs.Grids.{first_past, first_begins, next_past, next_begins, last_past, past_lines, past_rows, past_makes}
 use Rattle.scenario_grid.proofs.Steps.{item_of}
 use Rattle.scenario_grid.proofs.Named.{all_moves_named, all_asks_named}
@@ -15,7 +14,7 @@ use Rattle.scenario_grid.proofs.grid.all_scenarios.Goals as goal
 
 pub add_scenario-requires : goal.add_scenario-requires
 add_scenario-requires g c = record {
-  ground = c.requires.ground;
+  ready = c.requires.ready;
   moves = subst (λ (l : List Command). All (λ (d : Command). is_move d ≡ true) l) (sym c.new-none.ensures)
       (All-nil (λ (d : Command). is_move d ≡ true));
   asks = c.requires.taken.asks;
@@ -29,14 +28,14 @@ pub returns-in_err-add_scenario-clause-calls : goal.returns-in_err-add_scenario-
 returns-in_err-add_scenario-clause-calls g c =
     let from = c.from_residual in
     let p = err_from_is_err_and from.result from.ensures.1 in
-    rw p.1 (first_begins (g.B.Bench.calc c.args.bench.now) (basis_of (texts_in c.args.texts.now) c.args.names.now) c.args.script.now
+    rw p.1 (first_begins (g.B.Bench.calc c.args.bench.now) (basis_in c.args.market.now c.args.names.now) c.args.script.now
     c.args.lines.now.items (g.B.Bench.count c.args.bench.now) (g.B.Bench.log c.args.bench.now) c.new-none.result c.new-none.ensures
     (g.B.Bench.count c.add_scenario.new.bench) (g.B.Bench.log c.add_scenario.new.bench) c.in_err-add_scenario.ensures.calls)
 
 pub loop-at-init : goal.loop-at-init
 loop-at-init g c = record {
   same = c.add_scenario.ensures.same;
-  past = first_past (g.B.Bench.calc c.args.bench.now) (basis_of (texts_in c.args.texts.now) c.args.names.now) c.args.script.now
+  past = first_past (g.B.Bench.calc c.args.bench.now) (basis_in c.args.market.now c.args.names.now) c.args.script.now
       c.args.lines.now.items (g.B.Bench.count c.args.bench.now) (g.B.Bench.log c.args.bench.now) c.new-none.result c.new-rows.result
       c.new-none.ensures c.new-rows.ensures c.add_scenario.new.lines.items (rows_in c.add_scenario.new.rows)
       (g.B.Bench.count c.add_scenario.new.bench) (g.B.Bench.log c.add_scenario.new.bench) c.in_ok-add_scenario.ensures.lines
@@ -71,7 +70,7 @@ returns-in_err-add_scenario-2-clause-calls g c =
     let calls = rw c.loop-at.invariant.same at c.in_err-add_scenario-2.ensures.calls in
     let from = c.from_residual-in_err-add_scenario-2 in
     let p = err_from_is_err_and from.result from.ensures.1 in
-    rw p.1 (next_begins (g.B.Bench.calc c.args.bench.now) (basis_of (texts_in c.args.texts.now) c.args.names.now) script
+    rw p.1 (next_begins (g.B.Bench.calc c.args.bench.now) (basis_in c.args.market.now c.args.names.now) script
     c.args.lines.now.items (g.B.Bench.count c.args.bench.now) (g.B.Bench.log c.args.bench.now) c.loop-at.at c.index-items-at.result
     c.index-items-at-in-loop-at.result within named is are c.loop-at.lines.items (rows_in c.loop-at.rows)
     (g.B.Bench.count c.loop-at.bench) (g.B.Bench.log c.loop-at.bench) c.loop-at.invariant.past
@@ -87,7 +86,7 @@ loop-at-preserved g c =
     let same = c.loop-at.invariant.same in
     record {
       same = c.add_scenario-in-loop-at.ensures.same ∙ same;
-      past = next_past (g.B.Bench.calc c.args.bench.now) (basis_of (texts_in c.args.texts.now) c.args.names.now) script
+      past = next_past (g.B.Bench.calc c.args.bench.now) (basis_in c.args.market.now c.args.names.now) script
           c.args.lines.now.items (g.B.Bench.count c.args.bench.now) (g.B.Bench.log c.args.bench.now) c.loop-at.at
           c.index-items-at.result c.index-items-at-in-loop-at.result within named is are c.loop-at.lines.items
           (rows_in c.loop-at.rows) (g.B.Bench.count c.loop-at.bench) (g.B.Bench.log c.loop-at.bench) c.loop-at.invariant.past
@@ -100,7 +99,7 @@ loop-at-preserved g c =
 pub returns-clause-lines : goal.returns-clause-lines
 returns-clause-lines g c =
     let calc = g.B.Bench.calc c.args.bench.now in
-    let basis = basis_of (texts_in c.args.texts.now) c.args.names.now in
+    let basis = basis_in c.args.market.now c.args.names.now in
     let script = c.args.script.now in
     let past : length script.actions ≤ c.loop-at.at = omega (arith, c.loop-at-test.false, c.len.ensures) in
     past_lines calc basis script.commands (scenarios_of script) c.args.lines.now.items [] (g.B.Bench.count c.args.bench.now)
@@ -113,7 +112,7 @@ returns-clause-lines g c =
 pub returns-clause-rows : goal.returns-clause-rows
 returns-clause-rows g c =
     let calc = g.B.Bench.calc c.args.bench.now in
-    let basis = basis_of (texts_in c.args.texts.now) c.args.names.now in
+    let basis = basis_in c.args.market.now c.args.names.now in
     let script = c.args.script.now in
     let past : length script.actions ≤ c.loop-at.at = omega (arith, c.loop-at-test.false, c.len.ensures) in
     past_rows calc basis script.commands (scenarios_of script) c.args.lines.now.items [] (g.B.Bench.count c.args.bench.now)
@@ -126,7 +125,7 @@ returns-clause-rows g c =
 pub returns-clause-calls : goal.returns-clause-calls
 returns-clause-calls g c =
     let calc = g.B.Bench.calc c.args.bench.now in
-    let basis = basis_of (texts_in c.args.texts.now) c.args.names.now in
+    let basis = basis_in c.args.market.now c.args.names.now in
     let script = c.args.script.now in
     let past : length script.actions ≤ c.loop-at.at = omega (arith, c.loop-at-test.false, c.len.ensures) in
     past_makes calc basis script.commands (scenarios_of script) c.args.lines.now.items [] (g.B.Bench.count c.args.bench.now)

@@ -1,7 +1,6 @@
 use Rattle.std.proofs.lemmas.Result.{err_from_is_err_and}
-use Rattle.market_loader.specs.Market.{texts_in}
 use Rattle.grid_report.specs.Shown.{rows_in}
-use Rattle.scenario_grid.specs.Basis.{basis_of}
+use Rattle.scenario_grid.specs.Basis.{basis_in}
 use Rattle.scenario_grid.proofs.Calling.{makes_begins}
 use Rattle.scenario_grid.proofs.Grids.{lines_whole}
 use Rattle.scenario_grid.proofs.grid.grid_lines.Goals as goal
@@ -22,6 +21,6 @@ returns-in_err-worst_lines-clause-calls g c =
 pub returns-clause-lines : goal.returns-clause-lines
 returns-clause-lines g c =
     let worst = rw c.items.ensures at c.in_ok-worst_lines.ensures in
-    lines_whole (g.B.Bench.calc c.args.bench.now) (basis_of (texts_in c.args.texts.now) c.args.names.now) c.args.script.now
+    lines_whole (g.B.Bench.calc c.args.bench.now) (basis_in c.args.market.now c.args.names.now) c.args.script.now
     c.new-lines.result.items c.all_scenarios.new.lines.items c.worst_lines.new.out.items (rows_in c.in_ok-rows.rows)
     c.items-2.result.now c.new-lines.ensures.items c.in_ok-rows.ensures.lines c.in_ok-rows.ensures.rows c.items-2.ensures worst

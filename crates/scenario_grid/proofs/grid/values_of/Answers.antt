@@ -1,8 +1,7 @@
 use Rattle.std.proofs.Common.{◌++◌, ℤ, List, Option, ◌∙◌, ap}
 use Rattle.std.proofs.lemmas.Result.{err_from_is_err_and}
-use Rattle.market_loader.specs.Market.{texts_in}
 use Rattle.grid_model.specs.Scenario.{scenario_values}
-use Rattle.scenario_grid.specs.Basis.{basis_of}
+use Rattle.scenario_grid.specs.Basis.{basis_in}
 use Rattle.scenario_grid.specs.Course.{scenario_of}
 use Rattle.scenario_grid.proofs.grid.values_of.Goals as goal
 
@@ -10,7 +9,7 @@ pub returns-clause-values : goal.returns-clause-values
 returns-clause-values g c =
     c.in_ok-one_scenario.ensures.values
     ∙ ap (λ (l : List (Option ℤ)). l ++ scenario_values (g.B.Bench.calc c.args.bench.now)
-    (basis_of (texts_in c.args.texts.now) c.args.names.now) c.args.asks.now (scenario_of c.args.moves.now)) c.new-values.ensures
+    (basis_in c.args.market.now c.args.names.now) c.args.asks.now (scenario_of c.args.moves.now)) c.new-values.ensures
 
 pub returns-clause-calls : goal.returns-clause-calls
 returns-clause-calls g c = record { count = c.in_ok-one_scenario.ensures.count; log = c.in_ok-one_scenario.ensures.log }

@@ -1,5 +1,6 @@
 use Rattle.std.proofs.Common.{◌≡◌, drop}
 use Rattle.scenario_grid.specs.Course.{output}
+use Rattle.scenario_grid.specs.Going.{IsGoing}
 use Rattle.scenario_grid.proofs.Steps.{Progress}
 use Rattle.scenario_grid.proofs.moving.move_all.Given as goal
 
@@ -9,4 +10,5 @@ invariant-loop-command g l = record {
   progress : Progress (g.B.Bench.calc l.initial.bench) l.moves l.initial.session
       (output l.initial.lines.items (g.B.Bench.count l.initial.bench) (g.B.Bench.log l.initial.bench))
       (drop l.command-index l.moves) l.session (output l.lines.items (g.B.Bench.count l.bench) (g.B.Bench.log l.bench));
+  going : IsGoing (g.B.Bench.calc l.initial.bench) l.session;
 }

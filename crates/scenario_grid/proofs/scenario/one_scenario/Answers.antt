@@ -1,9 +1,9 @@
-use Rattle.std.proofs.Common.{◌≡◌, ℕ, length, take, ◌∙◌, ap, arith}
+use Rattle.std.proofs.Common.{◌≡◌, ◌++◌, ℕ, length, take, ◌∙◌, ap, arith}
 use Rattle.session_rounds.specs.Goes.{Output}
-use Rattle.market_loader.specs.Market.{texts_in}
 use Rattle.grid_model.specs.Scenario.{first_of}
-use Rattle.scenario_grid.specs.Basis.{basis_of}
-use Rattle.scenario_grid.proofs.Scenarios.{halts_begins, halts_cut, extends_cut}
+use Rattle.scenario_grid.specs.Basis.{basis_in}
+use Rattle.scenario_grid.proofs.Courses.{course_begins}
+use Rattle.scenario_grid.proofs.Scenarios.{halts_cut, extends_cut}
 use Rattle.scenario_grid.proofs.scenario.one_scenario.Goals as goal
 
 pub returns-in-Ok-clause-lines : goal.returns-in-Ok-clause-lines
@@ -24,8 +24,8 @@ returns-in-Ok-clause-log g c =
 pub returns-in-Err-clause-begins : goal.returns-in-Err-clause-begins
 returns-in-Err-clause-begins g c =
     let halts = rw (c.items.ensures, c.items-2.ensures) at c.in-Err.ensures.halts in
-    halts_begins (g.B.Bench.calc c.args.bench.now) c.args.moves.now c.args.asks.now
-    (first_of (basis_of (texts_in c.args.texts.now) c.args.names.now)) c.args.lines.now.items c.played.new.lines.items
+    course_begins (g.B.Bench.calc c.args.bench.now) (c.args.moves.now ++ c.args.asks.now)
+    (first_of (basis_in c.args.market.now c.args.names.now)) c.args.lines.now.items c.played.new.lines.items
     (g.B.Bench.count c.args.bench.now) (g.B.Bench.count c.played.new.bench) (g.B.Bench.log c.args.bench.now)
     (g.B.Bench.log c.played.new.bench) halts
 
@@ -37,7 +37,7 @@ returns-in-Err-clause-no_lines g c =
     c.truncate.ensures.items
     ∙ ap (λ (n : ℕ). take n c.played.new.lines.items) long
     ∙ halts_cut (g.B.Bench.calc c.args.bench.now) c.args.moves.now c.args.asks.now
-    (first_of (basis_of (texts_in c.args.texts.now) c.args.names.now)) c.args.lines.now.items c.played.new.lines.items
+    (first_of (basis_in c.args.market.now c.args.names.now)) c.args.lines.now.items c.played.new.lines.items
     (g.B.Bench.count c.args.bench.now) (g.B.Bench.count c.played.new.bench) (g.B.Bench.log c.args.bench.now)
     (g.B.Bench.log c.played.new.bench) halts
 

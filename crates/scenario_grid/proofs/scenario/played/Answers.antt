@@ -1,14 +1,13 @@
 use Rattle.std.proofs.lemmas.Result.{err_from_is_err_and}
-use Rattle.market_loader.specs.Market.{texts_in}
 use Rattle.grid_model.specs.Scenario.{first_of}
-use Rattle.scenario_grid.specs.Basis.{basis_of}
+use Rattle.scenario_grid.specs.Basis.{basis_in}
 use Rattle.scenario_grid.specs.Course.{output}
 use Rattle.scenario_grid.proofs.Scenarios.{halts_begun, first_known}
 use Rattle.scenario_grid.proofs.scenario.played.Goals as goal
 
 pub move_and_ask-requires : goal.move_and_ask-requires
 move_and_ask-requires g c =
-    let basis = basis_of (texts_in c.args.texts.now) c.args.names.now in
+    let basis = basis_in c.args.market.now c.args.names.now in
     let begins = c.in_ok-session.ensures.begins in
     record {
       going = c.in_ok-session.ensures.going (g.B.Bench.calc c.args.bench.now);
@@ -23,5 +22,5 @@ returns-in_err-session-clause-halts g c =
     let from = c.from_residual in
     let p = err_from_is_err_and from.result from.ensures.1 in
     rw p.1 (halts_begun (g.B.Bench.calc c.args.bench.now) c.args.moves.now c.args.asks.now
-    (first_of (basis_of (texts_in c.args.texts.now) c.args.names.now))
+    (first_of (basis_in c.args.market.now c.args.names.now))
     (output c.args.lines.now.items (g.B.Bench.count c.args.bench.now) (g.B.Bench.log c.args.bench.now)))

@@ -4,8 +4,28 @@
 //! `desk run MARKET SCRIPT [--order ORDER]`, `desk check MARKET`, `desk load SIZE`. What it does is `desk_top::run`.
 #![tactic(auto)]
 
-use desk_process::{Ended, run_process};
+use desk_bench::DeskBench;
+use desk_edge::{Shelf, Sink};
+use desk_top::{Status, run};
+use std::alloc::Global;
+use tool_process::{Ended, Program, run_process};
 
-fn main(rt: HostRuntime) -> Ended {
-    run_process(&rt)
+// The run of the program.
+struct Desk;
+
+impl Program for Desk {
+    type Status = Status;
+
+    fn run<H: Shelf, K: Sink>(
+        alloc: Global,
+        words: &[String],
+        shelf: &mut H,
+        out: &mut K,
+    ) -> Status {
+        run(alloc, words, shelf, out, &mut DeskBench::new())
+    }
+}
+
+fn main(rt: HostRuntime) -> Ended<Status> {
+    run_process::<Desk>(&rt, "desk")
 }

@@ -60,16 +60,6 @@ quotes_ended calc m o all s is = ap (λ (l : List ℕ). quotes_asking calc m o l
 pub rungs_ended : (f : ℕ → Rung) (rungs : List Rung) (all : List ℕ) → all ≡ [] → rungs ≡ rungs ++ map f all
 rungs_ended f rungs all is = sym (append-nil rungs) ∙ ap (λ (l : List ℕ). rungs ++ map f l) (sym is)
 
--- no call of these was made, and all of them
-pub no_front : (calls : List (ℕ × Outcome)) (count : ℕ) (log : Log) → MadeFront calls count count log log
-no_front calls count log = front_whole [] calls count count log log (made_none count log)
-
-pub all_front : (calls : List (ℕ × Outcome)) (count now : ℕ) (log log_now : Log) → Made calls count now log log_now
-    → MadeFront calls count now log log_now
-all_front calls count now log log_now made =
-    subst (λ (l : List (ℕ × Outcome)). MadeFront l count now log log_now) (append-nil calls)
-    (front_whole calls [] count now log log_now made)
-
 pub quoted_there : (m n : Market) (quotes : List ℕ) (group : List Quoted) → n ≡ m → group ≡ quoted_in m quotes → AreQuoted n group
 quoted_there m n quotes group same is =
     subst (λ (l : List Quoted). AreQuoted n l) (sym is) (subst (λ (k : Market). AreQuoted k (quoted_in m quotes)) (sym same) (all_quoted m quotes))

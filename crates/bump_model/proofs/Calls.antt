@@ -1,12 +1,12 @@
 -- Calls of the bench that follow one another.
-use Rattle.std.proofs.Common.{◌≡◌, ◌≢◌, inl, inr, ℕ, zero, suc, ◌+◌, ◌-◌, ◌^◌, min, Bool, List, [], ◌∷◌, ◌++◌, length, Option, Some, None, refl, sym, ◌∙◌, ap, subst, append_assoc, arith}
+use Rattle.std.proofs.Common.{◌≡◌, ◌≢◌, inl, inr, ℕ, zero, suc, ◌+◌, ◌-◌, ◌^◌, min, Bool, List, [], ◌∷◌, ◌++◌, length, Option, Some, None, Result, Ok, Err, refl, sym, ◌∙◌, ap, subst, append_assoc, arith}
 use Rattle.std.specs.Prelude.{is_ok}
 use Rattle.std.proofs.lemmas.List.{append-nil, length-append}
 use Rattle.desk_terms.specs.Bench.{counted, logged}
 use Rattle.desk_terms.specs.Reading.{Outcome}
 use Rattle.desk_model.specs.Visit.{log_of}
 use Rattle.desk_model.specs.State.{State}
-use Rattle.bump_model.specs.Asking.{Asking, none, then_ask, Made, MadeFront}
+use Rattle.bump_model.specs.Asking.{Asking, none, then_ask, Made, MadeFront, Calls}
 
 abbrev Log : Type 0
 Log = Option (List (ℕ × Bool))
@@ -89,6 +89,35 @@ pub front_whole : (xs ys : List (ℕ × Outcome)) (count now : ℕ) (log log_now
     → MadeFront (xs ++ ys) count now log log_now
 front_whole xs ys count now log log_now made =
     record { front = xs; rest = ys; whole = refl; count = inl made.count; log = made.log }
+
+-- no call is a front of any
+pub front_none : (calls : List (ℕ × Outcome)) (count : ℕ) (log : Log) → MadeFront calls count count log log
+front_none calls count log = front_whole [] calls count count log log (made_none count log)
+
+-- all calls are a front of themselves
+pub front_all : (calls : List (ℕ × Outcome)) (count now : ℕ) (log log_now : Log) → Made calls count now log log_now
+    → MadeFront calls count now log log_now
+front_all calls count now log log_now made =
+    record { front = calls; rest = []; whole = sym (append-nil calls); count = inl made.count; log = made.log }
+
+-- all were made, whatever comes behind them
+pub calls_any : {A E : Type 0} (calls : List (ℕ × Outcome)) (result : Result A E) (count now : ℕ) (log log_now : Log)
+    → Made calls count now log log_now → Calls calls result count now log log_now
+calls_any calls (Ok x) count now log log_now made = made
+calls_any calls (Err e) count now log log_now made = front_all calls count now log log_now made
+
+-- memory ran out
+pub calls_front : {A E : Type 0} (calls : List (ℕ × Outcome)) (result : Result A E) (count now : ℕ) (log log_now : Log)
+    (e : E) → result ≡ Err e → MadeFront calls count now log log_now → Calls calls result count now log log_now
+calls_front {A} {E} calls result count now log log_now e is front =
+    subst (λ (r : Result A E). Calls calls r count now log log_now) (sym is) front
+
+-- there are none
+pub calls_none : {A E : Type 0} (calls : List (ℕ × Outcome)) (result : Result A E) (count : ℕ) (log : Log) → calls ≡ []
+    → Calls calls result count count log log
+calls_none {A} {E} calls result count log none =
+    subst (λ (l : List (ℕ × Outcome)). Calls l result count count log log) (sym none)
+    (calls_any [] result count count log log (made_none count log))
 
 -- HOW FAR asks have come: these were made, and the rest is left
 pub record Progress (whole rest : Asking) (number count now : ℕ) (log log_now : Option (List (ℕ × Bool))) : Type 0 where

@@ -118,3 +118,8 @@ Ends asking (Ok x) new count_old count_new log_old log_new =
 Ends asking (Err (Base cause count)) new count_old count_new log_old log_new =
     (new ≡ asking.next) × Made asking.calls count_old count_new log_old log_new
 Ends asking (Err NoMemory) new count_old count_new log_old log_new = MadeFront asking.calls count_old count_new log_old log_new
+
+-- the bench was called for exactly these, or for a front of them where memory ran out
+abbrev pub Calls : {A E : Type 0} → List (ℕ × Outcome) → Result A E → ℕ → ℕ → Option (List (ℕ × Bool)) → Option (List (ℕ × Bool)) → Type 0
+Calls calls (Ok x) count_old count_new log_old log_new = Made calls count_old count_new log_old log_new
+Calls calls (Err e) count_old count_new log_old log_new = MadeFront calls count_old count_new log_old log_new

@@ -8,8 +8,6 @@ use Rattle.price_report.specs.Namer.{object_text}
 use Rattle.bump_model.specs.declared.ladder.Side.{Side}
 use Rattle.bump_model.specs.declared.ladder.Side.TheVariants.{Moved, Refused, Limit, Unset}
 use Rattle.bump_model.specs.declared.ladder.Rung.{Rung}
-use Rattle.bump_report.specs.declared.unnamed.Unnamed.{Unnamed}
-use Rattle.bump_report.specs.declared.unnamed.Unnamed.TheVariants.{Unknown, Kind}
 
 -- a gain with six places, a refusal with its cause, or why there is neither
 abbrev pub side_text : List (List ℕ) → List ℕ → Side → List ℕ
@@ -57,11 +55,3 @@ ladder_lines names of_object o base rungs runs =
 unfoldable pub refused_lines : List (List ℕ) → List ℕ → ℕ → Cause → ℕ → List ℕ
 refused_lines names of_object o cause runs =
     object_text names of_object o ++ codes " refused " ++ cause_text names of_object cause ++ codes "\n" ++ runs_line runs
-
-abbrev pub unnamed_word : Unnamed → List ℕ
-unnamed_word Unknown = codes "unknown"
-unnamed_word Kind = codes "kind"
-
--- `refused bump unknown NAME` or `refused bump kind NAME`, and a newline
-unfoldable pub unnamed_line : Unnamed → List ℕ → List ℕ
-unnamed_line why name = codes "refused bump " ++ unnamed_word why ++ codes " " ++ name ++ codes "\n"

@@ -4,8 +4,7 @@ use Rattle.desk_terms.specs.declared.cause.Cause.TheVariants.{NoEngine, TooLarge
 use Rattle.bump_model.specs.declared.ladder.Side.{Side}
 use Rattle.bump_model.specs.declared.ladder.Side.TheVariants.{Moved, Refused, Limit, Unset}
 use Rattle.bump_model.specs.declared.ladder.Rung.{Rung}
-use Rattle.bump_report.specs.declared.unnamed.Unnamed.TheVariants.{Unknown, Kind}
-use Rattle.bump_report.specs.Lines.{ladder_lines, refused_lines, unnamed_line}
+use Rattle.bump_report.specs.Lines.{ladder_lines, refused_lines}
 
 abbrev pub four_names : List (List ℕ)
 four_names = codes "today" ∷ codes "r" ∷ codes "b" ∷ codes "z" ∷ []
@@ -26,5 +25,3 @@ pub record AreWorked : Type 0 where
   pub ladder : ladder_lines four_names four_objects 2 (pos 99_009_901) rungs 10 ≡
       codes "b base 99.009901\nr up -0.002723 down 0.002723\nz unset\nz up limit down refused toolarge b\nall up -0.002723 down 0.002723\nruns 10\n"
   pub refused : refused_lines four_names four_objects 2 (NoEngine 2) 0 ≡ codes "b refused noengine b\nruns 0\n"
-  pub unknown : unnamed_line Unknown (codes "y") ≡ codes "refused bump unknown y\n"
-  pub kind : unnamed_line Kind (codes "today") ≡ codes "refused bump kind today\n"

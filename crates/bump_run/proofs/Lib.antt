@@ -1,3 +1,2 @@
 pub mod Calling
 pub mod Quoting
-pub mod Wording

@@ -1,8 +1,4 @@
-pub mod Found
 pub mod Lines
 pub mod Named
 pub mod Rows
-pub mod Run
-pub mod Status
 pub mod Verdict
-pub mod Words

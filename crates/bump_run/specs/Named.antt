@@ -1,29 +1,7 @@
--- What a name stands for among the objects of a market, and which of these are quotes.
-use Rattle.std.specs.Prelude.{ℕ, zero, suc, Bool, true, false, if◌then◌else◌, List, [], ◌∷◌, ◌++◌, length, Option, None, Some, Result, Ok, Err}
-use Rattle.desk_names.specs.Names.{has_text, place_of}
+-- Which objects of a market are quotes.
+use Rattle.std.specs.Prelude.{ℕ, zero, suc, Bool, true, false, if◌then◌else◌, List, [], ◌∷◌, ◌++◌, length, Option, None, Some}
 use Rattle.desk_terms.specs.declared.kind.Kind as kind
-use Rattle.desk_terms.specs.declared.kind.Wanted.TheVariants.{Member}
-use Rattle.desk_terms.specs.Kind.{serves}
 use Rattle.desk_model.specs.Market.{Market, kind_at}
-use Rattle.bump_report.specs.declared.unnamed.Unnamed.{Unnamed}
-use Rattle.bump_report.specs.declared.unnamed.Unnamed.TheVariants.{Unknown, Kind}
-
--- the number of a name, if there is such a name
-abbrev pub number_of : List (List ℕ) → List ℕ → Option ℕ
-number_of names text = if has_text names text then Some (place_of names text) else None
-
--- an object by its kind: it is an instrument, or it is not
-abbrev pub by_kind : ℕ → Option kind.Kind → Result ℕ Unnamed
-by_kind o None = Err Unknown
-by_kind o (Some kind) = if serves kind Member then Ok o else Err Kind
-
-abbrev pub by_number : Market → Option ℕ → Result ℕ Unnamed
-by_number market None = Err Unknown
-by_number market (Some o) = by_kind o (kind_at market o)
-
--- the instrument that has a name, or why the name is no instrument's: the number of an object is that of its name
-abbrev pub instrument_named : Market → List (List ℕ) → List ℕ → Result ℕ Unnamed
-instrument_named market names text = by_number market (number_of names text)
 
 abbrev pub is_quote : Option kind.Kind → Bool
 is_quote None = false

@@ -1,13 +1,13 @@
--- Small markets and words that are worked through by hand.
+-- A small market that is worked through by hand.
 use Rattle.std.specs.Prelude.{◌≡◌, ℕ, List, [], ◌∷◌, codes, true, pos, None, Some}
 use Rattle.desk_terms.specs.declared.terms.Terms.{Terms}
 use Rattle.desk_terms.specs.declared.terms.Terms.TheVariants.{Quote, Stock}
 use Rattle.desk_model.specs.Examples.{plain}
 use Rattle.desk_model.specs.Visit.{log_of}
 use Rattle.market_file.specs.Market.{Market}
-use Rattle.bump_run.specs.Lines.{standing_of, bump_text, bump_calls}
+use Rattle.market_desk.specs.Standing.{standing_of}
+use Rattle.bump_run.specs.Lines.{bump_text, bump_calls}
 use Rattle.bump_run.specs.Named.{quotes_in}
-use Rattle.bump_run.specs.Words.{request_of}
 
 -- The quotes `a`, at 1.5, and `z`, without a value, and a stock `s` on the first. The bench is worth a stock its quote, in
 -- the quote's own units.
@@ -31,12 +31,3 @@ pub record IsWorked : Type 0 where
   pub today : bump_text plain (standing_of small) (codes "today") ≡ codes "refused bump kind today\n"
   pub unknown : bump_text plain (standing_of small) (codes "b") ≡ codes "refused bump unknown b\n"
   pub nothing : bump_calls plain (standing_of small) (codes "z") ≡ []
-
-pub record AreTaken : Type 0 where
-  pub two : request_of (codes "m" ∷ codes "b" ∷ []) ≡ Some (record { market = codes "m"; name = codes "b" })
-  pub help : request_of (codes "help" ∷ codes "b-" ∷ []) ≡ Some (record { market = codes "help"; name = codes "b-" })
-  pub one : request_of (codes "m" ∷ []) ≡ None
-  pub three : request_of (codes "m" ∷ codes "b" ∷ codes "c" ∷ []) ≡ None
-  pub option : request_of (codes "m" ∷ codes "-b" ∷ []) ≡ None
-  pub first : request_of (codes "-" ∷ codes "b" ∷ []) ≡ None
-  pub empty : request_of (codes "m" ∷ [] ∷ []) ≡ None

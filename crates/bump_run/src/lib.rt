@@ -1,16 +1,17 @@
 //! What the program `desk_bump` does: from words and a market with its tables to the lines of a ladder of bumps and a
 //! status, for every shelf of files, sink of bytes and bench of prices.
 //!
-//! `run_bump`, `BumpStatus`.
+//! `run_bump`, `NAME`, `BumpStatus`.
 #![tactic(auto)]
 
 mod lines;
 mod named;
 mod rows;
 mod running;
-mod status;
 mod wanted;
-mod words;
 
 pub use running::run_bump;
-pub use status::BumpStatus;
+pub use tool_run::MarketStatus as BumpStatus;
+
+/// The program's name.
+pub const NAME: &str = "desk_bump";

@@ -5,15 +5,18 @@ ghost use Rattle.desk_model.specs.Market.{kind_at};
 ghost use Rattle.desk_model.specs.Links.{serves_as};
 ghost use Rattle.desk_model.specs.Sound.{IsSound};
 ghost use Rattle.desk_model.specs.Unheld.{HoldsNothing};
-ghost use Rattle.bump_run.specs.Lines.{standing, instrument_text, instrument_calls, bump_text, bump_calls, Calls, IsNamed};
+ghost use Rattle.bump_model.specs.Asking.{Calls};
+ghost use Rattle.market_desk.specs.Standing.{standing};
+ghost use Rattle.bump_run.specs.Lines.{instrument_text, instrument_calls, bump_text, bump_calls, IsNamed};
 
-use crate::named::{instrument_named, quotes_of};
+use crate::named::quotes_of;
 use bump_ladder::ladder;
 use bump_model::LadderFault;
-use bump_report::{ladder_lines, refused_lines, unnamed_line};
+use bump_report::{ladder_lines, refused_lines};
 use desk_names::ObjId;
-use desk_terms::Bench;
+use desk_terms::{Bench, Wanted};
 use lazy_objects::Desk;
+use market_desk::{object_named, unnamed_line};
 use price_report::Namer;
 use std::alloc::{AllocError, Global};
 
@@ -37,9 +40,9 @@ pub(crate) fn bump_lines<B: Bench>(
     ensures alone { IsNamed (standing namer.now.names.now namer.now.of_object.now desk.old) name.now ⊎ (bench.new ≡ bench.old) }
     ensures market { desk.new.market ≡ desk.old.market }
 {
-    match instrument_named(desk, namer.names, name) {
+    match object_named(desk, namer.names, name, Wanted::Member) {
         Ok(object) => instrument_lines(alloc, desk, object, namer, bench, lines),
-        Err(why) => unnamed_line(alloc, why, name, lines),
+        Err(why) => unnamed_line(b"bump", why, name, lines),
     }
 }
 

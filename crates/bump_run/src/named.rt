@@ -1,37 +1,12 @@
-// What a name stands for, and which objects are quotes.
+// Which objects of a desk are quotes.
 ghost use Rattle.std.specs.Prelude.{◌≡◌, ◌<◌, ◌^◌, ◌++◌, length, IfOk, OnOk};
 ghost use Rattle.bump_model.specs.Moves.{AreQuotes};
-ghost use Rattle.bump_run.specs.Named.{by_kind, instrument_named, is_quote, quote_by, quotes_in};
+ghost use Rattle.bump_run.specs.Named.{is_quote, quote_by, quotes_in};
 
-use bump_report::Unnamed;
-use desk_names::{Names, ObjId};
-use desk_terms::{Kind, Wanted};
+use desk_names::ObjId;
+use desk_terms::Kind;
 use lazy_objects::Desk;
 use std::alloc::{AllocError, Global};
-
-// The instrument that has a name, or why the name is no instrument's. The number of an object is that of its name.
-pub(crate) fn instrument_named(desk: &Desk, names: &Names, name: &[u8]) -> Result<ObjId, Unnamed>
-    ensures { result ≡ instrument_named desk.now.market names.now name.now }
-{
-    match names.find(name) {
-        None => Err(Unnamed::Unknown),
-        Some(number) => {
-            let object = ObjId(number.0);
-            by_kind(object, desk.kind(object))
-        }
-    }
-}
-
-// An object by what it is.
-fn by_kind(object: ObjId, kind: Option<Kind>) -> Result<ObjId, Unnamed>
-    ensures { result ≡ by_kind object kind }
-{
-    match kind {
-        None => Err(Unnamed::Unknown),
-        Some(kind) if kind.serves(Wanted::Member) => Ok(object),
-        Some(_) => Err(Unnamed::Kind),
-    }
-}
 
 // The quotes of a desk in order of creation.
 pub(crate) fn quotes_of(alloc: Global, desk: &Desk) -> Result<Vec<ObjId>, AllocError>

@@ -1,5 +1,5 @@
 // The call of the program.
-ghost use Rattle.std.specs.Prelude.{◌≡◌, ◌⊎◌, ◌↔◌, ◌+◌, ◌≤◌, map, None, IfOk, IfSome, IfErr, IsErrOf};
+ghost use Rattle.std.specs.Prelude.{◌≡◌, ◌⊎◌, ◌↔◌, ◌+◌, ◌≤◌, map, None, IfOk, IfSome};
 ghost use Rattle.std.specs.String.{string_bytes};
 ghost use Rattle.desk_edge.specs.Count.{Rose};
 ghost use Rattle.desk_edge.specs.Shelf.{files_of};
@@ -7,14 +7,15 @@ ghost use Rattle.market_file.specs.Standing.{IsReady};
 ghost use Rattle.market_loader.specs.declared.faults.MarketRole.{MarketRole};
 ghost use Rattle.desk_model.specs.Sound.{IsSound};
 ghost use Rattle.desk_model.specs.Unheld.{HoldsNothing};
-ghost use Rattle.bump_model.specs.Asking.{Made, MadeFront};
-ghost use Rattle.bump_run.specs.Found.{wanted_in};
-ghost use Rattle.bump_run.specs.Lines.{standing, standing_of, bump_text, bump_calls, Calls, IsNamed};
-ghost use Rattle.bump_run.specs.Run.{IsOutside, IsEarly, IsLate, IsQuiet, Writes, Computes, ended, faults_then};
-ghost use Rattle.bump_run.specs.Verdict.{Wanted as Asked, verdict_of, status_of, output_in, output_of, computed_in, computed_by, reading_calls, IsAccepted, HasInstrument};
-ghost use Rattle.bump_run.specs.Words.{request_of};
+ghost use Rattle.bump_model.specs.Asking.{Calls, Made, MadeFront};
+ghost use Rattle.market_desk.specs.Standing.{standing, standing_of};
+ghost use Rattle.tool_run.specs.Run.{status_of, given_for, IsAccepted, IsAcceptedAs};
+ghost use Rattle.tool_run.specs.Stage.{IsOutside, IsEarly, IsQuiet, Writes, Computes, faults_then};
+ghost use Rattle.tool_run.specs.Status.{stage_of};
+ghost use Rattle.tool_run.specs.Words.{pair_of};
+ghost use Rattle.bump_run.specs.Lines.{bump_text, bump_calls, IsNamed};
+ghost use Rattle.bump_run.specs.Verdict.{Wanted as Asked, wanted_in, verdict_of, output_in, computed_in, reading_calls, HasInstrument};
 
-use crate::BumpStatus;
 use crate::lines::bump_lines;
 use crate::wanted::{Wanted, wanted_of};
 use desk_edge::{Shelf, Sink, write_whole};
@@ -23,6 +24,7 @@ use lazy_objects::Desk;
 use market_desk::{desk_of, names_of};
 use price_report::Namer;
 use std::alloc::{AllocError, Global};
+use tool_run::{MarketStatus, OpenMarket};
 
 /// Does what the words ask for over the files of the shelf, writes the lines to `out`, and answers how that went. The
 /// words are those behind the program's name: the path of a market, and the name of an instrument. The prices are those
@@ -37,43 +39,43 @@ pub fn run_bump<H: Shelf, K: Sink, B: Bench>(
     shelf: &mut H,
     out: &mut K,
     bench: &mut B,
-) -> BumpStatus
+) -> MarketStatus
     // The status is that of the words and the files, but for a fault outside or want of memory.
     ensures status { IfSome (files_of (H.contents shelf.old)) (λ files.
-        IsOutside result ⊎ (result ≡ status_of (verdict_of files (map string_bytes words.now)))) }
-    ensures usage { (result ≡ BumpStatus.Usage) ↔ (request_of (map string_bytes words.now) ≡ None) }
+        IsOutside (stage_of result) ⊎ (result ≡ status_of MarketStatus.Done (verdict_of files (map string_bytes words.now)))) }
+    ensures usage { (result ≡ MarketStatus.Usage) ↔ (pair_of (map string_bytes words.now) ≡ None) }
 
     // What is accepted is done, where no fault is counted and memory is found.
     ensures complete { IfSome (files_of (H.contents shelf.old)) (λ files.
         IsAccepted (verdict_of files (map string_bytes words.now))
         → IsQuiet (H.faults shelf.old) (H.faults shelf.new) → IsQuiet (K.faults out.old) (K.faults out.new)
-        → (result ≡ BumpStatus.Done) ⊎ (result ≡ BumpStatus.NoMemory)) }
+        → (result ≡ MarketStatus.Done) ⊎ (result ≡ MarketStatus.NoMemory)) }
 
     // At Done the bytes written are the lines; after a fault of writing they are a front of them, and else there are none.
     ensures written { IfSome (files_of (H.contents shelf.old)) (λ files.
-        Writes (K.bytes out.old) (K.bytes out.new) (output_of (B.calc bench.old) (verdict_of files (map string_bytes words.now))) result) }
-    ensures nothing { IsEarly result → out.new ≡ out.old }
+        Writes (K.bytes out.old) (K.bytes out.new) (given_for (output_in (B.calc bench.old)) (verdict_of files (map string_bytes words.now))) (stage_of result)) }
+    ensures nothing { IsEarly (stage_of result) → out.new ≡ out.old }
 
     // The bench was called for the computations of the ladder, in their order, and for no other; where memory ran out, for
     // a front of them. `carried` says both of files told or not.
     ensures computed { IfSome (files_of (H.contents shelf.old)) (λ files.
-        Computes (computed_by (B.calc bench.old) (verdict_of files (map string_bytes words.now))) result
+        Computes Made MadeFront (given_for (computed_in (B.calc bench.old)) (verdict_of files (map string_bytes words.now))) (stage_of result)
         (B.count bench.old) (B.count bench.new) (B.log bench.old) (B.log bench.new)) }
-    ensures carried { IsEarly result ⊎ ((asked : Asked)
-        × Writes (K.bytes out.old) (K.bytes out.new) (output_in (B.calc bench.old) asked) result
-        × Computes (computed_in (B.calc bench.old) asked) result
+    ensures carried { IsEarly (stage_of result) ⊎ ((asked : Asked)
+        × Writes (K.bytes out.old) (K.bytes out.new) (output_in (B.calc bench.old) asked) (stage_of result)
+        × Computes Made MadeFront (computed_in (B.calc bench.old) asked) (stage_of result)
         (B.count bench.old) (B.count bench.new) (B.log bench.old) (B.log bench.new)) }
     ensures unnamed { IfSome (files_of (H.contents shelf.old)) (λ files.
-        HasInstrument (verdict_of files (map string_bytes words.now)) ⊎ (bench.new ≡ bench.old)) }
-    ensures alone { IsEarly result → bench.new ≡ bench.old }
+        IsAcceptedAs HasInstrument (verdict_of files (map string_bytes words.now)) ⊎ (bench.new ≡ bench.old)) }
+    ensures alone { IsEarly (stage_of result) → bench.new ≡ bench.old }
     ensures same { B.calc bench.new ≡ B.calc bench.old }
 
     // Each fault was counted.
-    ensures read { result ≡ BumpStatus.ReadFault → Rose (H.faults shelf.old) (H.faults shelf.new) }
+    ensures read { result ≡ MarketStatus.ReadFault → Rose (H.faults shelf.old) (H.faults shelf.new) }
     // A call of the shelf that failed is the answer, and was the last: any call may fail, and one more would be counted too.
-    ensures counted { H.faults shelf.new ≡ faults_then result (H.faults shelf.old) }
-    ensures write { result ≡ BumpStatus.WriteFault → Rose (K.faults out.old) (K.faults out.new) }
-    ensures absent { (role : MarketRole) → result ≡ BumpStatus.Absent role → Rose (H.misses shelf.old) (H.misses shelf.new) }
+    ensures counted { H.faults shelf.new ≡ faults_then (stage_of result) (H.faults shelf.old) }
+    ensures write { result ≡ MarketStatus.WriteFault → Rose (K.faults out.old) (K.faults out.new) }
+    ensures absent { (role : MarketRole) → result ≡ MarketStatus.Absent role → Rose (H.misses shelf.old) (H.misses shelf.new) }
     ensures files { files_of (H.contents shelf.new) ≡ files_of (H.contents shelf.old) }
 
     // Each file is read once, in the order above, and none behind the first failure.
@@ -84,32 +86,12 @@ pub fn run_bump<H: Shelf, K: Sink, B: Bench>(
         Ok(wanted) => wanted,
         Err(status) => return status,
     };
-    match carry_out(alloc, wanted, out, bench) {
-        Ok(()) => BumpStatus::Done,
-        Err(status) => status,
-    }
-}
-
-// Writes the lines of what is wanted.
-fn carry_out<K: Sink, B: Bench>(
-    alloc: Global,
-    wanted: Wanted<'_>,
-    out: &mut K,
-    bench: &mut B,
-) -> Result<(), BumpStatus>
-    requires ready { IsReady wanted.names wanted.made.items }
-    ensures written { Writes (K.bytes out.old) (K.bytes out.new) (output_in (B.calc bench.old) (wanted_in wanted.entry)) (ended result) }
-    ensures computed { Computes (computed_in (B.calc bench.old) (wanted_in wanted.entry)) (ended result)
-        (B.count bench.old) (B.count bench.new) (B.log bench.old) (B.log bench.new) }
-    ensures unnamed { IsNamed (standing_of (wanted_in wanted.entry).market) wanted.entry.name.now ⊎ (bench.new ≡ bench.old) }
-    ensures same { B.calc bench.new ≡ B.calc bench.old }
-    ensures late { IfErr result IsLate }
-    ensures write { IsErrOf result BumpStatus.WriteFault → Rose (K.faults out.old) (K.faults out.new) }
-{
-    let lines = lines_of(alloc, wanted, bench)?;
-    match write_whole(out, &lines) {
-        Ok(()) => Ok(()),
-        Err(_) => Err(BumpStatus::WriteFault),
+    match lines_of(alloc, wanted, bench) {
+        Ok(lines) => match write_whole(out, &lines) {
+            Ok(()) => MarketStatus::Done,
+            Err(_) => MarketStatus::WriteFault,
+        },
+        Err(_) => MarketStatus::NoMemory,
     }
 }
 
@@ -119,19 +101,15 @@ fn lines_of<B: Bench>(
     wanted: Wanted<'_>,
     bench: &mut B,
 ) -> Result<Vec<u8>, AllocError>
-    requires ready { IsReady wanted.names wanted.made.items }
+    requires ready { IsReady wanted.market.names wanted.market.made.items }
     ensures lines { IfOk result (λ lines. lines.items ≡ output_in (B.calc bench.old) (wanted_in wanted.entry)) }
     ensures calls { Calls (computed_in (B.calc bench.old) (wanted_in wanted.entry)) result
         (B.count bench.old) (B.count bench.new) (B.log bench.old) (B.log bench.new) }
-    ensures unnamed { IsNamed (standing_of (wanted_in wanted.entry).market) wanted.entry.name.now ⊎ (bench.new ≡ bench.old) }
+    ensures unnamed { HasInstrument (wanted_in wanted.entry) ⊎ (bench.new ≡ bench.old) }
     ensures same { B.calc bench.new ≡ B.calc bench.old }
 {
-    let Wanted {
-        names,
-        today,
-        made,
-        name,
-    } = wanted;
+    let Wanted { market, name } = wanted;
+    let OpenMarket { names, today, made } = market;
     let of_object = names_of(alloc, &made)?;
     let mut desk = desk_of(alloc, today, made)?;
     let namer = Namer {

@@ -20,7 +20,7 @@ use Rattle.bump_model.specs.Asking.{Asking, Asks, MadeFront, none, ask_of, then_
 use Rattle.bump_ladder.proofs.Answered.{Log, Did}
 use Rattle.curve_run.specs.Named.{AreCurves}
 use Rattle.curve_run.specs.Pricing.{curve_of, curve_at, curve_in, refused_in, curves_of, refused_lines, curves_asking}
-use Rattle.curve_run.proofs.Calling.{front_all}
+use Rattle.bump_model.proofs.Calls.{front_all}
 use Rattle.curve_run.proofs.Served.{curve_lazy}
 
 -- the curve that an answer shows is that of the price afresh

@@ -1,5 +1,3 @@
-pub mod Appending
 pub mod Asked
 pub mod Calling
 pub mod Served
-pub mod Wording

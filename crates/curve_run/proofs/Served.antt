@@ -10,9 +10,10 @@ use Rattle.desk_model.specs.declared.slot.Slot.{Slot}
 use Rattle.desk_model.specs.declared.slot.Slot.TheVariants.{Free, Today, Watcher, Live}
 use Rattle.desk_model.specs.Links.{serves_as, is_lazy_at}
 use Rattle.desk_model.specs.Market.{Market, slot_at, kind_in, kind_at, terms_in, is_lazy, role_of}
-use Rattle.curve_run.specs.declared.unnamed.Unnamed.{Unnamed}
-use Rattle.curve_run.specs.declared.unnamed.Unnamed.TheVariants.{Kind as NoCurve}
-use Rattle.curve_run.specs.Named.{is_curve, curve_below, number_of, by_kind, by_number, curve_named, object_in, objects_named, lines_named, unless, named_of, AreCurves}
+use Rattle.market_desk.specs.declared.named.Unnamed.{Unnamed}
+use Rattle.market_desk.specs.declared.named.Unnamed.TheVariants.{Kind as NoCurve}
+use Rattle.market_desk.specs.Standing.{number_of, by_kind, by_number, object_named}
+use Rattle.curve_run.specs.Named.{is_curve, curve_below, object_in, objects_named, lines_named, unless, named_of, AreCurves}
 
 -- one object more
 pub curve_next : (market : Market) (o : ℕ) → curve_below market (o + 1) ≡ (is_curve (kind_at market o) || curve_below market o)
@@ -24,7 +25,7 @@ unfolding curve_below
 curve_first market = refl
 
 module _ (market : Market) where
-  kind_served : (o : ℕ) (found : Option kind.Kind) → kind_at market o ≡ found → (curve : ℕ) → by_kind o found ≡ Ok curve
+  kind_served : (o : ℕ) (found : Option kind.Kind) → kind_at market o ≡ found → (curve : ℕ) → by_kind CurveTarget o found ≡ Ok curve
       → serves_as (kind_at market curve) CurveTarget ≡ true
   kind_served o None is curve e = absurd (cc)
   kind_served o (Some k) is curve e = chosen (serves k CurveTarget) refl e
@@ -35,7 +36,7 @@ module _ (market : Market) where
           ap (λ (x : ℕ). serves_as (kind_at market x) CurveTarget) (sym same) ∙ ap (λ f. serves_as f CurveTarget) is ∙ serve
       chosen false serve ok = absurd (cc)
 
-  number_served : (number : Option ℕ) (curve : ℕ) → by_number market number ≡ Ok curve → serves_as (kind_at market curve) CurveTarget ≡ true
+  number_served : (number : Option ℕ) (curve : ℕ) → by_number CurveTarget market number ≡ Ok curve → serves_as (kind_at market curve) CurveTarget ≡ true
   number_served None curve e = absurd (cc)
   number_served (Some o) curve e = kind_served o (kind_at market o) refl curve e
 
@@ -49,7 +50,7 @@ module _ (market : Market) where
   unfolding objects_named
   all_served names [] = All-nil (λ o. serves_as (kind_at market o) CurveTarget ≡ true)
   all_served names (text ∷ texts) =
-      one_served (curve_named market names text) (objects_named market names texts) (λ curve e. number_served (number_of names text) curve e)
+      one_served (object_named CurveTarget market names text) (objects_named market names texts) (λ curve e. number_served (number_of names text) curve e)
       (all_served names texts)
 
 pub are_served : (market : Market) (names texts : List (List ℕ)) (curves : List ℕ) → curves ≡ objects_named market names texts

@@ -3,7 +3,5 @@ pub mod Lines
 pub mod Named
 pub mod Pricing
 pub mod Rows
-pub mod Run
-pub mod Status
 pub mod Verdict
 pub mod Words

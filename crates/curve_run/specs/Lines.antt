@@ -2,26 +2,11 @@
 use Rattle.std.specs.Prelude.{ℕ, ℤ, Bool, if◌then◌else◌, List, [], ◌∷◌, Result, Ok, Err}
 use Rattle.curve_points.specs.Curve.{Curve}
 use Rattle.desk_terms.specs.Reading.{Outcome, Calc}
-use Rattle.desk_model.specs.State.{State}
-use Rattle.market_file.specs.Market.{Market}
-use Rattle.market_desk.specs.Making.{desk_with, names_with}
+use Rattle.market_desk.specs.Standing.{Standing}
 use Rattle.curve_picture.specs.Svg.{picture_text}
 use Rattle.curve_picture.specs.Table.{table_text}
 use Rattle.curve_run.specs.Named.{named_of}
 use Rattle.curve_run.specs.Pricing.{curves_of, refused_lines, curves_asking}
-
--- a desk with the names of its objects
-pub record Standing : Type 0 where
-  pub names : List (List ℕ)
-  pub of_object : List ℕ
-  pub state : State
-
-abbrev pub standing : List (List ℕ) → List ℕ → State → Standing
-standing names of_object state = record { names = names; of_object = of_object; state = state }
-
--- the desk of a market
-abbrev pub standing_of : Market → Standing
-standing_of market = standing market.names (names_with market.made) (desk_with market.today market.made)
 
 -- the table or the picture of curves
 abbrev pub drawn_text : List (List ℕ) → List ℕ → Bool → ℤ → List Curve → List ℕ

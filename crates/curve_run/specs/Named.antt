@@ -1,14 +1,12 @@
 -- What names stand for among the objects of a market (this project's profile).
 use Rattle.std.specs.Prelude.{◌≡◌, ℕ, zero, suc, Bool, true, false, ◌||◌, if◌then◌else◌, List, [], ◌∷◌, ◌++◌, length, All, codes, Option, None, Some, Result, Ok, Err, Vec}
 use Rattle.std.specs.declared.alloc.Global.{Global}
-use Rattle.desk_names.specs.Names.{has_text, place_of}
 use Rattle.desk_terms.specs.declared.kind.Kind as kind
 use Rattle.desk_terms.specs.declared.kind.Wanted.TheVariants.{CurveTarget}
-use Rattle.desk_terms.specs.Kind.{serves}
 use Rattle.desk_model.specs.Links.{serves_as}
 use Rattle.desk_model.specs.Market.{Market, kind_at}
-use Rattle.curve_run.specs.declared.unnamed.Unnamed.{Unnamed}
-use Rattle.curve_run.specs.declared.unnamed.Unnamed.TheVariants.{Unknown, Kind}
+use Rattle.market_desk.specs.declared.named.Unnamed.{Unnamed}
+use Rattle.market_desk.specs.Standing.{object_named, unnamed_line}
 
 -- whether an object is a curve: one that a handle of curves may be linked to
 abbrev pub is_curve : Option kind.Kind → Bool
@@ -19,50 +17,25 @@ unfoldable pub curve_below : Market → ℕ → Bool
 curve_below market zero = false
 curve_below market (suc o) = is_curve (kind_at market o) || curve_below market o
 
--- the number of a name, if there is such a name
-abbrev pub number_of : List (List ℕ) → List ℕ → Option ℕ
-number_of names text = if has_text names text then Some (place_of names text) else None
-
--- an object by its kind: it is a curve, or it is not
-abbrev pub by_kind : ℕ → Option kind.Kind → Result ℕ Unnamed
-by_kind o None = Err Unknown
-by_kind o (Some kind) = if serves kind CurveTarget then Ok o else Err Kind
-
-abbrev pub by_number : Market → Option ℕ → Result ℕ Unnamed
-by_number market None = Err Unknown
-by_number market (Some o) = by_kind o (kind_at market o)
-
--- the curve that has a name, or why the name is no curve's: the number of an object is that of its name
-abbrev pub curve_named : Market → List (List ℕ) → List ℕ → Result ℕ Unnamed
-curve_named market names text = by_number market (number_of names text)
-
-abbrev pub unnamed_word : Unnamed → List ℕ
-unnamed_word Unknown = codes "unknown"
-unnamed_word Kind = codes "kind"
-
--- `refused curve unknown NAME` or `refused curve kind NAME`, and a newline
-unfoldable pub unnamed_line : Unnamed → List ℕ → List ℕ
-unnamed_line why name = codes "refused curve " ++ unnamed_word why ++ codes " " ++ name ++ codes "\n"
-
 abbrev pub object_in : Result ℕ Unnamed → List ℕ
 object_in (Ok o) = o ∷ []
 object_in (Err why) = []
 
 abbrev pub line_in : List ℕ → Result ℕ Unnamed → List ℕ
 line_in text (Ok o) = []
-line_in text (Err why) = unnamed_line why text
+line_in text (Err why) = unnamed_line (codes "curve") why text
 
 -- the curves that names stand for, in order
 unfoldable pub objects_named : Market → List (List ℕ) → List (List ℕ) → List ℕ
 objects_named market names [] = []
 objects_named market names (text ∷ texts) =
-    object_in (curve_named market names text) ++ objects_named market names texts
+    object_in (object_named CurveTarget market names text) ++ objects_named market names texts
 
 -- the lines of the names that stand for none, in order
 unfoldable pub lines_named : Market → List (List ℕ) → List (List ℕ) → List ℕ
 lines_named market names [] = []
 lines_named market names (text ∷ texts) =
-    line_in text (curve_named market names text) ++ lines_named market names texts
+    line_in text (object_named CurveTarget market names text) ++ lines_named market names texts
 
 -- the curves, where no line stands against them
 abbrev pub unless : {A : Type 0} → List ℕ → A → Result A (List ℕ)

@@ -1,5 +1,5 @@
 -- The prices of curves: each afresh from the market alone, and the asks for them.
-use Rattle.std.specs.Prelude.{ℕ, Bool, List, [], ◌∷◌, ◌++◌, codes, Option, Result, Ok, Err}
+use Rattle.std.specs.Prelude.{ℕ, List, [], ◌∷◌, ◌++◌, codes, Result, Ok, Err}
 use Rattle.curve_points.specs.Curve.{Curve}
 use Rattle.desk_terms.specs.declared.cause.Cause.{Cause}
 use Rattle.desk_terms.specs.declared.cause.Cause.TheVariants.{Unpriced}
@@ -10,7 +10,7 @@ use Rattle.desk_model.specs.Market.{Market}
 use Rattle.desk_model.specs.State.{State}
 use Rattle.price_report.specs.Line.{cause_text}
 use Rattle.price_report.specs.Namer.{object_text}
-use Rattle.bump_model.specs.Asking.{Asking, Made, MadeFront, none, ask_of, then_ask}
+use Rattle.bump_model.specs.Asking.{Asking, none, ask_of, then_ask}
 
 -- the curve of an outcome. (An amount of money, which no curve is worth, is no curve.)
 abbrev pub curve_of : ℕ → Outcome → Result Curve Cause
@@ -50,8 +50,3 @@ refused_lines calc market names of_object (o ∷ objects) =
 unfoldable pub curves_asking : Calc → List ℕ → State → Asking
 curves_asking calc [] s = none s
 curves_asking calc (o ∷ objects) s = then_ask (ask_of calc o s) (curves_asking calc objects)
-
--- the bench was called for exactly these, or for a front of them where memory ran out
-abbrev pub Calls : {A E : Type 0} → List (ℕ × Outcome) → Result A E → ℕ → ℕ → Option (List (ℕ × Bool)) → Option (List (ℕ × Bool)) → Type 0
-Calls calls (Ok x) count_old count_new log_old log_new = Made calls count_old count_new log_old log_new
-Calls calls (Err e) count_old count_new log_old log_new = MadeFront calls count_old count_new log_old log_new

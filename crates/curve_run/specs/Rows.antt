@@ -8,7 +8,8 @@ use Rattle.desk_terms.specs.Reading.{Outcome, Calc}
 use Rattle.desk_model.specs.Examples.{curve_of}
 use Rattle.desk_model.specs.Visit.{log_of}
 use Rattle.market_file.specs.Market.{Market}
-use Rattle.curve_run.specs.Lines.{standing_of, curve_text, curve_calls}
+use Rattle.market_desk.specs.Standing.{standing_of}
+use Rattle.curve_run.specs.Lines.{curve_text, curve_calls}
 use Rattle.curve_run.specs.Words.{request_of}
 
 -- The quote `r`, without a value, a curve `c`, and `m`, which is `c` seen from a later day.

@@ -1,7 +1,8 @@
 -- The words of the command line (this project's profile).
-use Rattle.std.specs.Prelude.{ℕ, Bool, true, false, not, ◌&&◌, ◌==◌, nat_le, if◌then◌else◌, List, [], ◌∷◌, length, codes, Option, None, Some}
+use Rattle.std.specs.Prelude.{ℕ, Bool, true, false, ◌&&◌, nat_le, if◌then◌else◌, List, [], ◌∷◌, length, codes, Option, None, Some}
 use Rattle.std.specs.List.{list_all}
 use Rattle.std.specs.Str.{bytes_eq}
+use Rattle.tool_run.specs.Words.{is_word}
 use Rattle.curve_run.specs.declared.words.TheConstants.{MOST_CURVES}
 
 -- a table or a picture, the path of a market, and the names of curves
@@ -9,15 +10,6 @@ pub record Request : Type 0 where
   pub as_table : Bool
   pub market : List ℕ
   pub curves : List (List ℕ)
-
--- the code of `-`
-abbrev dash : ℕ
-dash = 45
-
--- a word that is taken: not empty, and no option
-abbrev pub is_word : List ℕ → Bool
-is_word [] = false
-is_word (byte ∷ word) = not (byte == dash)
 
 -- the one option
 abbrev pub is_flag : List ℕ → Bool

@@ -1,12 +1,14 @@
 // Which curves names stand for.
 ghost use Rattle.std.specs.Prelude.{◌≡◌, ◌++◌, length, map, codes, IfOk, OnOk};
 ghost use Rattle.std.specs.String.{string_bytes};
-ghost use Rattle.curve_run.specs.Named.{by_kind, curve_named, is_curve, curve_below, object_in, line_in, objects_named, lines_named, unless, named_of, NamedIs, AreCurves};
+ghost use Rattle.desk_terms.specs.declared.kind.Wanted.TheVariants.{CurveTarget};
+ghost use Rattle.market_desk.specs.Standing.{object_named};
+ghost use Rattle.curve_run.specs.Named.{is_curve, curve_below, object_in, line_in, objects_named, lines_named, unless, named_of, NamedIs, AreCurves};
 
-use crate::unnamed::{Unnamed, unnamed_line};
 use desk_names::{Names, ObjId};
 use desk_terms::{Kind, Wanted};
 use lazy_objects::Desk;
+use market_desk::{object_named, unnamed_line};
 use std::alloc::{AllocError, Global};
 
 // The curves that names stand for, and the lines of those that stand for none.
@@ -104,38 +106,14 @@ fn found_in(
 
 // Appends the curve that a name stands for, or the line that says that it stands for none.
 fn find(desk: &Desk, names: &Names, text: &[u8], found: &mut Found) -> Result<(), AllocError>
-    ensures curve { OnOk result (found.new.curves.items ≡ found.old.curves.items ++ object_in (curve_named desk.now.market names.now text.now)) }
-    ensures line { OnOk result (found.new.lines.items ≡ found.old.lines.items ++ line_in text.now (curve_named desk.now.market names.now text.now)) }
+    ensures curve { OnOk result (found.new.curves.items ≡ found.old.curves.items ++ object_in (object_named CurveTarget desk.now.market names.now text.now)) }
+    ensures line { OnOk result (found.new.lines.items ≡ found.old.lines.items ++ line_in text.now (object_named CurveTarget desk.now.market names.now text.now)) }
 {
-    match curve_named(desk, names, text) {
+    match object_named(desk, names, text, Wanted::CurveTarget) {
         Ok(curve) => {
             found.curves.push(curve)?;
             Ok(())
         }
-        Err(why) => unnamed_line(why, text, &mut found.lines),
-    }
-}
-
-// The curve that has a name, or why the name is no curve's. The number of an object is that of its name.
-fn curve_named(desk: &Desk, names: &Names, text: &[u8]) -> Result<ObjId, Unnamed>
-    ensures { result ≡ curve_named desk.now.market names.now text.now }
-{
-    match names.find(text) {
-        None => Err(Unnamed::Unknown),
-        Some(number) => {
-            let object = ObjId(number.0);
-            by_kind(object, desk.kind(object))
-        }
-    }
-}
-
-// An object by what it is.
-fn by_kind(object: ObjId, kind: Option<Kind>) -> Result<ObjId, Unnamed>
-    ensures { result ≡ by_kind object kind }
-{
-    match kind {
-        None => Err(Unnamed::Unknown),
-        Some(kind) if kind.serves(Wanted::CurveTarget) => Ok(object),
-        Some(_) => Err(Unnamed::Kind),
+        Err(why) => unnamed_line(b"curve", why, text, &mut found.lines),
     }
 }

@@ -1,7 +1,7 @@
 //! What the program `desk_curve` does: from words and a market with its tables to the picture of curves, or to the table of
 //! their points, and a status, for every shelf of files, sink of bytes and bench of prices.
 //!
-//! `run_curve`, `CurveStatus`.
+//! `run_curve`, `NAME`, `CurveStatus`.
 #![tactic(auto)]
 
 mod finding;
@@ -9,10 +9,11 @@ mod lines;
 mod pricing;
 mod rows;
 mod running;
-mod status;
-mod unnamed;
 mod wanted;
 mod words;
 
 pub use running::run_curve;
-pub use status::CurveStatus;
+pub use tool_run::MarketStatus as CurveStatus;
+
+/// The program's name.
+pub const NAME: &str = "desk_curve";

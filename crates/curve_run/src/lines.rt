@@ -3,9 +3,11 @@ ghost use Rattle.std.specs.Prelude.{◌≡◌, ◌⊎◌, map, IfOk};
 ghost use Rattle.std.specs.String.{string_bytes};
 ghost use Rattle.desk_model.specs.Sound.{IsSound};
 ghost use Rattle.desk_model.specs.Unheld.{HoldsNothing};
-ghost use Rattle.curve_run.specs.Lines.{standing, drawn_text, priced_text, curve_text, curve_calls, AreNamed};
+ghost use Rattle.bump_model.specs.Asking.{Calls};
+ghost use Rattle.market_desk.specs.Standing.{standing};
+ghost use Rattle.curve_run.specs.Lines.{drawn_text, priced_text, curve_text, curve_calls, AreNamed};
 ghost use Rattle.curve_run.specs.Named.{AreCurves};
-ghost use Rattle.curve_run.specs.Pricing.{curves_asking, Calls};
+ghost use Rattle.curve_run.specs.Pricing.{curves_asking};
 
 use crate::finding::curves_named;
 use crate::pricing::price_all;

@@ -1,19 +1,18 @@
 // The call of the program.
-ghost use Rattle.std.specs.Prelude.{◌≡◌, ◌⊎◌, ◌↔◌, ◌+◌, ◌≤◌, map, None, IfOk, IfSome, IfErr, IsErrOf};
+ghost use Rattle.std.specs.Prelude.{◌≡◌, ◌⊎◌, ◌↔◌, ◌+◌, ◌≤◌, map, None, IfOk, IfSome};
 ghost use Rattle.std.specs.String.{string_bytes};
 ghost use Rattle.desk_edge.specs.Count.{Rose};
 ghost use Rattle.desk_edge.specs.Shelf.{files_of};
 ghost use Rattle.market_file.specs.Standing.{IsReady};
 ghost use Rattle.market_loader.specs.declared.faults.MarketRole.{MarketRole};
-ghost use Rattle.bump_model.specs.Asking.{Made, MadeFront};
+ghost use Rattle.bump_model.specs.Asking.{Calls, Made, MadeFront};
+ghost use Rattle.tool_run.specs.Run.{status_of, given_for, IsAccepted, IsAcceptedAs};
+ghost use Rattle.tool_run.specs.Stage.{IsOutside, IsEarly, IsQuiet, Writes, Computes, faults_then};
+ghost use Rattle.tool_run.specs.Status.{stage_of};
 ghost use Rattle.curve_run.specs.Found.{wanted_in};
-ghost use Rattle.curve_run.specs.Lines.{standing_of, AreNamed};
-ghost use Rattle.curve_run.specs.Pricing.{Calls};
-ghost use Rattle.curve_run.specs.Run.{IsOutside, IsEarly, IsLate, IsQuiet, Writes, Computes, ended, faults_then};
-ghost use Rattle.curve_run.specs.Verdict.{Wanted as Asked, verdict_of, status_of, output_in, output_of, computed_in, computed_by, reading_calls, IsAccepted, HasCurves};
+ghost use Rattle.curve_run.specs.Verdict.{Wanted as Asked, verdict_of, output_in, computed_in, reading_calls, HasCurves};
 ghost use Rattle.curve_run.specs.Words.{request_of};
 
-use crate::CurveStatus;
 use crate::lines::{Sheet, curve_lines};
 use crate::wanted::{Wanted, wanted_of};
 use desk_edge::{Shelf, Sink, write_whole};
@@ -21,6 +20,7 @@ use desk_terms::Bench;
 use market_desk::{desk_of, names_of};
 use price_report::Namer;
 use std::alloc::{AllocError, Global};
+use tool_run::{MarketStatus, OpenMarket};
 
 /// Does what the words ask for over the files of the shelf, writes the text to `out`, and answers how that went. The words
 /// are those behind the program's name: `--csv` or nothing, the path of a market, and the names of one to eight curves. The
@@ -35,43 +35,43 @@ pub fn run_curve<H: Shelf, K: Sink, B: Bench>(
     shelf: &mut H,
     out: &mut K,
     bench: &mut B,
-) -> CurveStatus
+) -> MarketStatus
     // The status is that of the words and the files, but for a fault outside or want of memory.
     ensures status { IfSome (files_of (H.contents shelf.old)) (λ files.
-        IsOutside result ⊎ (result ≡ status_of (verdict_of files (map string_bytes words.now)))) }
-    ensures usage { (result ≡ CurveStatus.Usage) ↔ (request_of (map string_bytes words.now) ≡ None) }
+        IsOutside (stage_of result) ⊎ (result ≡ status_of MarketStatus.Done (verdict_of files (map string_bytes words.now)))) }
+    ensures usage { (result ≡ MarketStatus.Usage) ↔ (request_of (map string_bytes words.now) ≡ None) }
 
     // What is accepted is done, where no fault is counted and memory is found.
     ensures complete { IfSome (files_of (H.contents shelf.old)) (λ files.
         IsAccepted (verdict_of files (map string_bytes words.now))
         → IsQuiet (H.faults shelf.old) (H.faults shelf.new) → IsQuiet (K.faults out.old) (K.faults out.new)
-        → (result ≡ CurveStatus.Done) ⊎ (result ≡ CurveStatus.NoMemory)) }
+        → (result ≡ MarketStatus.Done) ⊎ (result ≡ MarketStatus.NoMemory)) }
 
     // At Done the bytes written are the text: the picture or the table, or the lines of what stands against it; after a fault of writing they are a front of them, and else there are none.
     ensures written { IfSome (files_of (H.contents shelf.old)) (λ files.
-        Writes (K.bytes out.old) (K.bytes out.new) (output_of (B.calc bench.old) (verdict_of files (map string_bytes words.now))) result) }
-    ensures nothing { IsEarly result → out.new ≡ out.old }
+        Writes (K.bytes out.old) (K.bytes out.new) (given_for (output_in (B.calc bench.old)) (verdict_of files (map string_bytes words.now))) (stage_of result)) }
+    ensures nothing { IsEarly (stage_of result) → out.new ≡ out.old }
 
     // The bench was called for the computations of the curves, in their order, and for no other; where memory ran out, for
     // a front of them. `carried` says both of files told or not.
     ensures computed { IfSome (files_of (H.contents shelf.old)) (λ files.
-        Computes (computed_by (B.calc bench.old) (verdict_of files (map string_bytes words.now))) result
+        Computes Made MadeFront (given_for (computed_in (B.calc bench.old)) (verdict_of files (map string_bytes words.now))) (stage_of result)
         (B.count bench.old) (B.count bench.new) (B.log bench.old) (B.log bench.new)) }
-    ensures carried { IsEarly result ⊎ ((asked : Asked)
-        × Writes (K.bytes out.old) (K.bytes out.new) (output_in (B.calc bench.old) asked) result
-        × Computes (computed_in (B.calc bench.old) asked) result
+    ensures carried { IsEarly (stage_of result) ⊎ ((asked : Asked)
+        × Writes (K.bytes out.old) (K.bytes out.new) (output_in (B.calc bench.old) asked) (stage_of result)
+        × Computes Made MadeFront (computed_in (B.calc bench.old) asked) (stage_of result)
         (B.count bench.old) (B.count bench.new) (B.log bench.old) (B.log bench.new)) }
     ensures unnamed { IfSome (files_of (H.contents shelf.old)) (λ files.
-        HasCurves (verdict_of files (map string_bytes words.now)) ⊎ (bench.new ≡ bench.old)) }
-    ensures alone { IsEarly result → bench.new ≡ bench.old }
+        IsAcceptedAs HasCurves (verdict_of files (map string_bytes words.now)) ⊎ (bench.new ≡ bench.old)) }
+    ensures alone { IsEarly (stage_of result) → bench.new ≡ bench.old }
     ensures same { B.calc bench.new ≡ B.calc bench.old }
 
     // Each fault was counted.
-    ensures read { result ≡ CurveStatus.ReadFault → Rose (H.faults shelf.old) (H.faults shelf.new) }
+    ensures read { result ≡ MarketStatus.ReadFault → Rose (H.faults shelf.old) (H.faults shelf.new) }
     // A call of the shelf that failed is the answer, and was the last: any call may fail, and one more would be counted too.
-    ensures counted { H.faults shelf.new ≡ faults_then result (H.faults shelf.old) }
-    ensures write { result ≡ CurveStatus.WriteFault → Rose (K.faults out.old) (K.faults out.new) }
-    ensures absent { (role : MarketRole) → result ≡ CurveStatus.Absent role → Rose (H.misses shelf.old) (H.misses shelf.new) }
+    ensures counted { H.faults shelf.new ≡ faults_then (stage_of result) (H.faults shelf.old) }
+    ensures write { result ≡ MarketStatus.WriteFault → Rose (K.faults out.old) (K.faults out.new) }
+    ensures absent { (role : MarketRole) → result ≡ MarketStatus.Absent role → Rose (H.misses shelf.old) (H.misses shelf.new) }
     ensures files { files_of (H.contents shelf.new) ≡ files_of (H.contents shelf.old) }
 
     // Each file is read once, in the order above, and none behind the first failure.
@@ -82,32 +82,12 @@ pub fn run_curve<H: Shelf, K: Sink, B: Bench>(
         Ok(wanted) => wanted,
         Err(status) => return status,
     };
-    match carry_out(alloc, wanted, out, bench) {
-        Ok(()) => CurveStatus::Done,
-        Err(status) => status,
-    }
-}
-
-// Writes the lines of what is wanted.
-fn carry_out<K: Sink, B: Bench>(
-    alloc: Global,
-    wanted: Wanted<'_>,
-    out: &mut K,
-    bench: &mut B,
-) -> Result<(), CurveStatus>
-    requires ready { IsReady wanted.names wanted.made.items }
-    ensures written { Writes (K.bytes out.old) (K.bytes out.new) (output_in (B.calc bench.old) (wanted_in wanted.entry)) (ended result) }
-    ensures computed { Computes (computed_in (B.calc bench.old) (wanted_in wanted.entry)) (ended result)
-        (B.count bench.old) (B.count bench.new) (B.log bench.old) (B.log bench.new) }
-    ensures unnamed { AreNamed (standing_of (wanted_in wanted.entry).market) (wanted_in wanted.entry).curves ⊎ (bench.new ≡ bench.old) }
-    ensures same { B.calc bench.new ≡ B.calc bench.old }
-    ensures late { IfErr result IsLate }
-    ensures write { IsErrOf result CurveStatus.WriteFault → Rose (K.faults out.old) (K.faults out.new) }
-{
-    let lines = lines_of(alloc, wanted, bench)?;
-    match write_whole(out, &lines) {
-        Ok(()) => Ok(()),
-        Err(_) => Err(CurveStatus::WriteFault),
+    match lines_of(alloc, wanted, bench) {
+        Ok(lines) => match write_whole(out, &lines) {
+            Ok(()) => MarketStatus::Done,
+            Err(_) => MarketStatus::WriteFault,
+        },
+        Err(_) => MarketStatus::NoMemory,
     }
 }
 
@@ -117,26 +97,24 @@ fn lines_of<B: Bench>(
     wanted: Wanted<'_>,
     bench: &mut B,
 ) -> Result<Vec<u8>, AllocError>
-    requires ready { IsReady wanted.names wanted.made.items }
+    requires ready { IsReady wanted.market.names wanted.market.made.items }
     ensures lines { IfOk result (λ lines. lines.items ≡ output_in (B.calc bench.old) (wanted_in wanted.entry)) }
     ensures calls { Calls (computed_in (B.calc bench.old) (wanted_in wanted.entry)) result
         (B.count bench.old) (B.count bench.new) (B.log bench.old) (B.log bench.new) }
-    ensures unnamed { AreNamed (standing_of (wanted_in wanted.entry).market) (wanted_in wanted.entry).curves ⊎ (bench.new ≡ bench.old) }
+    ensures unnamed { HasCurves (wanted_in wanted.entry) ⊎ (bench.new ≡ bench.old) }
     ensures same { B.calc bench.new ≡ B.calc bench.old }
 {
-    let Wanted {
-        names,
-        today,
-        made,
-        as_table,
-        curves,
-    } = wanted;
+    let Wanted { market, request } = wanted;
+    let OpenMarket { names, today, made } = market;
     let of_object = names_of(alloc, &made)?;
     let mut desk = desk_of(alloc, today, made)?;
     let namer = Namer {
         names: &names,
         of_object: &of_object,
     };
-    let sheet = Sheet { as_table, today };
-    curve_lines(alloc, &mut desk, sheet, curves, &namer, bench)
+    let sheet = Sheet {
+        as_table: request.as_table,
+        today,
+    };
+    curve_lines(alloc, &mut desk, sheet, request.curves, &namer, bench)
 }

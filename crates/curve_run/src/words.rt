@@ -3,8 +3,11 @@ ghost use Rattle.std.specs.Prelude.{◌≡◌, ◌∷◌, [], map, option_map, c
 ghost use Rattle.std.specs.String.{string_bytes};
 ghost use Rattle.std.specs.Str.{bytes_eq};
 ghost use Rattle.std.specs.List.{list_all};
-ghost use Rattle.curve_run.specs.Words.{is_word, is_flag, request_with, request_of};
+ghost use Rattle.tool_run.specs.Words.{is_word};
+ghost use Rattle.curve_run.specs.Words.{is_flag, request_with, request_of};
 ghost use Rattle.curve_run.specs.Found.{request_in};
+
+use tool_run::is_word;
 
 /// How many curves are drawn at most: as many as there are colours.
 pub(crate) const MOST_CURVES: usize = 8;
@@ -66,16 +69,6 @@ fn are_words(words: &[String]) -> bool
         }
     }
     true
-}
-
-// Whether a word is taken: it is not empty and does not begin with `-`.
-fn is_word(word: &str) -> bool
-    ensures { result ≡ is_word word.now }
-{
-    match word.as_bytes() {
-        [] => false,
-        [first, ..] => *first != b'-',
-    }
 }
 
 // Whether a word is `--csv`.

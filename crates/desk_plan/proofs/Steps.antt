@@ -5,35 +5,39 @@ use Rattle.market_file.specs.Fault.{Fault, FailsWith}
 use Rattle.market_file.specs.Market.{Market}
 use Rattle.market_file.specs.declared.fault.MarketFault.{MarketFault}
 use Rattle.market_file.specs.declared.fault.MarketFault.TheVariants as untaken
-use Rattle.market_file.specs.declared.read.Market as read
-use Rattle.market_loader.specs.Ends.{End, Refused, Missing, Failed, Halted, file_end, load_end}
+use Rattle.market_loader.specs.Ends.{End, Refused, Missing, Failed, Halted, file_end, with_fault}
 use Rattle.market_loader.specs.Files.{Files, file_of, file_calls}
-use Rattle.market_loader.specs.Market.{market_in as loaded_in, market_of, market_calls, and_then}
+use Rattle.market_loader.specs.Market.{market_calls, and_then}
 use Rattle.market_loader.specs.Reads.{Seen, Reads, Says, IsRefusedAs}
 use Rattle.market_loader.specs.declared.faults.FileFault.{FileFault}
 use Rattle.market_loader.specs.declared.faults.FileFault.TheVariants as file
-use Rattle.market_loader.specs.declared.faults.LoadFault.{LoadFault}
-use Rattle.market_loader.specs.declared.faults.LoadFault.TheVariants as loaded
-use Rattle.market_loader.proofs.Steps.{told_map, reads_on, reads_off, reads_text, reads_within, reads_as}
+use Rattle.market_loader.proofs.Steps.{reads_on, reads_off, reads_text, reads_within, reads_as}
 use Rattle.market_tables.specs.Given.{◌>>=◌}
 use Rattle.session_commands.specs.declared.script_kind.ScriptKind.{ScriptKind}
 use Rattle.session_lang.specs.Given.{FailsAt}
 use Rattle.session_lang.specs.declared.fault.ScriptFault.{ScriptFault}
 use Rattle.session_lang.specs.declared.fault.ScriptFault.TheVariants as unread
-use Rattle.desk_plan.specs.declared.plan.Opened as opened
+use Rattle.tool_run.specs.declared.market.OpenMarket.{OpenMarket}
+use Rattle.tool_run.specs.declared.status.MarketStatus.{MarketStatus}
+use Rattle.tool_run.specs.declared.status.MarketStatus.TheVariants as ended
+use Rattle.tool_run.specs.Market.{market_in}
+use Rattle.tool_run.specs.Market as tool
 use Rattle.desk_plan.specs.declared.plan.ScriptRun as run
 use Rattle.desk_plan.specs.declared.status.Status.{Status}
-use Rattle.desk_plan.specs.Found.{market_in, run_in}
+use Rattle.desk_plan.specs.Found.{run_in}
 use Rattle.desk_plan.specs.Reading.{market_at, script_at, or_market, or_script}
-use Rattle.desk_plan.specs.Refusals.{load_status, file_status, market_status, script_status, status_end}
+use Rattle.desk_plan.specs.Refusals.{as_status, file_status, market_status, script_status, status_end}
 use Rattle.desk_plan.specs.Verdict.{scripted, run_over, run_at, run_calls}
 
 -- a failure ends a reading as its status does
-load_ends : (e : LoadFault) → status_end (load_status e) ≡ load_end e
-load_ends (loaded.Fault section entry why) = refl
-load_ends loaded.Read = refl
-load_ends (loaded.Absent which) = refl
-load_ends loaded.NoMemory = refl
+pub market_ends : (s : MarketStatus) → status_end (as_status s) ≡ tool.status_end s
+market_ends ended.Done = refl
+market_ends ended.Usage = refl
+market_ends (ended.Market section entry why) = refl
+market_ends ended.ReadFault = refl
+market_ends ended.WriteFault = refl
+market_ends ended.NoMemory = refl
+market_ends (ended.Absent which) = refl
 
 file_ends : (e : FileFault) → status_end (file_status e) ≡ file_end e
 file_ends file.Absent = refl
@@ -95,52 +99,13 @@ module _ {X Y Z W : Type 0} (view : X → Y) (other : Z → W) (meaning : Files 
       (λ files. no_more (most files) (meaning files))
       (reads_off status_end view other meaning (λ files. go) most (λ files y. 0) old new s r)
 
--- the same reading, kept in another form
-module _ {E X Y Z : Type 0} (end : E → End) (view : X → Y) (other : Z → Y) (meaning : Files → Result Y E) (most : Files → ℕ)
-    (old new : Seen) where
-  kept_as : (x : X) (z : Z) → view x ≡ other z → Reads end view meaning most old new (Ok x)
-      → Reads end other meaning most old new (Ok z)
-  kept_as x z same r = record {
-    tells = told_map old.files (λ files t. t ∙ ap (λ (y : Y). Ok y) same) r.tells;
-    calls = r.calls;
-    files = r.files;
-    read = tt;
-    absent = tt;
-    counted = r.counted;
-    faults = r.faults;
-    misses = r.misses;
-  }
-
-  lost_as : (e : E) → Reads {X = X} end view meaning most old new (Err e) → Reads {X = Z} end other meaning most old new (Err e)
-  lost_as e r = record {
-    tells = r.tells;
-    calls = r.calls;
-    files = r.files;
-    read = r.read;
-    absent = r.absent;
-    counted = r.counted;
-    faults = r.faults;
-    misses = r.misses;
-  }
-
--- ---- a market
-
-module _ (names : List (List ℕ)) (path : List ℕ) (old new : Seen) where
-  pub market_found : (market : read.Market) (kept : opened.Opened) → loaded_in names market ≡ market_in kept
-      → Reads load_end (loaded_in names) (market_of path) (market_calls path) old new (Ok market)
-      → Reads status_end market_in (market_at path) (market_calls path) old new (Ok kept)
-  market_found market kept same r =
-      kept_as status_end (loaded_in names) market_in (market_at path) (market_calls path) old new market kept same
-      (reads_as load_end status_end load_status (loaded_in names) (market_of path) (market_calls path) old new (Ok market)
-      load_ends r)
-
-  pub market_lost : (e : LoadFault)
-      → Reads {X = read.Market} load_end (loaded_in names) (market_of path) (market_calls path) old new (Err e)
-      → Reads {X = opened.Opened} status_end market_in (market_at path) (market_calls path) old new (Err (load_status e))
-  market_lost e r =
-      lost_as status_end (loaded_in names) market_in (market_at path) (market_calls path) old new (load_status e)
-      (reads_as load_end status_end load_status (loaded_in names) (market_of path) (market_calls path) old new (Err e)
-      load_ends r)
+-- a market that the frame of tools read
+module _ (path : List ℕ) (old new : Seen) where
+  pub market_read : (result : Result OpenMarket MarketStatus)
+      → Reads tool.status_end market_in (tool.market_at path) (market_calls path) old new result
+      → Reads status_end market_in (market_at path) (market_calls path) old new (with_fault as_status result)
+  market_read result r =
+      reads_as tool.status_end status_end as_status market_in (tool.market_at path) (market_calls path) old new result market_ends r
 
 -- ---- a script over a market
 
@@ -167,7 +132,7 @@ module _ (market : Market) (path : List ℕ) (old new : Seen) where
 
 -- both
 module _ (market script : List ℕ) where
-  pub run_found : (old mid new : Seen) (kept : opened.Opened) (result : Result run.ScriptRun Status)
+  pub run_found : (old mid new : Seen) (kept : OpenMarket) (result : Result run.ScriptRun Status)
       → Reads status_end market_in (market_at market) (market_calls market) old mid (Ok kept)
       → Reads status_end run_in (run_over (market_in kept) script) (file_calls script) mid new result
       → Reads status_end run_in (run_at market script) (run_calls market script) old new result
@@ -176,7 +141,7 @@ module _ (market script : List ℕ) where
       (λ files m. file_calls script files) old mid new kept result r rest
 
   pub run_lost : (old new : Seen) (s : Status)
-      → Reads {X = opened.Opened} status_end market_in (market_at market) (market_calls market) old new (Err s)
+      → Reads {X = OpenMarket} status_end market_in (market_at market) (market_calls market) old new (Err s)
       → Reads {X = run.ScriptRun} status_end run_in (run_at market script) (run_calls market script) old new (Err s)
   run_lost old new s r =
       reads_off status_end market_in run_in (market_at market) (λ files m. run_over m script files) (market_calls market)

@@ -1,19 +1,14 @@
 -- What the reading of words and files gives, as the definitions see it, and the statuses with which it ends.
-use Rattle.std.specs.Prelude.{◌≡◌, ◌⊎◌, ℕ, Result, Ok, Err}
-use Rattle.desk_edge.specs.Count.{raised}
-use Rattle.market_file.specs.Market.{Market}
+use Rattle.std.specs.Prelude.{ℕ}
 use Rattle.market_file.specs.Standing.{IsReady}
 use Rattle.session_commands.specs.Whole.{IsScript}
+use Rattle.tool_run.specs.Stage as counted
 use Rattle.desk_plan.specs.declared.status.Status.{Status}
 use Rattle.desk_plan.specs.declared.status.Status.TheVariants.{Done, Usage, Market as OfMarket, Script, ReadFault, WriteFault, NoMemory, Absent}
-use Rattle.desk_plan.specs.declared.plan.Opened as opened
 use Rattle.desk_plan.specs.declared.plan.Plan as planned
 use Rattle.desk_plan.specs.declared.plan.ScriptRun as scripted
+use Rattle.desk_plan.specs.Status.{stage_of}
 use Rattle.desk_plan.specs.Verdict.{ScriptRun, Plan, Run, Load, Check}
-
--- a market of the code, as the definition sees it
-abbrev pub market_in : opened.Opened → Market
-market_in opened = record { today = opened.today; made = opened.made.items; names = opened.names }
 
 -- a script to be run, as the definition sees it
 abbrev pub run_in : scripted.ScriptRun → ScriptRun
@@ -36,17 +31,6 @@ CanDo (planned.TheVariants.Run run order) = CanRun run
 CanDo (planned.TheVariants.Load size run) = CanRun run
 CanDo (planned.TheVariants.Check objects fixings) = Unit {0}
 
--- a status of reading that words and files do not decide
-abbrev pub IsReading : Status → Type 0
-IsReading ReadFault = Unit {0}
-IsReading NoMemory = Unit {0}
-IsReading status = ⊥
-
--- the answer, seen by view, is this, but for a fault of reading or want of memory
-abbrev pub Tells : {X Y : Type 0} → (X → Y) → Result X Status → Result Y Status → Type 0
-Tells view (Ok x) told = told ≡ Ok (view x)
-Tells view (Err status) told = IsReading status ⊎ (told ≡ Err status)
-
 -- a status that the reading of files may end with
 abbrev pub IsRefusal : Status → Type 0
 IsRefusal Done = ⊥
@@ -58,29 +42,6 @@ IsRefusal ReadFault = Unit {0}
 IsRefusal NoMemory = Unit {0}
 IsRefusal (Absent role) = Unit {0}
 
--- a status that may come before the first command is done
-abbrev pub IsBefore : Status → Type 0
-IsBefore Done = ⊥
-IsBefore WriteFault = ⊥
-IsBefore Usage = Unit {0}
-IsBefore (OfMarket section entry why) = Unit {0}
-IsBefore (Script line why) = Unit {0}
-IsBefore ReadFault = Unit {0}
-IsBefore NoMemory = Unit {0}
-IsBefore (Absent role) = Unit {0}
-
 -- the count of faults of a shelf where this is the status: a call that failed is the answer, and is counted once
 abbrev pub faults_then : Status → ℕ → ℕ
-faults_then ReadFault faults = raised faults
-faults_then Done faults = faults
-faults_then Usage faults = faults
-faults_then (OfMarket section entry why) faults = faults
-faults_then (Script line why) faults = faults
-faults_then WriteFault faults = faults
-faults_then NoMemory faults = faults
-faults_then (Absent role) faults = faults
-
--- the same after a step of reading
-abbrev pub faults_after : {X : Type 0} → Result X Status → ℕ → ℕ
-faults_after (Ok x) faults = faults
-faults_after (Err status) faults = faults_then status faults
+faults_then status faults = counted.faults_then (stage_of status) faults

@@ -4,15 +4,15 @@ use Rattle.market_file.specs.Fault.{Fault}
 use Rattle.market_file.specs.Market.{Market}
 use Rattle.market_loader.specs.Ends.{with_fault}
 use Rattle.market_loader.specs.Files.{Files, file_of}
-use Rattle.market_loader.specs.Market.{market_of}
 use Rattle.session_commands.specs.declared.script_kind.ScriptKind.{ScriptKind}
+use Rattle.tool_run.specs.Market as tool
 use Rattle.desk_plan.specs.declared.status.Status.{Status}
 use Rattle.desk_plan.specs.declared.status.Status.TheVariants as status
-use Rattle.desk_plan.specs.Refusals.{load_status, file_status}
+use Rattle.desk_plan.specs.Refusals.{as_status, file_status}
 
 -- the market at a path, with the tables that it names
 abbrev pub market_at : List ℕ → Files → Result Market Status
-market_at path files = with_fault load_status (market_of path files)
+market_at path files = with_fault as_status (tool.market_at path files)
 
 -- the text of the script at a path
 abbrev pub script_at : List ℕ → Files → Result (List ℕ) Status

@@ -3,6 +3,8 @@ use Rattle.std.specs.Prelude.{ℕ, List, [], ◌++◌, codes, decimal}
 use Rattle.market_file.specs.Fault.{section_text}
 use Rattle.market_tables.specs.MarketKind.{kind_text as market_kind_text}
 use Rattle.session_commands.specs.ScriptKind.{kind_text}
+use Rattle.tool_run.specs.Stage.{Stage}
+use Rattle.tool_run.specs.Stage as stage
 use Rattle.desk_plan.specs.declared.status.FileRole.{FileRole}
 use Rattle.desk_plan.specs.declared.status.FileRole as role
 use Rattle.desk_plan.specs.declared.status.Status.{Status}
@@ -24,14 +26,39 @@ role_text role.TheVariants.Quotes = codes "quotes"
 role_text role.TheVariants.Fixings = codes "fixings"
 role_text role.TheVariants.Script = codes "script"
 
--- the line on standard error, without its newline
+-- the words of the line on standard error behind the program's name
+abbrev pub words_of : Status → List ℕ
+words_of Done = []
+words_of Usage = codes "usage"
+words_of (Market section entry why) =
+    codes "market " ++ section_text section ++ codes " " ++ decimal entry ++ codes " " ++ market_kind_text why
+words_of (Script line why) = codes "script " ++ decimal line ++ codes " " ++ kind_text why
+words_of ReadFault = codes "read fault"
+words_of WriteFault = codes "write fault"
+words_of NoMemory = codes "no memory"
+words_of (Absent role) = codes "no file " ++ role_text role
+
+abbrev pub line_of : Status → List ℕ
+line_of status = codes "desk: " ++ words_of status
+
+-- the line of `desk`, without its newline
 abbrev pub status_text : Status → List ℕ
 status_text Done = []
-status_text Usage = codes "desk: usage"
-status_text (Market section entry why) =
-    codes "desk: market " ++ section_text section ++ codes " " ++ decimal entry ++ codes " " ++ market_kind_text why
-status_text (Script line why) = codes "desk: script " ++ decimal line ++ codes " " ++ kind_text why
-status_text ReadFault = codes "desk: read fault"
-status_text WriteFault = codes "desk: write fault"
-status_text NoMemory = codes "desk: no memory"
-status_text (Absent role) = codes "desk: no file " ++ role_text role
+status_text Usage = line_of Usage
+status_text (Market section entry why) = line_of (Market section entry why)
+status_text (Script line why) = line_of (Script line why)
+status_text ReadFault = line_of ReadFault
+status_text WriteFault = line_of WriteFault
+status_text NoMemory = line_of NoMemory
+status_text (Absent role) = line_of (Absent role)
+
+-- how far a run came that ended so
+abbrev pub stage_of : Status → Stage
+stage_of Done = stage.Done
+stage_of Usage = stage.Refused
+stage_of (Market section entry why) = stage.Refused
+stage_of (Script line why) = stage.Refused
+stage_of (Absent role) = stage.Missing
+stage_of ReadFault = stage.Failed
+stage_of WriteFault = stage.Cut
+stage_of NoMemory = stage.Halted

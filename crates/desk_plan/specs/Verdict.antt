@@ -10,6 +10,8 @@ use Rattle.market_loader.specs.Market.{market_calls, and_then}
 use Rattle.market_tables.specs.Given.{◌>>=◌}
 use Rattle.session_commands.specs.declared.script.Script.{Script}
 use Rattle.session_lang.specs.Reading.{script_meaning}
+use Rattle.tool_run.specs.Run.{asked, calls_for}
+use Rattle.tool_run.specs.Run as tool
 use Rattle.watch_rounds.specs.declared.picker.Order.{Order}
 use Rattle.desk_plan.specs.declared.status.Status.{Status}
 use Rattle.desk_plan.specs.declared.status.Status.TheVariants as status
@@ -61,14 +63,9 @@ plan_of (RunOf market script order) files = run_at market script files >>= (λ r
 plan_of (LoadOf size) files = load_run size >>= (λ run. Ok (Load size run))
 plan_of (CheckOf market) files = market_at market files >>= (λ m. Ok (check_of m))
 
--- the same of words that may be no request
-abbrev pub with_request : Option Request → Files → Result Plan Status
-with_request None files = Err status.Usage
-with_request (Some request) files = plan_of request files
-
 -- what is to be done, or the status with which it is refused
 unfoldable pub verdict_of : Files → List (List ℕ) → Result Plan Status
-verdict_of files words = with_request (request_of words) files
+verdict_of files words = asked status.Usage plan_of (request_of words) files
 
 -- the most calls of a shelf for a script over a market: the script's file is not looked at where the market is refused
 abbrev pub run_calls : List ℕ → List ℕ → Files → ℕ
@@ -81,14 +78,9 @@ plan_calls (RunOf market script order) files = run_calls market script files
 plan_calls (LoadOf size) files = 0
 plan_calls (CheckOf market) files = market_calls market files
 
--- for a request that may be none
-abbrev pub calls_for : Option Request → Files → ℕ
-calls_for None files = 0
-calls_for (Some request) files = plan_calls request files
-
 -- the most calls of a shelf for what words ask for: none where they are no request
 unfoldable pub reading_calls : Files → List (List ℕ) → ℕ
-reading_calls files words = calls_for (request_of words) files
+reading_calls files words = calls_for plan_calls (request_of words) files
 
 -- the words ask for a check
 abbrev pub IsCheck : Option Request → Type 0
@@ -105,10 +97,8 @@ IsReport (Check objects fixings) = Unit {0}
 
 -- the words and the files are accepted
 abbrev pub IsAccepted : Result Plan Status → Type 0
-IsAccepted (Ok plan) = Unit {0}
-IsAccepted (Err status) = ⊥
+IsAccepted verdict = tool.IsAccepted verdict
 
 -- the status that words and files decide
 abbrev pub status_of : Result Plan Status → Status
-status_of (Ok plan) = status.Done
-status_of (Err status) = status
+status_of verdict = tool.status_of status.Done verdict

@@ -1,15 +1,17 @@
 // What a market is reported to hold.
 ghost use Rattle.std.specs.Prelude.{◌≡◌};
 ghost use Rattle.desk_plan.specs.Fixings.{stored_in, fixings_in};
-ghost use Rattle.desk_plan.specs.Found.{market_in, plan_in};
+ghost use Rattle.tool_run.specs.Market.{market_in};
+ghost use Rattle.desk_plan.specs.Found.{plan_in};
 ghost use Rattle.desk_plan.specs.Verdict.{check_of};
 
-use crate::{Opened, Plan};
+use crate::Plan;
 use desk_terms::Terms;
 use market_file::MadeList;
+use tool_run::OpenMarket;
 
 // The report of a market.
-pub(crate) fn check_of(market: &Opened) -> Plan
+pub(crate) fn check_of(market: &OpenMarket) -> Plan
     ensures { plan_in result ≡ check_of (market_in market.now) }
 {
     Plan::Check {

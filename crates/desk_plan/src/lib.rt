@@ -1,7 +1,7 @@
 //! What words and files ask for: a script that is to be run over a market, the script of a load, or the report of a market;
 //! or the status with which they are refused, the first failure in the order in which files are read.
 //!
-//! `plan_of`, `Plan`, `ScriptRun`, `Opened`; `Status` with `Section`, `MarketKind` and `FileRole`.
+//! `plan_of`, `Plan`; `open_run`, `ScriptRun`; `Status` with `Section`, `MarketKind` and `FileRole`.
 #![tactic(auto)]
 
 mod counting;
@@ -10,10 +10,12 @@ mod plan;
 mod planning;
 mod reading;
 mod refusals;
+mod rows;
 mod status;
 
 pub use market_file::{MarketKind, Section};
-pub use plan::{Opened, Plan, ScriptRun};
+pub use plan::{Plan, ScriptRun};
 pub use planning::plan_of;
+pub use reading::open_run;
 pub use session_commands::ScriptKind;
-pub use status::{FileRole, Status};
+pub use status::{FileRole, Status, StatusWords};

@@ -3,18 +3,20 @@ ghost use Rattle.std.specs.Prelude.{◌≡◌, ◌≤◌, [], IfOk, IfErr};
 ghost use Rattle.market_file.specs.Market.{read_market};
 ghost use Rattle.market_file.specs.Standing.{IsReady};
 ghost use Rattle.market_loader.specs.Reads.{Says};
-ghost use Rattle.desk_plan.specs.Found.{CanRun, IsRefusal, market_in, run_in};
+ghost use Rattle.tool_run.specs.Market.{market_in};
+ghost use Rattle.desk_plan.specs.Found.{CanRun, IsRefusal, run_in};
 ghost use Rattle.desk_plan.specs.Reading.{or_market};
 ghost use Rattle.desk_plan.specs.Refusals.{status_end};
 ghost use Rattle.desk_plan.specs.Verdict.{load_run};
 
 use crate::reading::scripted;
 use crate::refusals::market_status;
-use crate::{Opened, ScriptRun, Status};
+use crate::{ScriptRun, Status};
 use desk_names::Names;
 use load_maker::load_texts;
 use market_file::read_market;
 use std::alloc::Global;
+use tool_run::OpenMarket;
 
 // The script of a load over its market.
 pub(crate) fn open_load(alloc: Global, size: u32) -> Result<ScriptRun, Status>
@@ -30,14 +32,14 @@ pub(crate) fn open_load(alloc: Global, size: u32) -> Result<ScriptRun, Status>
 }
 
 // The market of a text and of its table of quotes, where it names no fixings.
-fn opened(alloc: Global, text: &[u8], quotes: &[u8]) -> Result<Opened, Status>
+fn opened(alloc: Global, text: &[u8], quotes: &[u8]) -> Result<OpenMarket, Status>
     ensures says { Says status_end market_in result (or_market (read_market text.now quotes.now [])) }
     ensures ready { IfOk result (λ market. IsReady market.names market.made.items) }
     ensures refused { IfErr result IsRefusal }
 {
     let mut names = Names::new(alloc);
     match read_market(alloc, text, quotes, &[], &mut names) {
-        Ok(market) => Ok(Opened {
+        Ok(market) => Ok(OpenMarket {
             names,
             today: market.today,
             made: market.made,

@@ -1,22 +1,12 @@
 // What words and files ask for.
-use day_number::Day;
-use desk_names::Names;
-use market_file::MadeList;
 use session_commands::Script;
+use tool_run::OpenMarket;
 use watch_rounds::Order;
-
-/// A market that was read: the names of its objects, its evaluation date, and the objects in order of creation.
-#[derive(Drop)]
-pub struct Opened {
-    pub names: Names,
-    pub today: Day,
-    pub made: MadeList,
-}
 
 /// A script over a market. The names are those of the market and of the script.
 #[derive(Drop)]
 pub struct ScriptRun {
-    pub market: Opened,
+    pub market: OpenMarket,
     pub script: Script,
 }
 

@@ -7,8 +7,11 @@ ghost use Rattle.desk_words.specs.Answers.{request_in, IsSized};
 ghost use Rattle.desk_words.specs.Words.{request_of};
 ghost use Rattle.market_loader.specs.Reads.{Reads, seen};
 ghost use Rattle.desk_plan.specs.declared.status.FileRole.{FileRole};
-ghost use Rattle.desk_plan.specs.Found.{IsBefore, IsRefusal, CanDo, Tells, faults_after, plan_in};
+ghost use Rattle.tool_run.specs.Run.{Tells, faults_after};
+ghost use Rattle.tool_run.specs.Stage.{IsBefore};
+ghost use Rattle.desk_plan.specs.Found.{IsRefusal, CanDo, plan_in};
 ghost use Rattle.desk_plan.specs.Refusals.{status_end};
+ghost use Rattle.desk_plan.specs.Status.{stage_of};
 ghost use Rattle.desk_plan.specs.Verdict.{IsCheck, IsReport, plan_of, plan_calls, reading_calls, verdict_of};
 
 use crate::counting::check_of;
@@ -25,20 +28,20 @@ use std::alloc::Global;
 /// those behind the program's name.
 pub fn plan_of<H: Shelf>(alloc: Global, words: &[String], shelf: &mut H) -> Result<Plan, Status>
     // The plan is that of the words and the files, and so is the refusal, but for a fault of reading or want of memory.
-    ensures plans { IfSome (files_of (H.contents shelf.old)) (λ files. Tells plan_in result (verdict_of files (map string_bytes words.now))) }
+    ensures plans { IfSome (files_of (H.contents shelf.old)) (λ files. Tells stage_of plan_in result (verdict_of files (map string_bytes words.now))) }
     ensures usage { IsErrOf result Status.Usage ↔ (request_of (map string_bytes words.now) ≡ None) }
     ensures checked { IsCheck (request_of (map string_bytes words.now)) → IfOk result (λ plan. IsReport (plan_in plan)) }
 
     // A session can be made of its market, and knows the commands of its script.
     ensures can { IfOk result CanDo }
-    ensures before { IfErr result IsBefore }
+    ensures before { IfErr result (λ status. IsBefore (stage_of status)) }
 
     // Each file is read once, and none behind the first failure. Each fault and each absent file was counted.
     ensures files { files_of (H.contents shelf.new) ≡ files_of (H.contents shelf.old) }
     ensures calls { IfSome (files_of (H.contents shelf.old)) (λ files.
         H.calls shelf.new ≤ H.calls shelf.old + reading_calls files (map string_bytes words.now)) }
     ensures read { IsErrOf result Status.ReadFault → Rose (H.faults shelf.old) (H.faults shelf.new) }
-    ensures counted { H.faults shelf.new ≡ faults_after result (H.faults shelf.old) }
+    ensures counted { H.faults shelf.new ≡ faults_after stage_of result (H.faults shelf.old) }
     ensures absent { (role : FileRole) → IsErrOf result (Status.Absent role) → Rose (H.misses shelf.old) (H.misses shelf.new) }
 {
     match read_words(alloc, words) {

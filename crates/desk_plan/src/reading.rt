@@ -5,21 +5,24 @@ ghost use Rattle.market_file.specs.Standing.{IsReady};
 ghost use Rattle.market_loader.specs.Files.{file_calls};
 ghost use Rattle.market_loader.specs.Market.{market_calls};
 ghost use Rattle.market_loader.specs.Reads.{Reads, Says, seen};
-ghost use Rattle.desk_plan.specs.Found.{CanRun, IsRefusal, market_in, run_in};
+ghost use Rattle.tool_run.specs.Market.{market_in};
+ghost use Rattle.desk_plan.specs.Found.{CanRun, IsRefusal, run_in};
 ghost use Rattle.desk_plan.specs.Reading.{market_at};
 ghost use Rattle.desk_plan.specs.Refusals.{status_end};
 ghost use Rattle.desk_plan.specs.Verdict.{scripted, run_over, run_at, run_calls};
 
-use crate::refusals::{file_status, load_status, script_status};
-use crate::{Opened, ScriptRun, Status};
+use crate::refusals::{file_status, script_status};
+use crate::{ScriptRun, Status};
 use desk_edge::Shelf;
 use desk_names::Names;
-use market_loader::{load_file, load_market};
+use market_loader::load_file;
 use session_lang::read_script;
 use std::alloc::Global;
+use tool_run::OpenMarket;
 
-// The script at a path, over the market at another.
-pub(crate) fn open_run<H: Shelf>(
+/// The script at a path, over the market at another, or the first failure in reading order: the market's file, the tables
+/// that it names, the market, the script's file, the script.
+pub fn open_run<H: Shelf>(
     alloc: Global,
     shelf: &mut H,
     market: &str,
@@ -40,21 +43,16 @@ pub(crate) fn open_market<H: Shelf>(
     alloc: Global,
     shelf: &mut H,
     path: &str,
-) -> Result<Opened, Status>
+) -> Result<OpenMarket, Status>
     ensures reads { Reads status_end market_in (market_at path.now) (market_calls path.now)
         (seen (H.contents shelf.old) (H.faults shelf.old) (H.misses shelf.old) (H.calls shelf.old))
         (seen (H.contents shelf.new) (H.faults shelf.new) (H.misses shelf.new) (H.calls shelf.new)) result }
     ensures ready { IfOk result (λ market. IsReady market.names market.made.items) }
     ensures refused { IfErr result IsRefusal }
 {
-    let mut names = Names::new(alloc);
-    match load_market(alloc, path, shelf, &mut names) {
-        Ok(market) => Ok(Opened {
-            names,
-            today: market.today,
-            made: market.made,
-        }),
-        Err(fault) => Err(load_status(fault)),
+    match tool_run::open_market(alloc, path, shelf) {
+        Ok(market) => Ok(market),
+        Err(status) => Err(Status::from(status)),
     }
 }
 
@@ -62,7 +60,7 @@ pub(crate) fn open_market<H: Shelf>(
 fn open_script<H: Shelf>(
     alloc: Global,
     shelf: &mut H,
-    market: Opened,
+    market: OpenMarket,
     path: &str,
 ) -> Result<ScriptRun, Status>
     requires ready { IsReady market.names market.made.items }
@@ -79,7 +77,11 @@ fn open_script<H: Shelf>(
 }
 
 // The script of a text, over a market.
-pub(crate) fn scripted(alloc: Global, mut market: Opened, text: &[u8]) -> Result<ScriptRun, Status>
+pub(crate) fn scripted(
+    alloc: Global,
+    mut market: OpenMarket,
+    text: &[u8],
+) -> Result<ScriptRun, Status>
     requires ready { IsReady market.names market.made.items }
     ensures says { Says status_end run_in result (scripted (market_in market) text.now) }
     ensures whole { IfOk result CanRun }

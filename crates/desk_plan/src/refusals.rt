@@ -1,12 +1,13 @@
 // The status of a reading that gave nothing.
 ghost use Rattle.std.specs.Prelude.{◌≡◌};
-ghost use Rattle.desk_plan.specs.Refusals.{role_of, load_status, file_status, market_status, script_status};
+ghost use Rattle.desk_plan.specs.Refusals.{role_of, file_status, market_status, script_status};
 
 use crate::{FileRole, Status};
 use market_file::MarketFault;
-use market_loader::{FileFault, LoadFault, MarketRole};
+use market_loader::{FileFault, MarketRole};
 use session_commands::ScriptKind;
 use session_lang::ScriptFault;
+use tool_run::MarketStatus;
 
 // A file of a market, as a status tells it.
 fn role_of(role: MarketRole) -> FileRole
@@ -19,19 +20,23 @@ fn role_of(role: MarketRole) -> FileRole
     }
 }
 
-// The status of a market that was not loaded.
-pub(crate) fn load_status(fault: LoadFault) -> Status
-    ensures { result ≡ load_status fault }
-{
-    match fault {
-        LoadFault::Fault {
-            section,
-            entry,
-            kind,
-        } => Status::Market(section, entry, kind),
-        LoadFault::Read => Status::ReadFault,
-        LoadFault::Absent(role) => Status::Absent(role_of(role)),
-        LoadFault::NoMemory => Status::NoMemory,
+// The status of a market that was not read.
+impl From<MarketStatus> for Status {
+    ghost use Rattle.std.specs.Prelude.{◌≡◌};
+    ghost use Rattle.desk_plan.specs.Refusals.{as_status};
+
+    ghost from_gives = { λ s e. e ≡ as_status s };
+
+    fn from(status: MarketStatus) -> Self {
+        match status {
+            MarketStatus::Done => Status::Done,
+            MarketStatus::Usage => Status::Usage,
+            MarketStatus::Market(section, entry, kind) => Status::Market(section, entry, kind),
+            MarketStatus::ReadFault => Status::ReadFault,
+            MarketStatus::WriteFault => Status::WriteFault,
+            MarketStatus::NoMemory => Status::NoMemory,
+            MarketStatus::Absent(role) => Status::Absent(role_of(role)),
+        }
     }
 }
 

@@ -1,11 +1,12 @@
 // How a call of `run` ended.
-ghost use Rattle.std.specs.Prelude.{◌≡◌, Some};
-ghost use Rattle.desk_plan.specs.Status.{code_of, status_text};
+ghost use Rattle.std.specs.Prelude.{◌≡◌};
+ghost use Rattle.desk_plan.specs.Status.{code_of};
 
 use market_file::{MarketKind, Section};
 use session_commands::ScriptKind;
 use std::alloc::AllocError;
 use std::fmt;
+use tool_process::Ending;
 
 /// A file that is read.
 #[derive(Clone, Copy, PartialEq, Eq)]
@@ -57,6 +58,33 @@ impl Status {
     }
 }
 
+impl Ending for Status {
+    ghost use Rattle.desk_plan.specs.Status.{code_of};
+
+    type Words = StatusWords;
+
+    ghost code = { code_of };
+
+    fn code(&self) -> u8 {
+        Status::code(self)
+    }
+
+    fn usage() -> Self {
+        Status::Usage
+    }
+
+    fn no_memory() -> Self {
+        Status::NoMemory
+    }
+
+    fn words(&self) -> Option<StatusWords> {
+        if *self == Status::Done {
+            return None;
+        }
+        Some(StatusWords(*self))
+    }
+}
+
 impl From<AllocError> for Status {
     ghost use Rattle.std.specs.Prelude.{◌≡◌};
     ghost use Rattle.desk_plan.specs.declared.status.Status.TheVariants.{NoMemory};
@@ -75,16 +103,44 @@ impl fmt::Display for FileRole {
     ghost output = { λ r. Some (role_text r) };
 
     fn fmt<W: fmt::Write>(&self, f: &mut fmt::Formatter<W>) -> fmt::Result {
-        match self {
-            FileRole::Market => write!(f, "market"),
-            FileRole::Quotes => write!(f, "quotes"),
-            FileRole::Fixings => write!(f, "fixings"),
-            FileRole::Script => write!(f, "script"),
-        }
+        let word = match self {
+            FileRole::Market => "market",
+            FileRole::Quotes => "quotes",
+            FileRole::Fixings => "fixings",
+            FileRole::Script => "script",
+        };
+        write!(f, "{word}")
     }
 }
 
-// The line on standard error, without its newline: nothing for Done.
+/// What the line of a status on standard error says behind the program's name.
+#[derive(Clone, Copy)]
+pub struct StatusWords(pub Status);
+
+impl fmt::Display for StatusWords {
+    ghost use Rattle.std.specs.Prelude.{Some};
+    ghost use Rattle.desk_plan.specs.Status.{words_of};
+
+    ghost output = { λ words. Some (words_of words.0) };
+
+    fn fmt<W: fmt::Write>(&self, f: &mut fmt::Formatter<W>) -> fmt::Result {
+        let word = match self.0 {
+            Status::Market(section, entry, kind) => {
+                return write!(f, "market {section} {entry} {kind}");
+            }
+            Status::Script(line, kind) => return write!(f, "script {line} {kind}"),
+            Status::Absent(role) => return write!(f, "no file {role}"),
+            Status::Done => "",
+            Status::Usage => "usage",
+            Status::ReadFault => "read fault",
+            Status::WriteFault => "write fault",
+            Status::NoMemory => "no memory",
+        };
+        write!(f, "{word}")
+    }
+}
+
+// The line of `desk` on standard error, without its newline: nothing for Done.
 impl fmt::Display for Status {
     ghost use Rattle.std.specs.Prelude.{Some};
     ghost use Rattle.desk_plan.specs.Status.{status_text};
@@ -92,17 +148,9 @@ impl fmt::Display for Status {
     ghost output = { λ s. Some (status_text s) };
 
     fn fmt<W: fmt::Write>(&self, f: &mut fmt::Formatter<W>) -> fmt::Result {
-        match self {
-            Status::Done => write!(f, ""),
-            Status::Usage => write!(f, "desk: usage"),
-            Status::Market(section, entry, kind) => {
-                write!(f, "desk: market {section} {entry} {kind}")
-            }
-            Status::Script(line, kind) => write!(f, "desk: script {line} {kind}"),
-            Status::ReadFault => write!(f, "desk: read fault"),
-            Status::WriteFault => write!(f, "desk: write fault"),
-            Status::NoMemory => write!(f, "desk: no memory"),
-            Status::Absent(role) => write!(f, "desk: no file {role}"),
+        if *self == Status::Done {
+            return write!(f, "");
         }
+        write!(f, "desk: {}", StatusWords(*self))
     }
 }

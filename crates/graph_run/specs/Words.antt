@@ -1,22 +1,14 @@
 -- The words of the command line (this project's profile).
-use Rattle.std.specs.Prelude.{ℕ, ◌&&◌, if◌then◌else◌, List, [], ◌∷◌, codes, Option, None, Some}
+use Rattle.std.specs.Prelude.{ℕ, ◌&&◌, if◌then◌else◌, List, [], ◌∷◌, Option, None, Some}
 use Rattle.desk_words.specs.Words.{is_path}
-
--- the path of a market, and the path of a script
-pub record Paths : Type 0 where
-  pub market : List ℕ
-  pub script : List ℕ
+use Rattle.tool_run.specs.Words.{Pair}
 
 -- `MARKET SCRIPT`
-abbrev pub paths_with : List ℕ → List ℕ → Option Paths
+abbrev pub paths_with : List ℕ → List ℕ → Option Pair
 paths_with market script =
-    if is_path market && is_path script then Some (record { market = market; script = script }) else None
+    if is_path market && is_path script then Some (record { market = market; other = script }) else None
 
 -- the paths that words are: there is one list that is taken
-abbrev pub paths_of : List (List ℕ) → Option Paths
+abbrev pub paths_of : List (List ℕ) → Option Pair
 paths_of (market ∷ script ∷ []) = paths_with market script
 paths_of words = None
-
--- the words with which `desk` runs the script
-abbrev pub run_words : Paths → List (List ℕ)
-run_words paths = codes "run" ∷ paths.market ∷ paths.script ∷ []

@@ -1,17 +1,17 @@
 //! What the program `desk_graph` does: from words, a market with its tables and a script to the graph of the session as it
 //! stands behind the last command, and a status, for every shelf of files, sink of bytes and bench of prices.
 //!
-//! `run_graph`, `Status`, `StatusLine`.
+//! `run_graph`, `NAME`, `Status`.
 #![tactic(auto)]
 
 mod drawing;
-mod playing;
 mod rows;
 mod running;
-mod status;
 mod wanted;
 mod words;
 
 pub use desk_plan::Status;
 pub use running::run_graph;
-pub use status::StatusLine;
+
+/// The program's name.
+pub const NAME: &str = "desk_graph";

@@ -1,20 +1,23 @@
 // The call of the program.
-ghost use Rattle.std.specs.Prelude.{◌≡◌, ◌⊎◌, ◌↔◌, ◌+◌, ◌≤◌, map, None, IfOk, IfSome, IfErr, IsErrOf};
+ghost use Rattle.std.specs.Prelude.{◌≡◌, ◌⊎◌, ◌↔◌, ◌+◌, ◌≤◌, map, None, IfSome};
 ghost use Rattle.std.specs.String.{string_bytes};
 ghost use Rattle.desk_edge.specs.Count.{Rose};
 ghost use Rattle.desk_edge.specs.Shelf.{files_of};
 ghost use Rattle.desk_plan.specs.declared.status.FileRole.{FileRole};
-ghost use Rattle.desk_plan.specs.Found.{CanDo, faults_then, plan_in};
-ghost use Rattle.desk_plan.specs.Verdict.{Plan as Wanted, IsAccepted, status_of};
-ghost use Rattle.graph_run.specs.Drawing.{output_in, output_of, computed_in, computed_by};
-ghost use Rattle.graph_run.specs.Run.{IsOutside, IsEarly, IsLate, IsQuiet, Writes, Computes, ended};
+ghost use Rattle.desk_plan.specs.Found.{run_in};
+ghost use Rattle.desk_plan.specs.Status.{stage_of};
+ghost use Rattle.desk_plan.specs.Verdict.{ScriptRun as Wanted};
+ghost use Rattle.scenario_grid.specs.Calls.{Makes, Begins};
+ghost use Rattle.tool_run.specs.Run.{status_of, given_for, IsAccepted};
+ghost use Rattle.tool_run.specs.Stage.{IsOutside, IsEarly, IsQuiet, Writes, Computes, faults_then};
+ghost use Rattle.graph_run.specs.Drawing.{output_in, computed_in};
 ghost use Rattle.graph_run.specs.Verdict.{verdict_of, reading_calls};
 ghost use Rattle.graph_run.specs.Words.{paths_of};
 
 use crate::drawing::text_of;
 use crate::wanted::wanted_of;
 use desk_edge::{Shelf, Sink, write_whole};
-use desk_plan::{Plan, Status};
+use desk_plan::Status;
 use desk_terms::Bench;
 use std::alloc::Global;
 
@@ -35,7 +38,7 @@ pub fn run_graph<H: Shelf, K: Sink, B: Bench>(
 ) -> Status
     // The status is that of the words and the files, but for a fault outside or want of memory.
     ensures status { IfSome (files_of (H.contents shelf.old)) (λ files.
-        IsOutside result ⊎ (result ≡ status_of (verdict_of files (map string_bytes words.now)))) }
+        IsOutside (stage_of result) ⊎ (result ≡ status_of Status.Done (verdict_of files (map string_bytes words.now)))) }
     ensures usage { (result ≡ Status.Usage) ↔ (paths_of (map string_bytes words.now) ≡ None) }
 
     // What is accepted is done, where no fault is counted and memory is found.
@@ -46,25 +49,25 @@ pub fn run_graph<H: Shelf, K: Sink, B: Bench>(
 
     // At Done the bytes written are the graph; after a fault of writing they are a front of it, and else there are none.
     ensures written { IfSome (files_of (H.contents shelf.old)) (λ files.
-        Writes (K.bytes out.old) (K.bytes out.new) (output_of (B.calc bench.old) (verdict_of files (map string_bytes words.now))) result) }
-    ensures nothing { IsEarly result → out.new ≡ out.old }
+        Writes (K.bytes out.old) (K.bytes out.new) (given_for (output_in (B.calc bench.old)) (verdict_of files (map string_bytes words.now))) (stage_of result)) }
+    ensures nothing { IsEarly (stage_of result) → out.new ≡ out.old }
 
     // The bench was called for the computations of the script, in their order, and for no other: the graph needs none.
     // Where memory ran out, it was called for a front of them. `carried` says both of files told or not.
     ensures computed { IfSome (files_of (H.contents shelf.old)) (λ files.
-        Computes (computed_by (B.calc bench.old) (verdict_of files (map string_bytes words.now))) result
+        Computes Makes Begins (given_for (computed_in (B.calc bench.old)) (verdict_of files (map string_bytes words.now))) (stage_of result)
         (B.count bench.old) (B.count bench.new) (B.log bench.old) (B.log bench.new)) }
-    ensures carried { IsEarly result ⊎ ((asked : Wanted)
-        × Writes (K.bytes out.old) (K.bytes out.new) (output_in (B.calc bench.old) asked) result
-        × Computes (computed_in (B.calc bench.old) asked) result
+    ensures carried { IsEarly (stage_of result) ⊎ ((asked : Wanted)
+        × Writes (K.bytes out.old) (K.bytes out.new) (output_in (B.calc bench.old) asked) (stage_of result)
+        × Computes Makes Begins (computed_in (B.calc bench.old) asked) (stage_of result)
         (B.count bench.old) (B.count bench.new) (B.log bench.old) (B.log bench.new)) }
-    ensures alone { IsEarly result → bench.new ≡ bench.old }
+    ensures alone { IsEarly (stage_of result) → bench.new ≡ bench.old }
     ensures same { B.calc bench.new ≡ B.calc bench.old }
 
     // Each fault was counted.
     ensures read { result ≡ Status.ReadFault → Rose (H.faults shelf.old) (H.faults shelf.new) }
     // A call of the shelf that failed is the answer, and was the last: any call may fail, and one more would be counted too.
-    ensures counted { H.faults shelf.new ≡ faults_then result (H.faults shelf.old) }
+    ensures counted { H.faults shelf.new ≡ faults_then (stage_of result) (H.faults shelf.old) }
     ensures write { result ≡ Status.WriteFault → Rose (K.faults out.old) (K.faults out.new) }
     ensures absent { (role : FileRole) → result ≡ Status.Absent role → Rose (H.misses shelf.old) (H.misses shelf.new) }
     ensures files { files_of (H.contents shelf.new) ≡ files_of (H.contents shelf.old) }
@@ -73,34 +76,15 @@ pub fn run_graph<H: Shelf, K: Sink, B: Bench>(
     ensures calls { IfSome (files_of (H.contents shelf.old)) (λ files.
         H.calls shelf.new ≤ H.calls shelf.old + reading_calls files (map string_bytes words.now)) }
 {
-    let plan = match wanted_of(alloc, words, shelf) {
-        Ok(plan) => plan,
+    let run = match wanted_of(alloc, words, shelf) {
+        Ok(run) => run,
         Err(status) => return status,
     };
-    match carry_out(alloc, plan, out, bench) {
-        Ok(()) => Status::Done,
-        Err(status) => status,
-    }
-}
-
-// Writes the graph of what is wanted.
-fn carry_out<K: Sink, B: Bench>(
-    alloc: Global,
-    plan: Plan,
-    out: &mut K,
-    bench: &mut B,
-) -> Result<(), Status>
-    requires can { CanDo plan }
-    ensures written { Writes (K.bytes out.old) (K.bytes out.new) (output_in (B.calc bench.old) (plan_in plan)) (ended result) }
-    ensures computed { Computes (computed_in (B.calc bench.old) (plan_in plan)) (ended result)
-        (B.count bench.old) (B.count bench.new) (B.log bench.old) (B.log bench.new) }
-    ensures same { B.calc bench.new ≡ B.calc bench.old }
-    ensures late { IfErr result IsLate }
-    ensures write { IsErrOf result Status.WriteFault → Rose (K.faults out.old) (K.faults out.new) }
-{
-    let text = text_of(alloc, plan, bench)?;
-    match write_whole(out, &text) {
-        Ok(()) => Ok(()),
-        Err(_) => Err(Status::WriteFault),
+    match text_of(alloc, run, bench) {
+        Ok(text) => match write_whole(out, &text) {
+            Ok(()) => Status::Done,
+            Err(_) => Status::WriteFault,
+        },
+        Err(_) => Status::NoMemory,
     }
 }

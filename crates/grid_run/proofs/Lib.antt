@@ -1,3 +1,1 @@
-mod Fronts
-mod Opening
-mod Wording
+pub mod Shaping

@@ -1,6 +1,3 @@
-pub mod Found
 pub mod Rows
-pub mod Run
 pub mod Status
 pub mod Verdict
-pub mod Words

@@ -1,24 +1,22 @@
--- Words and statuses that are worked through by hand.
-use Rattle.std.specs.Prelude.{◌≡◌, [], ◌∷◌, codes, None, Some}
+-- Statuses that are worked through by hand.
+use Rattle.std.specs.Prelude.{◌≡◌, ℕ, List, [], codes}
 use Rattle.session_commands.specs.declared.script_kind.ScriptKind.TheVariants as script
-use Rattle.grid_run.specs.declared.status.GridRole.TheVariants as of
-use Rattle.grid_run.specs.declared.status.GridStatus.TheVariants.{Done, Usage, Script, Shape, Absent}
-use Rattle.grid_run.specs.Status.{code_of, status_text}
-use Rattle.grid_run.specs.Words.{request_of}
+use Rattle.desk_plan.specs.declared.status.FileRole.TheVariants as of
+use Rattle.desk_plan.specs.declared.status.Status.TheVariants.{Done, Usage, Script, ReadFault, WriteFault, NoMemory, Absent}
+use Rattle.grid_run.specs.declared.status.GridStatus.{GridStatus}
+use Rattle.grid_run.specs.declared.status.GridStatus.TheVariants.{Of, Shape}
+use Rattle.grid_run.specs.Status.{code_of, words_of}
 
-pub record AreTaken : Type 0 where
-  pub two : request_of (codes "m" ∷ codes "s" ∷ []) ≡ Some (record { market = codes "m"; script = codes "s" })
-  pub help : request_of (codes "help" ∷ codes "s-" ∷ []) ≡ Some (record { market = codes "help"; script = codes "s-" })
-  pub one : request_of (codes "m" ∷ []) ≡ None
-  pub three : request_of (codes "m" ∷ codes "s" ∷ codes "c" ∷ []) ≡ None
-  pub option : request_of (codes "m" ∷ codes "-s" ∷ []) ≡ None
-  pub first : request_of (codes "-" ∷ codes "s" ∷ []) ≡ None
-  pub empty : request_of (codes "m" ∷ [] ∷ []) ≡ None
+-- a code, and the words behind the program's name
+abbrev pub Shows : GridStatus → ℕ → List ℕ → Type 0
+Shows status code words = (code_of status ≡ code) × (words_of status ≡ words)
 
 pub record AreTold : Type 0 where
-  pub done : status_text Done ≡ []
-  pub shape : status_text (Shape 2) ≡ codes "desk_grid: shape 2"
-  pub shape_code : code_of (Shape 2) ≡ 9
-  pub script : status_text (Script 0 script.TooLong) ≡ codes "desk_grid: script 0 toolong"
-  pub absent : status_text (Absent of.Script) ≡ codes "desk_grid: no file script"
-  pub usage : code_of Usage ≡ 2
+  pub done : Shows (Of Done) 0 []
+  pub usage : Shows (Of Usage) 2 (codes "usage")
+  pub script : Shows (Of (Script 0 script.TooLong)) 4 (codes "script 0 toolong")
+  pub read_fault : Shows (Of ReadFault) 5 (codes "read fault")
+  pub write_fault : Shows (Of WriteFault) 6 (codes "write fault")
+  pub no_memory : Shows (Of NoMemory) 7 (codes "no memory")
+  pub absent : Shows (Of (Absent of.Script)) 8 (codes "no file script")
+  pub shape : Shows (Shape 2) 9 (codes "shape 2")

@@ -1,113 +1,49 @@
--- Whether words and files are accepted, and what is done then: the first failure in the order in which files are read
--- (this project's profile).
-use Rattle.std.specs.Prelude.{ℕ, Bool, List, [], Option, None, Some, Result, Ok, Err}
+-- Whether words and files are accepted, and what is done then (this project's profile).
+use Rattle.std.specs.Prelude.{ℕ, Bool, List, Option, None, Some, Result, Ok, Err}
+use Rattle.desk_plan.specs.declared.status.Status.TheVariants as status
+use Rattle.desk_plan.specs.Verdict.{ScriptRun, run_at, run_calls}
 use Rattle.desk_terms.specs.Reading.{Calc}
-use Rattle.market_tables.specs.Given.{◌>>=◌}
-use Rattle.market_loader.specs.Ends.{with_fault}
-use Rattle.market_loader.specs.Files.{Files, file_of, file_calls}
-use Rattle.market_loader.specs.Market.{Texts, texts_of, market_said, market_calls, and_then}
-use Rattle.session_commands.specs.declared.script.Script.{Script}
-use Rattle.session_commands.specs.declared.script_kind.ScriptKind.{ScriptKind}
-use Rattle.session_lang.specs.Reading.{script_meaning}
-use Rattle.grid_shape.specs.Shape.{shape_of}
 use Rattle.grid_model.specs.Scenario.{Basis}
 use Rattle.grid_model.specs.Grid.{grid, grid_calls}
-use Rattle.scenario_grid.specs.Basis.{basis_with}
+use Rattle.grid_shape.specs.Shape.{shape_of}
+use Rattle.market_loader.specs.Ends.{with_fault}
+use Rattle.market_loader.specs.Files.{Files}
+use Rattle.market_tables.specs.Given.{◌>>=◌}
+use Rattle.tool_run.specs.Run.{asked, calls_for}
+use Rattle.tool_run.specs.Words.{Pair, pair_of}
 use Rattle.grid_run.specs.declared.status.GridStatus.{GridStatus}
-use Rattle.grid_run.specs.declared.status.GridStatus.TheVariants as status
-use Rattle.grid_run.specs.Status.{load_status, file_status}
-use Rattle.grid_run.specs.Words.{Request, request_of}
+use Rattle.grid_run.specs.declared.status.GridStatus.TheVariants.{Of, Shape}
 
--- what the scenarios begin with, and the script of the scenarios
-pub record Wanted : Type 0 where
-  pub basis : Basis
-  pub script : Script
+abbrev pub unless_shape : ScriptRun → Option ℕ → Result ScriptRun GridStatus
+unless_shape run None = Ok run
+unless_shape run (Some fault) = Err (Shape fault)
 
--- the texts of the market at a path, or why they were not read
-abbrev pub texts_at : List ℕ → Files → Result Texts GridStatus
-texts_at path files = with_fault load_status (texts_of path files)
+-- a script over a market, where it is one of scenarios
+abbrev pub in_shape : ScriptRun → Result ScriptRun GridStatus
+in_shape run = unless_shape run (shape_of run.names run.script)
 
--- the market that they say, under its own names
-abbrev pub basis_said : Texts → Result Basis GridStatus
-basis_said texts = with_fault load_status (market_said texts) >>= (λ market. Ok (basis_with market.names market))
+-- what the words `MARKET SCRIPT` ask for, over these files: the market, then the script, then its shape
+abbrev pub wanted_of : Pair → Files → Result ScriptRun GridStatus
+wanted_of pair files = with_fault Of (run_at pair.market pair.other files) >>= in_shape
 
-abbrev pub basis_at : List ℕ → Files → Result Basis GridStatus
-basis_at path files = texts_at path files >>= basis_said
+-- what is to be done for words, or the status with which it is refused
+unfoldable pub verdict_of : Files → List (List ℕ) → Result ScriptRun GridStatus
+verdict_of files words = asked (Of status.Usage) wanted_of (pair_of words) files
 
--- the text of the script at a path
-abbrev pub script_at : List ℕ → Files → Result (List ℕ) GridStatus
-script_at path files = with_fault file_status (file_of path files)
+abbrev pub wanted_calls : Pair → Files → ℕ
+wanted_calls pair files = run_calls pair.market pair.other files
 
--- what is read of a script, or its first fault as a status
-abbrev pub or_script : {X : Type 0} → Result X (ℕ × ScriptKind) → Result X GridStatus
-or_script (Ok x) = Ok x
-or_script (Err fault) = Err (status.Script fault.0 fault.1)
-
-abbrev pub unless_shape : Wanted → Option ℕ → Result Wanted GridStatus
-unless_shape wanted None = Ok wanted
-unless_shape wanted (Some fault) = Err (status.Shape fault)
-
--- what is wanted, where its script is one of scenarios
-abbrev pub in_shape : Wanted → Result Wanted GridStatus
-in_shape wanted = unless_shape wanted (shape_of wanted.basis.names wanted.script)
-
--- a script over a market, under the names of both
-abbrev pub scripted : Basis → Script × List (List ℕ) → Wanted
-scripted basis read = record { basis = record basis { names = read.1 }; script = read.0 }
-
--- the script that a text says over a market
-abbrev pub script_said : Basis → List ℕ → Result Wanted GridStatus
-script_said basis text = or_script (script_meaning basis.names text) >>= (λ read. in_shape (scripted basis read))
-
-abbrev pub script_over : Basis → List ℕ → Files → Result Wanted GridStatus
-script_over basis path files = script_at path files >>= script_said basis
-
--- what a request asks for, over these files: the market, and then the script
-abbrev pub wanted_of : Request → Files → Result Wanted GridStatus
-wanted_of request files = basis_at request.market files >>= (λ basis. script_over basis request.script files)
-
--- the same of words that may be no request
-abbrev pub with_request : Option Request → Files → Result Wanted GridStatus
-with_request None files = Err status.Usage
-with_request (Some request) files = wanted_of request files
-
--- what is to be done, or the status with which it is refused
-unfoldable pub verdict_of : Files → List (List ℕ) → Result Wanted GridStatus
-verdict_of files words = with_request (request_of words) files
-
--- the most calls of a shelf for a request: the script's file is not looked at where the market is refused
-abbrev pub wanted_calls : Request → Files → ℕ
-wanted_calls request files =
-    and_then (market_calls request.market files) (basis_at request.market files) (λ basis. file_calls request.script files)
-
-abbrev pub calls_with : Option Request → Files → ℕ
-calls_with None files = 0
-calls_with (Some request) files = wanted_calls request files
-
--- the most calls of a shelf for what words ask for: none where they are no request
+-- the most calls of a shelf for them
 unfoldable pub reading_calls : Files → List (List ℕ) → ℕ
-reading_calls files words = calls_with (request_of words) files
+reading_calls files words = calls_for wanted_calls (pair_of words) files
 
-abbrev pub status_of : Result Wanted GridStatus → GridStatus
-status_of (Ok wanted) = status.Done
-status_of (Err status) = status
+-- what the scenarios begin with
+abbrev pub basis_of : ScriptRun → Basis
+basis_of run = record { names = run.names; today = run.today; made = run.made }
 
 -- the bytes that are written, and the computations that are made
-abbrev pub output_in : Calc → Wanted → List ℕ
-output_in calc wanted = grid calc wanted.basis wanted.script
+abbrev pub output_in : Calc → ScriptRun → List ℕ
+output_in calc run = grid calc (basis_of run) run.script
 
-abbrev pub output_of : Calc → Result Wanted GridStatus → List ℕ
-output_of calc (Ok wanted) = output_in calc wanted
-output_of calc (Err status) = []
-
-abbrev pub computed_in : Calc → Wanted → List (ℕ × Bool)
-computed_in calc wanted = grid_calls calc wanted.basis wanted.script
-
-abbrev pub computed_by : Calc → Result Wanted GridStatus → List (ℕ × Bool)
-computed_by calc (Ok wanted) = computed_in calc wanted
-computed_by calc (Err status) = []
-
--- the words and the files are accepted
-abbrev pub IsAccepted : Result Wanted GridStatus → Type 0
-IsAccepted (Ok wanted) = Unit {0}
-IsAccepted (Err status) = ⊥
+abbrev pub computed_in : Calc → ScriptRun → List (ℕ × Bool)
+computed_in calc run = grid_calls calc (basis_of run) run.script

@@ -1,12 +1,7 @@
 // Rows that are worked through by hand.
-ghost use Rattle.grid_run.specs.Rows.{AreTaken, AreTold};
+ghost use Rattle.grid_run.specs.Rows.{AreTold};
 
-// The words that are taken, and some that are not.
-fn words_are_worked_through()
-    ensures { AreTaken }
-{}
-
-// The lines of statuses.
+// Each status has its code and its words.
 fn statuses_are_worked_through()
     ensures { AreTold }
 {}

@@ -1,169 +1,62 @@
 // How a call of `run_grid` ended.
-ghost use Rattle.std.specs.Prelude.{◌≡◌, Some};
-ghost use Rattle.grid_run.specs.Run.{IsRefusal};
-ghost use Rattle.grid_run.specs.Status.{code_of, role_of, status_text, load_status, file_status, script_status};
-
-use market_file::{MarketKind, Section};
-use market_loader::{FileFault, LoadFault, MarketRole};
-use session_commands::ScriptKind;
-use session_lang::ScriptFault;
-use std::alloc::AllocError;
+use desk_plan::{Status, StatusWords};
 use std::fmt;
-
-/// A file that is read, in reading order.
-#[derive(Clone, Copy, PartialEq, Eq)]
-pub enum GridRole {
-    Market,
-    /// The table of quotes that the market names.
-    Quotes,
-    /// The table of fixings that the market names.
-    Fixings,
-    Script,
-}
+use tool_process::Ending;
 
 /// How a call of `run_grid` ended.
 #[derive(Clone, Copy, PartialEq, Eq)]
 pub enum GridStatus {
-    /// The lines were written.
-    Done,
-    /// The words are not two that are taken.
-    Usage,
-    /// The market is refused: where, at which entry, and why.
-    Market(Section, u32, MarketKind),
-    /// The script is refused: at which line, and why.
-    Script(u32, ScriptKind),
+    /// As a run of `desk` ends.
+    Of(Status),
     /// The script is not one of scenarios: 1 for a command of a block, 2 for a command outside of blocks, 3 for a block
     /// that is named `base`, 4 for more than 1,000 blocks or asks; the first of these.
     Shape(u32),
-    /// A file could not be read.
-    ReadFault,
-    /// The output could not be written.
-    WriteFault,
-    /// Memory ran out.
-    NoMemory,
-    /// There is no such file.
-    Absent(GridRole),
 }
 
-impl GridStatus {
-    /// The exit status of the program.
-    pub fn code(&self) -> u8
-        ensures { result ≡ code_of self.now }
-    {
+impl Ending for GridStatus {
+    ghost use Rattle.grid_run.specs.Status.{code_of};
+
+    type Words = GridWords;
+
+    ghost code = { code_of };
+
+    fn code(&self) -> u8 {
         match self {
-            GridStatus::Done => 0,
-            GridStatus::Usage => 2,
-            GridStatus::Market(..) => 3,
-            GridStatus::Script(..) => 4,
-            GridStatus::ReadFault => 5,
-            GridStatus::WriteFault => 6,
-            GridStatus::NoMemory => 7,
-            GridStatus::Absent(_) => 8,
+            GridStatus::Of(status) => status.code(),
             GridStatus::Shape(_) => 9,
         }
     }
-}
 
-// The file of a market as one of a grid.
-fn role_of(role: MarketRole) -> GridRole
-    ensures { result ≡ role_of role }
-{
-    match role {
-        MarketRole::Market => GridRole::Market,
-        MarketRole::Quotes => GridRole::Quotes,
-        MarketRole::Fixings => GridRole::Fixings,
+    fn usage() -> Self {
+        GridStatus::Of(Status::Usage)
     }
-}
 
-// The status of a market that was not read.
-pub(crate) fn load_status(fault: LoadFault) -> GridStatus
-    ensures is { result ≡ load_status fault }
-    ensures refusal { IsRefusal result }
-{
-    match fault {
-        LoadFault::Fault {
-            section,
-            entry,
-            kind,
-        } => GridStatus::Market(section, entry, kind),
-        LoadFault::Read => GridStatus::ReadFault,
-        LoadFault::Absent(role) => GridStatus::Absent(role_of(role)),
-        LoadFault::NoMemory => GridStatus::NoMemory,
+    fn no_memory() -> Self {
+        GridStatus::Of(Status::NoMemory)
     }
-}
 
-// The status of a script's file that was not read.
-pub(crate) fn file_status(fault: FileFault) -> GridStatus
-    ensures is { result ≡ file_status fault }
-    ensures refusal { IsRefusal result }
-{
-    match fault {
-        FileFault::Absent => GridStatus::Absent(GridRole::Script),
-        FileFault::TooLong => GridStatus::Script(0, ScriptKind::TooLong),
-        FileFault::Read => GridStatus::ReadFault,
-        FileFault::NoMemory => GridStatus::NoMemory,
-    }
-}
-
-// The status of a script that was not read.
-pub(crate) fn script_status(fault: ScriptFault) -> GridStatus
-    ensures is { result ≡ script_status fault }
-    ensures refusal { IsRefusal result }
-{
-    match fault {
-        ScriptFault::At { line, kind } => GridStatus::Script(line, kind),
-        ScriptFault::NoMemory => GridStatus::NoMemory,
-    }
-}
-
-impl From<AllocError> for GridStatus {
-    ghost use Rattle.std.specs.Prelude.{◌≡◌};
-    ghost use Rattle.grid_run.specs.declared.status.GridStatus.TheVariants.{NoMemory};
-
-    ghost from_gives = { λ _ e. e ≡ NoMemory };
-
-    fn from(_: AllocError) -> Self {
-        GridStatus::NoMemory
-    }
-}
-
-// A file prints as its word.
-impl fmt::Display for GridRole {
-    ghost use Rattle.std.specs.Prelude.{Some};
-    ghost use Rattle.grid_run.specs.Status.{role_text};
-
-    ghost output = { λ r. Some (role_text r) };
-
-    fn fmt<W: fmt::Write>(&self, f: &mut fmt::Formatter<W>) -> fmt::Result {
-        match self {
-            GridRole::Market => write!(f, "market"),
-            GridRole::Quotes => write!(f, "quotes"),
-            GridRole::Fixings => write!(f, "fixings"),
-            GridRole::Script => write!(f, "script"),
+    fn words(&self) -> Option<GridWords> {
+        if *self == GridStatus::Of(Status::Done) {
+            return None;
         }
+        Some(GridWords(*self))
     }
 }
 
-// The line on standard error, without its newline: nothing for Done.
-impl fmt::Display for GridStatus {
-    ghost use Rattle.std.specs.Prelude.{Some};
-    ghost use Rattle.grid_run.specs.Status.{status_text};
+/// What the line of a status on standard error says behind the program's name.
+#[derive(Clone, Copy)]
+pub struct GridWords(pub GridStatus);
 
-    ghost output = { λ s. Some (status_text s) };
+impl fmt::Display for GridWords {
+    ghost use Rattle.std.specs.Prelude.{Some};
+    ghost use Rattle.grid_run.specs.Status.{words_of};
+
+    ghost output = { λ words. Some (words_of words.0) };
 
     fn fmt<W: fmt::Write>(&self, f: &mut fmt::Formatter<W>) -> fmt::Result {
-        match self {
-            GridStatus::Done => write!(f, ""),
-            GridStatus::Usage => write!(f, "desk_grid: usage"),
-            GridStatus::Market(section, entry, kind) => {
-                write!(f, "desk_grid: market {section} {entry} {kind}")
-            }
-            GridStatus::Script(line, kind) => write!(f, "desk_grid: script {line} {kind}"),
-            GridStatus::Shape(fault) => write!(f, "desk_grid: shape {fault}"),
-            GridStatus::ReadFault => write!(f, "desk_grid: read fault"),
-            GridStatus::WriteFault => write!(f, "desk_grid: write fault"),
-            GridStatus::NoMemory => write!(f, "desk_grid: no memory"),
-            GridStatus::Absent(role) => write!(f, "desk_grid: no file {role}"),
+        match self.0 {
+            GridStatus::Of(status) => write!(f, "{}", StatusWords(status)),
+            GridStatus::Shape(fault) => write!(f, "shape {fault}"),
         }
     }
 }

@@ -3,66 +3,51 @@ ghost use Rattle.std.specs.Prelude.{◌≡◌, ◌↔◌, ◌+◌, ◌≤◌, ma
 ghost use Rattle.std.specs.String.{string_bytes};
 ghost use Rattle.desk_edge.specs.Count.{Rose};
 ghost use Rattle.desk_edge.specs.Shelf.{files_of};
-ghost use Rattle.market_loader.specs.Reads.{Reads, seen};
-ghost use Rattle.grid_run.specs.declared.status.GridRole.{GridRole};
-ghost use Rattle.grid_run.specs.Found.{request_in, wanted_in, CanRun};
-ghost use Rattle.grid_run.specs.Run.{IsBefore, IsRefusal, Tells, faults_after, grid_end};
-ghost use Rattle.grid_run.specs.Verdict.{verdict_of, wanted_of, wanted_calls, reading_calls};
-ghost use Rattle.grid_run.specs.Words.{request_of};
+ghost use Rattle.desk_plan.specs.declared.status.FileRole.{FileRole};
+ghost use Rattle.desk_plan.specs.declared.status.Status.{Status};
+ghost use Rattle.desk_plan.specs.Found.{CanRun, run_in};
+ghost use Rattle.grid_shape.specs.Laws.{IsTaken};
+ghost use Rattle.tool_run.specs.Run.{Tells, faults_after};
+ghost use Rattle.tool_run.specs.Stage.{IsBefore};
+ghost use Rattle.tool_run.specs.Words.{pair_of};
+ghost use Rattle.grid_run.specs.Status.{stage_of};
+ghost use Rattle.grid_run.specs.Verdict.{verdict_of, reading_calls};
 
 use crate::GridStatus;
-use crate::reading::{open_market, open_script, scripted};
-use crate::words::{Request, request_of};
 use desk_edge::Shelf;
-use desk_names::Names;
-use market_loader::MarketTexts;
-use session_commands::Script;
+use desk_plan::{ScriptRun, Status, open_run};
+use grid_shape::{a_shape_says_what_it_takes, check_shape};
 use std::alloc::Global;
+use tool_run::pair_of;
 
-// A script of scenarios over the market that these texts say. The names are those of the market and of the script.
-#[derive(Drop)]
-pub(crate) struct Wanted {
-    pub(crate) texts: MarketTexts,
-    pub(crate) names: Names,
-    pub(crate) script: Script,
-}
-
-// What the words and the files ask for.
+// What the words and the files ask for: a script of scenarios over a market.
 pub(crate) fn wanted_of<H: Shelf>(
     alloc: Global,
     words: &[String],
     shelf: &mut H,
-) -> Result<Wanted, GridStatus>
-    ensures tells { IfSome (files_of (H.contents shelf.old)) (λ files. Tells wanted_in result (verdict_of files (map string_bytes words.now))) }
-    ensures usage { IsErrOf result GridStatus.Usage ↔ (request_of (map string_bytes words.now) ≡ None) }
+) -> Result<ScriptRun, GridStatus>
+    ensures tells { IfSome (files_of (H.contents shelf.old)) (λ files. Tells stage_of run_in result (verdict_of files (map string_bytes words.now))) }
+    ensures usage { IsErrOf result (GridStatus.Of Status.Usage) ↔ (pair_of (map string_bytes words.now) ≡ None) }
     ensures can { IfOk result CanRun }
-    ensures before { IfErr result IsBefore }
+    ensures taken { IfOk result (λ run. IsTaken run.script) }
+    ensures before { IfErr result (λ status. IsBefore (stage_of status)) }
     ensures files { files_of (H.contents shelf.new) ≡ files_of (H.contents shelf.old) }
     ensures calls { IfSome (files_of (H.contents shelf.old)) (λ files.
         H.calls shelf.new ≤ H.calls shelf.old + reading_calls files (map string_bytes words.now)) }
-    ensures read { IsErrOf result GridStatus.ReadFault → Rose (H.faults shelf.old) (H.faults shelf.new) }
-    ensures counted { H.faults shelf.new ≡ faults_after result (H.faults shelf.old) }
-    ensures absent { (role : GridRole) → IsErrOf result (GridStatus.Absent role) → Rose (H.misses shelf.old) (H.misses shelf.new) }
+    ensures read { IsErrOf result (GridStatus.Of Status.ReadFault) → Rose (H.faults shelf.old) (H.faults shelf.new) }
+    ensures counted { H.faults shelf.new ≡ faults_after stage_of result (H.faults shelf.old) }
+    ensures absent { (role : FileRole) → IsErrOf result (GridStatus.Of (Status.Absent role)) → Rose (H.misses shelf.old) (H.misses shelf.new) }
 {
-    match request_of(words) {
-        Some(request) => wanted_for(alloc, request, shelf),
-        None => Err(GridStatus::Usage),
+    let Some(pair) = pair_of(words) else {
+        return Err(GridStatus::Of(Status::Usage));
+    };
+    let run = match open_run(alloc, shelf, pair.market, pair.other) {
+        Ok(run) => run,
+        Err(status) => return Err(GridStatus::Of(status)),
+    };
+    a_shape_says_what_it_takes();
+    match check_shape(&run.script, &run.market.names) {
+        Some(fault) => Err(GridStatus::Shape(fault)),
+        None => Ok(run),
     }
-}
-
-// What a request asks for, over the files.
-fn wanted_for<H: Shelf>(
-    alloc: Global,
-    request: Request<'_>,
-    shelf: &mut H,
-) -> Result<Wanted, GridStatus>
-    ensures reads { Reads grid_end wanted_in (wanted_of (request_in request.entry)) (wanted_calls (request_in request.entry))
-        (seen (H.contents shelf.old) (H.faults shelf.old) (H.misses shelf.old) (H.calls shelf.old))
-        (seen (H.contents shelf.new) (H.faults shelf.new) (H.misses shelf.new) (H.calls shelf.new)) result }
-    ensures can { IfOk result CanRun }
-    ensures refused { IfErr result IsRefusal }
-{
-    let market = open_market(alloc, request.market, shelf)?;
-    let text = open_script(alloc, request.script, shelf)?;
-    scripted(alloc, market, &text)
 }

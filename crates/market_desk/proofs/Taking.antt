@@ -67,7 +67,7 @@ serves_so : (found : Option Kind) (wanted : Wanted) → serves_as found wanted �
 serves_so None wanted = refl
 serves_so (Some k) wanted = refl
 
-serve : (kinds : List Kind) (market : Market) → AreStanding kinds market.objects → (references : List Reference)
+pub serve : (kinds : List Kind) (market : Market) → AreStanding kinds market.objects → (references : List Reference)
     → AreServed kinds references → Serve market references
 serve kinds market h [] served = tt
 serve kinds market h (r ∷ references) served = (
@@ -76,7 +76,7 @@ serve kinds market h (r ∷ references) served = (
   serve kinds market h references served.1,
 )
 
-standing_length : (kinds : List Kind) (slots : List Slot) → AreStanding kinds slots → length slots ≡ length kinds
+pub standing_length : (kinds : List Kind) (slots : List Slot) → AreStanding kinds slots → length slots ≡ length kinds
 standing_length [] [] h = refl
 standing_length [] (slot ∷ slots) h = absurd h
 standing_length (k ∷ kinds) [] h = absurd h
@@ -100,7 +100,7 @@ module _ (state : State) (items rest : List (ℕ × Terms)) (entry : ℕ × Term
       let same = standing_length h.kinds state.market.objects h.standing in
       let few = h.room in omega (arith)
 
-more_standing : (kinds : List Kind) (slots : List Slot) (terms : Terms) → AreStanding kinds slots
+pub more_standing : (kinds : List Kind) (slots : List Slot) (terms : Terms) → AreStanding kinds slots
     → AreStanding (kinds ++ kind_of terms ∷ []) (slots ++ Live terms ∷ [])
 more_standing [] [] terms h = (refl, tt)
 more_standing [] (slot ∷ slots) terms h = absurd h

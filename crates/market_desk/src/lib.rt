@@ -1,10 +1,13 @@
-//! A desk of a market's objects: those that its files gave, made in their order; and the names that they have.
+//! A desk of a market's objects: those that its files gave, made in their order; the names that they have, and the object
+//! that a name stands for.
 //!
-//! `desk_of`, `names_of`.
+//! `desk_of`, `names_of`, `object_named`, `Unnamed`, `unnamed_line`.
 #![tactic(auto)]
 
 mod making;
+mod named;
 mod naming;
 
 pub use making::desk_of;
+pub use named::{Unnamed, object_named, unnamed_line};
 pub use naming::names_of;

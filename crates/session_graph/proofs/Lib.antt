@@ -1,4 +1,3 @@
-pub mod Appending
 pub mod Below
 pub mod Edged
 pub mod Once

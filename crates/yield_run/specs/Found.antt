@@ -1,10 +1,8 @@
 -- What the reading of words and files gives, as the definitions see it.
-use Rattle.std.specs.Prelude.{◌≡◌, ◌⊎◌, ℕ, Result, Ok, Err}
-use Rattle.yield_run.specs.declared.status.YieldStatus.{YieldStatus}
+use Rattle.tool_run.specs.Market.{market_in}
 use Rattle.yield_run.specs.declared.wanted.Wanted as found
 use Rattle.yield_run.specs.declared.words.Request as asked
-use Rattle.yield_run.specs.Run.{IsOutside, faults_then}
-use Rattle.yield_run.specs.Verdict.{Wanted}
+use Rattle.yield_run.specs.Verdict.{Wanted, wanted}
 use Rattle.yield_run.specs.Words.{Request}
 
 -- words of the code, as the definition sees them
@@ -18,19 +16,4 @@ request_in request = record {
 
 -- what is wanted in the code, as the definition sees it
 abbrev pub wanted_in : found.Wanted → Wanted
-wanted_in wanted = record {
-  market = record { today = wanted.today; made = wanted.made.items; names = wanted.names };
-  name = wanted.name.now;
-  settle = wanted.settle;
-  clean = wanted.clean;
-}
-
--- the answer, seen by view, is this, but for a fault outside or want of memory
-abbrev pub Tells : {X Y : Type 0} → (X → Y) → Result X YieldStatus → Result Y YieldStatus → Type 0
-Tells view (Ok x) told = told ≡ Ok (view x)
-Tells view (Err status) told = IsOutside status ⊎ (told ≡ Err status)
-
--- the count of faults after a step of reading
-abbrev pub faults_after : {X : Type 0} → Result X YieldStatus → ℕ → ℕ
-faults_after (Ok x) faults = faults
-faults_after (Err status) faults = faults_then status faults
+wanted_in found = wanted (request_in found.request) (market_in found.market)

@@ -1,8 +1,9 @@
 -- The words of the command line (this project's profile).
-use Rattle.std.specs.Prelude.{ℕ, ◌^◌, ℤ, unsigned_abs, nat_le, Bool, false, not, ◌&&◌, ◌==◌, if◌then◌else◌, List, [], ◌∷◌, Option, None, Some, Result, Ok, Err}
+use Rattle.std.specs.Prelude.{ℕ, ◌^◌, ℤ, unsigned_abs, nat_le, ◌&&◌, if◌then◌else◌, List, [], ◌∷◌, Option, None, Some, Result, Ok, Err}
 use Rattle.day_number.specs.Text.{day_of_text}
 use Rattle.fixed_amount.specs.Decimal.{decimal_value}
 use Rattle.fixed_amount.specs.declared.decimal.DecimalFault.{DecimalFault}
+use Rattle.tool_run.specs.Words.{is_word}
 
 -- the path of a market, the name of a bond, a settlement day, and a clean price in units of 10^-6
 pub record Request : Type 0 where
@@ -10,15 +11,6 @@ pub record Request : Type 0 where
   pub name : List ℕ
   pub settle : ℤ
   pub clean : ℤ
-
--- the code of `-`
-abbrev dash : ℕ
-dash = 45
-
--- a word that is taken: not empty, and no option
-abbrev pub is_word : List ℕ → Bool
-is_word [] = false
-is_word (byte ∷ word) = not (byte == dash)
 
 -- the greatest price either way: 10^12
 abbrev pub most_price : ℕ

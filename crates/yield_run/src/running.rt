@@ -1,20 +1,22 @@
 // The call of the program.
-ghost use Rattle.std.specs.Prelude.{◌≡◌, ◌⊎◌, ◌↔◌, ◌+◌, ◌≤◌, map, None, IfOk, IfSome, IfErr, IsErrOf};
+ghost use Rattle.std.specs.Prelude.{◌≡◌, ◌⊎◌, ◌↔◌, ◌+◌, ◌≤◌, map, None, IfOk, IfSome};
 ghost use Rattle.std.specs.String.{string_bytes};
 ghost use Rattle.desk_edge.specs.Count.{Rose};
 ghost use Rattle.desk_edge.specs.Shelf.{files_of};
 ghost use Rattle.market_loader.specs.declared.faults.MarketRole.{MarketRole};
+ghost use Rattle.tool_run.specs.Run.{status_of, given_for, IsAccepted};
+ghost use Rattle.tool_run.specs.Stage.{IsOutside, IsEarly, IsQuiet, Writes, faults_then};
+ghost use Rattle.tool_run.specs.Status.{stage_of};
 ghost use Rattle.yield_run.specs.Found.{wanted_in};
 ghost use Rattle.yield_run.specs.Named.{IsTaken};
-ghost use Rattle.yield_run.specs.Run.{IsOutside, IsEarly, IsLate, IsQuiet, Writes, ended, faults_then};
-ghost use Rattle.yield_run.specs.Verdict.{Wanted as Asked, verdict_of, status_of, output_in, output_of, reading_calls, IsAccepted};
+ghost use Rattle.yield_run.specs.Verdict.{Wanted as Asked, verdict_of, output_in, reading_calls};
 ghost use Rattle.yield_run.specs.Words.{request_of};
 
-use crate::YieldStatus;
 use crate::lines::name_lines;
 use crate::wanted::{Wanted, wanted_of};
 use desk_edge::{Shelf, Sink, write_whole};
 use std::alloc::{AllocError, Global};
+use tool_run::MarketStatus;
 
 /// Does what the words ask for over the files of the shelf, writes the lines to `out`, and answers how that went. The
 /// words are those behind the program's name: the path of a market, the name of a bond, a settlement day and a clean
@@ -28,32 +30,32 @@ pub fn run_yield<H: Shelf, K: Sink>(
     words: &[String],
     shelf: &mut H,
     out: &mut K,
-) -> YieldStatus
+) -> MarketStatus
     // The status is that of the words and the files, but for a fault outside or want of memory.
     ensures status { IfSome (files_of (H.contents shelf.old)) (λ files.
-        IsOutside result ⊎ (result ≡ status_of (verdict_of files (map string_bytes words.now)))) }
-    ensures usage { (result ≡ YieldStatus.Usage) ↔ (request_of (map string_bytes words.now) ≡ None) }
+        IsOutside (stage_of result) ⊎ (result ≡ status_of MarketStatus.Done (verdict_of files (map string_bytes words.now)))) }
+    ensures usage { (result ≡ MarketStatus.Usage) ↔ (request_of (map string_bytes words.now) ≡ None) }
 
     // What is accepted is done, where no fault is counted and memory is found.
     ensures complete { IfSome (files_of (H.contents shelf.old)) (λ files.
         IsAccepted (verdict_of files (map string_bytes words.now))
         → IsQuiet (H.faults shelf.old) (H.faults shelf.new) → IsQuiet (K.faults out.old) (K.faults out.new)
-        → (result ≡ YieldStatus.Done) ⊎ (result ≡ YieldStatus.NoMemory)) }
+        → (result ≡ MarketStatus.Done) ⊎ (result ≡ MarketStatus.NoMemory)) }
 
     // At Done the bytes written are the lines; after a fault of writing they are a front of them, and else there are none. `carried` says so of
     // files told or not.
     ensures written { IfSome (files_of (H.contents shelf.old)) (λ files.
-        Writes (K.bytes out.old) (K.bytes out.new) (output_of (verdict_of files (map string_bytes words.now))) result) }
-    ensures nothing { IsEarly result → out.new ≡ out.old }
+        Writes (K.bytes out.old) (K.bytes out.new) (given_for output_in (verdict_of files (map string_bytes words.now))) (stage_of result)) }
+    ensures nothing { IsEarly (stage_of result) → out.new ≡ out.old }
 
-    ensures carried { IsEarly result ⊎ ((asked : Asked) × Writes (K.bytes out.old) (K.bytes out.new) (output_in asked) result) }
+    ensures carried { IsEarly (stage_of result) ⊎ ((asked : Asked) × Writes (K.bytes out.old) (K.bytes out.new) (output_in asked) (stage_of result)) }
 
     // Each fault was counted.
-    ensures read { result ≡ YieldStatus.ReadFault → Rose (H.faults shelf.old) (H.faults shelf.new) }
+    ensures read { result ≡ MarketStatus.ReadFault → Rose (H.faults shelf.old) (H.faults shelf.new) }
     // A call of the shelf that failed is the answer, and was the last: any call may fail, and one more would be counted too.
-    ensures counted { H.faults shelf.new ≡ faults_then result (H.faults shelf.old) }
-    ensures write { result ≡ YieldStatus.WriteFault → Rose (K.faults out.old) (K.faults out.new) }
-    ensures absent { (role : MarketRole) → result ≡ YieldStatus.Absent role → Rose (H.misses shelf.old) (H.misses shelf.new) }
+    ensures counted { H.faults shelf.new ≡ faults_then (stage_of result) (H.faults shelf.old) }
+    ensures write { result ≡ MarketStatus.WriteFault → Rose (K.faults out.old) (K.faults out.new) }
+    ensures absent { (role : MarketRole) → result ≡ MarketStatus.Absent role → Rose (H.misses shelf.old) (H.misses shelf.new) }
     ensures files { files_of (H.contents shelf.new) ≡ files_of (H.contents shelf.old) }
 
     // Each file is read once, in the order above, and none behind the first failure.
@@ -64,37 +66,27 @@ pub fn run_yield<H: Shelf, K: Sink>(
         Ok(wanted) => wanted,
         Err(status) => return status,
     };
-    match carry_out(alloc, wanted, out) {
-        Ok(()) => YieldStatus::Done,
-        Err(status) => status,
-    }
-}
-
-// Writes the lines of what is wanted.
-fn carry_out<K: Sink>(alloc: Global, wanted: Wanted<'_>, out: &mut K) -> Result<(), YieldStatus>
-    requires taken { IsTaken wanted.made.items wanted.clean }
-    ensures written { Writes (K.bytes out.old) (K.bytes out.new) (output_in (wanted_in wanted.entry)) (ended result) }
-    ensures late { IfErr result IsLate }
-    ensures write { IsErrOf result YieldStatus.WriteFault → Rose (K.faults out.old) (K.faults out.new) }
-{
-    let lines = lines_of(alloc, wanted)?;
-    match write_whole(out, &lines) {
-        Ok(()) => Ok(()),
-        Err(_) => Err(YieldStatus::WriteFault),
+    match lines_of(alloc, &wanted) {
+        Ok(lines) => match write_whole(out, &lines) {
+            Ok(()) => MarketStatus::Done,
+            Err(_) => MarketStatus::WriteFault,
+        },
+        Err(_) => MarketStatus::NoMemory,
     }
 }
 
 // The lines of what is wanted.
-fn lines_of(alloc: Global, wanted: Wanted<'_>) -> Result<Vec<u8>, AllocError>
-    requires taken { IsTaken wanted.made.items wanted.clean }
-    ensures { IfOk result (λ lines. lines.items ≡ output_in (wanted_in wanted.entry)) }
+fn lines_of(alloc: Global, wanted: &Wanted<'_>) -> Result<Vec<u8>, AllocError>
+    requires taken { IsTaken wanted.now.market.made.items wanted.now.request.clean }
+    ensures { IfOk result (λ lines. lines.items ≡ output_in (wanted_in wanted.now)) }
 {
+    let Wanted { market, request } = wanted;
     name_lines(
         alloc,
-        &wanted.names,
-        &wanted.made,
-        wanted.name.as_bytes(),
-        wanted.settle,
-        wanted.clean,
+        &market.names,
+        &market.made,
+        request.name.as_bytes(),
+        request.settle,
+        request.clean,
     )
 }

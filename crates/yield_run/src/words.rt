@@ -2,11 +2,12 @@
 ghost use Rattle.std.specs.Prelude.{◌≡◌, ◌∷◌, [], map, option_map, IfSome};
 ghost use Rattle.std.specs.String.{string_bytes};
 ghost use Rattle.jiff_core.specs.Calendar.{IsWithin};
-ghost use Rattle.yield_run.specs.Words.{most_price, is_word, price_of, price_in, request_of};
+ghost use Rattle.yield_run.specs.Words.{most_price, price_of, price_in, request_of};
 ghost use Rattle.yield_run.specs.Found.{request_in};
 
 use day_number::{Day, read_day};
 use fixed_amount::{Amount, read_decimal};
+use tool_run::is_word;
 
 // The greatest price either way, in units of 10^-6: 10^12.
 const MOST_PRICE: u64 = 1_000_000_000_000_000_000;
@@ -49,16 +50,6 @@ fn request_with<'a>(market: &'a str, name: &'a str, day: &str, price: &str) -> O
         settle,
         clean,
     })
-}
-
-// Whether a word is taken: it is not empty and does not begin with `-`.
-fn is_word(word: &str) -> bool
-    ensures { result ≡ is_word word.now }
-{
-    match word.as_bytes() {
-        [] => false,
-        [first, ..] => *first != b'-',
-    }
 }
 
 // The price that a word writes, where it is a decimal of at most six places within the limit.

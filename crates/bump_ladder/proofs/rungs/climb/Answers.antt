@@ -13,7 +13,8 @@ use Rattle.bump_model.specs.Sides.{side_of, quote_rung}
 use Rattle.bump_model.specs.Asking.{MadeFront, rung_asking, quotes_asking, rungs_asking}
 use Rattle.bump_ladder.proofs.Answered.{Did, front_asks}
 use Rattle.bump_ladder.proofs.Siding.{then_ok, then_runs, then_front, first_front}
-use Rattle.bump_ladder.proofs.Climbing.{no_front, all_front, quoted_there, rung_is}
+use Rattle.bump_model.proofs.Calls.{front_none, front_all}
+use Rattle.bump_ladder.proofs.Climbing.{quoted_there, rung_is}
 use Rattle.bump_ladder.proofs.rungs.climb.Goals as goal
 
 pub rung_sides-requires : goal.rung_sides-requires
@@ -73,7 +74,7 @@ returns-clause-sound g c = subst (λ (k : Calc). IsSound k c.rung_sides.new.desk
 pub returns-in_err-quoted-clause-asks : goal.returns-in_err-quoted-clause-asks
 returns-in_err-quoted-clause-asks g c =
     let p = err_from_is_err_and c.from_residual.result c.from_residual.ensures.1 in
-    front_asks (rungs_asking (g.B.Bench.calc c.args.bench.now) c.args.desk.now.market c.args.object c.args.quotes.now c.args.desk.now) c.from_residual.result c.args.desk.now (g.B.Bench.count c.args.bench.now) (g.B.Bench.count c.args.bench.now) (g.B.Bench.log c.args.bench.now) (g.B.Bench.log c.args.bench.now) p.0 p.1 (no_front _ (g.B.Bench.count c.args.bench.now) (g.B.Bench.log c.args.bench.now))
+    front_asks (rungs_asking (g.B.Bench.calc c.args.bench.now) c.args.desk.now.market c.args.object c.args.quotes.now c.args.desk.now) c.from_residual.result c.args.desk.now (g.B.Bench.count c.args.bench.now) (g.B.Bench.count c.args.bench.now) (g.B.Bench.log c.args.bench.now) (g.B.Bench.log c.args.bench.now) p.0 p.1 (front_none _ (g.B.Bench.count c.args.bench.now) (g.B.Bench.log c.args.bench.now))
 
 pub returns-in_err-climbed-clause-asks : goal.returns-in_err-climbed-clause-asks
 returns-in_err-climbed-clause-asks g c =
@@ -104,7 +105,7 @@ pub returns-in_err-push-clause-asks : goal.returns-in_err-push-clause-asks
 returns-in_err-push-clause-asks g c =
     let p = err_from_is_err_and c.from_residual-in_err-push.result c.from_residual-in_err-push.ensures.1 in
     front_asks (rungs_asking (g.B.Bench.calc c.args.bench.now) c.args.desk.now.market c.args.object c.args.quotes.now c.args.desk.now) c.from_residual-in_err-push.result c.rung_sides.new.desk (g.B.Bench.count c.args.bench.now) (g.B.Bench.count c.rung_sides.new.bench) (g.B.Bench.log c.args.bench.now) (g.B.Bench.log c.rung_sides.new.bench) p.0 p.1
-    (all_front (rungs_asking (g.B.Bench.calc c.args.bench.now) c.args.desk.now.market c.args.object c.args.quotes.now c.args.desk.now).calls (g.B.Bench.count c.args.bench.now) (g.B.Bench.count c.rung_sides.new.bench) (g.B.Bench.log c.args.bench.now) (g.B.Bench.log c.rung_sides.new.bench)
+    (front_all (rungs_asking (g.B.Bench.calc c.args.bench.now) c.args.desk.now.market c.args.object c.args.quotes.now c.args.desk.now).calls (g.B.Bench.count c.args.bench.now) (g.B.Bench.count c.rung_sides.new.bench) (g.B.Bench.log c.args.bench.now) (g.B.Bench.log c.rung_sides.new.bench)
     (then_ok (quotes_asking (g.B.Bench.calc c.args.bench.now) c.args.desk.now.market c.args.object c.args.quotes.now c.args.desk.now) (rung_asking (g.B.Bench.calc c.args.bench.now) c.args.object (quoted_in c.args.desk.now.market c.args.quotes.now)) c.quote_rungs.new.desk c.rung_sides.new.desk (g.B.Bench.count c.args.bench.now) (g.B.Bench.count c.quote_rungs.new.bench) (g.B.Bench.count c.rung_sides.new.bench) (g.B.Bench.log c.args.bench.now) (g.B.Bench.log c.quote_rungs.new.bench) (g.B.Bench.log c.rung_sides.new.bench)
     c.in_ok-climbed.ensures.asks
     (subst (λ (k : Calc). Did (rung_asking k c.args.object (quoted_in c.args.desk.now.market c.args.quotes.now) c.quote_rungs.new.desk) c.rung_sides.new.desk (g.B.Bench.count c.quote_rungs.new.bench) (g.B.Bench.count c.rung_sides.new.bench)

@@ -1,8 +1,10 @@
 use Rattle.std.proofs.Common.{◌≡◌, ◌++◌, ℕ, List, sym, subst}
 use Rattle.std.specs.Prelude.{OnOk}
 use Rattle.desk_terms.specs.Reading.{Outcome}
-use Rattle.bump_run.specs.Lines.{standing, Calls}
-use Rattle.bump_run.proofs.Calling.{text_named, text_unnamed, calls_named, calls_unnamed, calls_none}
+use Rattle.bump_model.specs.Asking.{Calls}
+use Rattle.bump_model.proofs.Calls.{calls_none}
+use Rattle.market_desk.specs.Standing.{standing}
+use Rattle.bump_run.proofs.Calling.{text_named, text_unnamed, calls_named, calls_unnamed}
 use Rattle.bump_run.proofs.lines.bump_lines.Goals as goal
 
 pub returns-in-Ok-clause-lines : goal.returns-in-Ok-clause-lines
@@ -23,9 +25,9 @@ returns-in-Ok-clause-calls g c =
 pub returns-in-Err-clause-lines : goal.returns-in-Err-clause-lines
 returns-in-Err-clause-lines g c =
     let p = standing c.args.namer.now.names.now c.args.namer.now.of_object.now c.args.desk.now in
-    subst (λ (text : List ℕ). OnOk c.unnamed_line.result (c.unnamed_line.new.out.items ≡ c.args.lines.now.items ++ text))
+    subst (λ (text : List ℕ). OnOk c.unnamed_line.result (c.unnamed_line.new.lines.items ≡ c.args.lines.now.items ++ text))
     (sym (text_unnamed (g.B.Bench.calc c.args.bench.now) p c.args.name.now c.in-Err.why c.in-Err.ensures))
-    c.unnamed_line.ensures.ok
+    c.unnamed_line.ensures
 
 pub returns-in-Err-clause-calls : goal.returns-in-Err-clause-calls
 returns-in-Err-clause-calls g c =

@@ -1,6 +1,7 @@
 use Rattle.std.proofs.Common.{◌<◌, ◌^◌, ℕ, List, length, sym, ◌∙◌, subst}
 use Rattle.bump_model.specs.Moves.{AreQuotes}
-use Rattle.bump_run.proofs.Calling.{calls_any, made_over}
+use Rattle.bump_model.proofs.Calls.{calls_any}
+use Rattle.bump_run.proofs.Calling.{made_over}
 use Rattle.bump_run.proofs.lines.instrument_lines.Goals as goal
 
 pub ladder-requires-clause-quotes : goal.ladder-requires-clause-quotes

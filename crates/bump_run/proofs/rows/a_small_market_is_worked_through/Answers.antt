@@ -12,7 +12,8 @@ use Rattle.desk_model.specs.Effect.{made, notified, revised, quote_set}
 use Rattle.market_desk.specs.Making.{with_made}
 use Rattle.bump_model.specs.Moves.{with_values, all_set}
 use Rattle.bump_model.specs.Asking.{rung_asking, quotes_asking, ladder_asking}
-use Rattle.bump_report.specs.Lines.{rung_line, rung_lines, runs_line, ladder_lines, refused_lines, unnamed_line}
+use Rattle.market_desk.specs.Standing.{unnamed_line}
+use Rattle.bump_report.specs.Lines.{rung_line, rung_lines, runs_line, ladder_lines, refused_lines}
 use Rattle.bump_run.specs.Lines.{bump_text, bump_calls}
 use Rattle.bump_run.specs.Named.{quotes_below}
 use Rattle.bump_run.proofs.rows.a_small_market_is_worked_through.Goals as goal

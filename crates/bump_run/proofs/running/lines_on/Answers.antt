@@ -1,5 +1,5 @@
 use Rattle.std.proofs.lemmas.Result.{err_from_is_err_and}
-use Rattle.bump_run.proofs.Calling.{calls_front}
+use Rattle.bump_model.proofs.Calls.{calls_front}
 use Rattle.bump_run.proofs.running.lines_on.Goals as goal
 
 pub returns-in_err-bump_lines-clause-calls : goal.returns-in_err-bump_lines-clause-calls

@@ -1,17 +1,37 @@
-use Rattle.std.proofs.Common.{inr}
-use Rattle.bump_run.specs.Found.{wanted_in}
-use Rattle.bump_run.proofs.Calling.{early_or_none}
+use Rattle.std.proofs.Common.{inr, refl, [], pos}
+use Rattle.bump_model.specs.Asking.{Made, MadeFront}
+use Rattle.bump_model.proofs.Calls.{front_none}
+use Rattle.tool_run.specs.Status.{stage_of}
+use Rattle.tool_run.proofs.Early.{early_or_none}
+use Rattle.bump_run.specs.Verdict.{Wanted, wanted_in, output_in, computed_in}
 use Rattle.bump_run.proofs.running.run_bump.Goals as goal
+
+-- some wanted thing: memory ran out before anything was known of it
+any_wanted : Wanted
+any_wanted = record { market = record { today = pos 0; made = []; names = [] }; name = [] }
 
 pub returns-in-Err-clause-carried : goal.returns-in-Err-clause-carried
 returns-in-Err-clause-carried g c =
-    early_or_none c.in-Err.status (g.B.Bench.calc c.args.bench.now) (g.K.Sink.bytes c.args.out.now)
-    (g.B.Bench.count c.args.bench.now) (g.B.Bench.log c.args.bench.now) c.in-Err.ensures.before
+    let calc = g.B.Bench.calc c.args.bench.now in
+    early_or_none (output_in calc) any_wanted (g.K.Sink.bytes c.args.out.now) Made MadeFront (computed_in calc)
+    (g.B.Bench.count c.args.bench.now) (g.B.Bench.log c.args.bench.now) (front_none _ _ _) (stage_of c.in-Err.status)
+    c.in-Err.ensures.before
 
-pub returns-in-Ok-carry_out-clause-carried : goal.returns-in-Ok-carry_out-clause-carried
-returns-in-Ok-carry_out-clause-carried g c =
-    inr (wanted_in c.in-Ok.wanted, c.in-Ok-carry_out.ensures.written, c.in-Ok-carry_out.ensures.computed)
+pub returns-in-Ok-write_whole-clause-carried : goal.returns-in-Ok-write_whole-clause-carried
+returns-in-Ok-write_whole-clause-carried g c =
+    inr (
+      wanted_in c.in-Ok.wanted,
+      rw (c.deref.ensures.value, c.in-Ok-lines_of.ensures.lines) at c.in-Ok-write_whole.ensures.written,
+      c.in-Ok-lines_of.ensures.calls,
+    )
 
-pub returns-in-Err-carry_out-clause-carried : goal.returns-in-Err-carry_out-clause-carried
-returns-in-Err-carry_out-clause-carried g c =
-    inr (wanted_in c.in-Ok.wanted, c.in-Err-carry_out.ensures.written, c.in-Err-carry_out.ensures.computed)
+pub returns-in-Ok-lines_of-clause-carried : goal.returns-in-Ok-lines_of-clause-carried
+returns-in-Ok-lines_of-clause-carried g c =
+    inr (
+      wanted_in c.in-Ok.wanted,
+      rw (c.deref.ensures.value, c.in-Ok-lines_of.ensures.lines) at c.in-Err-write_whole.ensures.front,
+      c.in-Ok-lines_of.ensures.calls,
+    )
+
+pub returns-clause-carried : goal.returns-clause-carried
+returns-clause-carried g c = inr (wanted_in c.in-Ok.wanted, refl, c.in-Err-lines_of.ensures.calls)

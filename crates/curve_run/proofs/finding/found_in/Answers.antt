@@ -2,19 +2,21 @@ use Rattle.std.proofs.Common.{◌≡◌, ℕ, List, [], ◌∷◌, ◌++◌, Str
 use Rattle.std.specs.Prelude.{map}
 use Rattle.std.specs.String.{string_bytes}
 use Rattle.desk_model.specs.Market.{Market}
-use Rattle.curve_run.specs.Named.{curve_named, object_in, line_in, objects_named, lines_named}
-use Rattle.curve_run.proofs.Appending.{parts_more, parts_end}
+use Rattle.desk_terms.specs.declared.kind.Wanted.TheVariants.{CurveTarget}
+use Rattle.market_desk.specs.Standing.{object_named}
+use Rattle.curve_run.specs.Named.{object_in, line_in, objects_named, lines_named}
+use Rattle.curve_picture.proofs.Appending.{parts_more, parts_end}
 use Rattle.curve_run.proofs.finding.found_in.Goals as goal
 
 module _ (market : Market) (names : List (List ℕ)) where
   abbrev object_of : String Global → List ℕ
-  object_of text = object_in (curve_named market names (string_bytes text))
+  object_of text = object_in (object_named CurveTarget market names (string_bytes text))
 
   abbrev objects_of : List (String Global) → List ℕ
   objects_of texts = objects_named market names (map string_bytes texts)
 
   abbrev line_of : String Global → List ℕ
-  line_of text = line_in (string_bytes text) (curve_named market names (string_bytes text))
+  line_of text = line_in (string_bytes text) (object_named CurveTarget market names (string_bytes text))
 
   abbrev lines_of : List (String Global) → List ℕ
   lines_of texts = lines_named market names (map string_bytes texts)
@@ -51,11 +53,11 @@ loop-text-preserved c =
     record {
       curves = parts_more (object_of market names) (objects_of market names) (objects_first market names) c.args.texts.now c.loop-text.text-index c.text-item.result _ _ _
           c.loop-text-test.true c.text-item.is
-          (c.in_ok-find.ensures.curve ∙ ap (λ (b : List ℕ). c.loop-text.found.curves.items ++ object_in (curve_named market names b)) c.as_bytes.ensures.value)
+          (c.in_ok-find.ensures.curve ∙ ap (λ (b : List ℕ). c.loop-text.found.curves.items ++ object_in (object_named CurveTarget market names b)) c.as_bytes.ensures.value)
           c.loop-text.invariant.curves;
       lines = parts_more (line_of market names) (lines_of market names) (lines_first market names) c.args.texts.now c.loop-text.text-index c.text-item.result _ _ _
           c.loop-text-test.true c.text-item.is
-          (c.in_ok-find.ensures.line ∙ ap (λ (b : List ℕ). c.loop-text.found.lines.items ++ line_in b (curve_named market names b)) c.as_bytes.ensures.value)
+          (c.in_ok-find.ensures.line ∙ ap (λ (b : List ℕ). c.loop-text.found.lines.items ++ line_in b (object_named CurveTarget market names b)) c.as_bytes.ensures.value)
           c.loop-text.invariant.lines;
     }
 

@@ -4,10 +4,12 @@ use Rattle.std.specs.declared.alloc.AllocError.{AllocError}
 use Rattle.std.specs.String.{string_bytes}
 use Rattle.std.proofs.lemmas.Result.{err_from_is_err_and}
 use Rattle.desk_terms.specs.Reading.{Outcome}
-use Rattle.curve_run.specs.Lines.{standing, curve_calls}
+use Rattle.bump_model.specs.Asking.{Calls}
+use Rattle.bump_model.proofs.Calls.{calls_none}
+use Rattle.market_desk.specs.Standing.{standing}
+use Rattle.curve_run.specs.Lines.{curve_calls}
 use Rattle.curve_run.specs.Named.{AreCurves}
-use Rattle.curve_run.specs.Pricing.{Calls}
-use Rattle.curve_run.proofs.Calling.{text_found, text_lines, calls_found, calls_lines, calls_none, calls_begun, found_named}
+use Rattle.curve_run.proofs.Calling.{text_found, text_lines, calls_found, calls_lines, calls_begun, found_named}
 use Rattle.curve_run.proofs.lines.curve_lines.Goals as goal
 
 pub priced_lines-requires-clause-curves : goal.priced_lines-requires-clause-curves

@@ -13,7 +13,8 @@ use Rattle.market_desk.specs.Making.{with_made}
 use Rattle.curve_picture.specs.Points.{point_text}
 use Rattle.curve_picture.specs.Table.{row_text, rows_text, curves_rows, table_text}
 use Rattle.curve_run.specs.Lines.{curve_text, curve_calls}
-use Rattle.curve_run.specs.Named.{curve_below, unnamed_line, objects_named, lines_named, named_of}
+use Rattle.market_desk.specs.Standing.{unnamed_line}
+use Rattle.curve_run.specs.Named.{curve_below, objects_named, lines_named, named_of}
 use Rattle.curve_run.specs.Pricing.{refused_line, curves_of, refused_lines, curves_asking}
 use Rattle.curve_run.proofs.rows.a_small_market_is_worked_through.Goals as goal
 

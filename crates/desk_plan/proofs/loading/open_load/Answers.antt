@@ -2,7 +2,8 @@ use Rattle.std.proofs.Common.{[]}
 use Rattle.std.proofs.lemmas.Result.{err_from_is_err_and}
 use Rattle.load_maker.specs.Texts.{market_text, quotes_text, script_text}
 use Rattle.market_file.specs.Market.{read_market}
-use Rattle.desk_plan.specs.Found.{market_in, run_in}
+use Rattle.tool_run.specs.Market.{market_in}
+use Rattle.desk_plan.specs.Found.{run_in}
 use Rattle.desk_plan.specs.Reading.{or_market}
 use Rattle.desk_plan.specs.Verdict.{scripted}
 use Rattle.desk_plan.proofs.Steps.{says_on, says_fails}

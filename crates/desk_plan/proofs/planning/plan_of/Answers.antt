@@ -2,17 +2,17 @@ use Rattle.std.specs.Prelude.{map}
 use Rattle.std.specs.String.{string_bytes}
 use Rattle.desk_edge.specs.Shelf.{files_of}
 use Rattle.desk_words.specs.Answers.{request_in}
-use Rattle.desk_plan.proofs.Told.{asked_some, asked_none, asked_check, told_request, told_usage, told_calls, told_uncalled}
+use Rattle.desk_plan.proofs.Told.{asked_some, asked_none, asked_check, told_plan, told_refused, told_reading, told_idle}
 use Rattle.desk_plan.proofs.planning.plan_of.Goals as goal
 
 pub returns-in-Ok-clause-plans : goal.returns-in-Ok-clause-plans
 returns-in-Ok-clause-plans g c =
-    told_request (files_of (g.H.Shelf.contents c.args.shelf.now)) (map string_bytes c.args.words.now)
+    told_plan (files_of (g.H.Shelf.contents c.args.shelf.now)) (map string_bytes c.args.words.now)
     (request_in c.in-Ok.request) c.plan_for.result (asked_some c.in-Ok.request _ c.in-Ok.ensures.answers) c.plan_for.ensures.reads.tells
 
 pub returns-in-Err-Usage-clause-plans : goal.returns-in-Err-Usage-clause-plans
 returns-in-Err-Usage-clause-plans g c =
-    told_usage (files_of (g.H.Shelf.contents c.args.shelf.now)) (map string_bytes c.args.words.now)
+    told_refused (files_of (g.H.Shelf.contents c.args.shelf.now)) (map string_bytes c.args.words.now)
     (asked_none _ (rw c.in-Err-Usage.field-0-is at c.in-Err-Usage.ensures.answers))
 
 pub returns-in-Ok-clause-checked : goal.returns-in-Ok-clause-checked
@@ -21,16 +21,16 @@ returns-in-Ok-clause-checked g c =
 
 pub returns-in-Ok-clause-calls : goal.returns-in-Ok-clause-calls
 returns-in-Ok-clause-calls g c =
-    told_calls (files_of (g.H.Shelf.contents c.args.shelf.now)) (map string_bytes c.args.words.now)
+    told_reading (files_of (g.H.Shelf.contents c.args.shelf.now)) (map string_bytes c.args.words.now)
     (request_in c.in-Ok.request) (g.H.Shelf.calls c.args.shelf.now) (g.H.Shelf.calls c.plan_for.new.shelf)
     (asked_some c.in-Ok.request _ c.in-Ok.ensures.answers) c.plan_for.ensures.reads.calls
 
 pub returns-in-Err-Usage-clause-calls : goal.returns-in-Err-Usage-clause-calls
 returns-in-Err-Usage-clause-calls g c =
-    told_uncalled (files_of (g.H.Shelf.contents c.args.shelf.now)) (map string_bytes c.args.words.now)
+    told_idle (files_of (g.H.Shelf.contents c.args.shelf.now)) (map string_bytes c.args.words.now)
     (g.H.Shelf.calls c.args.shelf.now)
 
 pub returns-in-Err-NoMemory-clause-calls : goal.returns-in-Err-NoMemory-clause-calls
 returns-in-Err-NoMemory-clause-calls g c =
-    told_uncalled (files_of (g.H.Shelf.contents c.args.shelf.now)) (map string_bytes c.args.words.now)
+    told_idle (files_of (g.H.Shelf.contents c.args.shelf.now)) (map string_bytes c.args.words.now)
     (g.H.Shelf.calls c.args.shelf.now)

@@ -1,11 +1,10 @@
-use Rattle.std.proofs.Common.{refl}
-use Rattle.desk_plan.proofs.Steps.{market_found, market_lost}
+use Rattle.std.proofs.Common.{Ok, Err}
+use Rattle.desk_plan.proofs.Steps.{market_read}
 use Rattle.desk_plan.proofs.reading.open_market.Goals as goal
 
 pub returns-in-Ok-clause-reads : goal.returns-in-Ok-clause-reads
-returns-in-Ok-clause-reads g c =
-    market_found c.load_market.new.names c.args.path.now _ _ c.in-Ok.market _ refl c.in-Ok.ensures.reads
+returns-in-Ok-clause-reads g c = market_read c.args.path.now _ _ (Ok c.in-Ok.market) c.in-Ok.ensures.reads
 
 pub returns-in-Err-clause-reads : goal.returns-in-Err-clause-reads
 returns-in-Err-clause-reads g c =
-    rw c.load_status.ensures (market_lost c.load_market.new.names c.args.path.now _ _ c.in-Err.fault c.in-Err.ensures.reads)
+    rw c.from.ensures (market_read c.args.path.now _ _ (Err c.in-Err.status) c.in-Err.ensures.reads)

@@ -1,4 +1,4 @@
-use Rattle.desk_plan.specs.Found.{market_in}
+use Rattle.tool_run.specs.Market.{market_in}
 use Rattle.desk_plan.proofs.Steps.{script_found, script_lost}
 use Rattle.desk_plan.proofs.reading.open_script.Goals as goal
 

@@ -5,10 +5,12 @@ use Rattle.grid_run.proofs.rows.statuses_are_worked_through.Goals as goal
 pub returns : goal.returns
 unfolding digits
 returns c = record {
-  done = refl;
-  shape = refl;
-  shape_code = refl;
-  script = refl;
-  absent = refl;
-  usage = refl;
+  done = (refl, refl);
+  usage = (refl, refl);
+  script = (refl, refl);
+  read_fault = (refl, refl);
+  write_fault = (refl, refl);
+  no_memory = (refl, refl);
+  absent = (refl, refl);
+  shape = (refl, refl);
 }

@@ -1,7 +1,7 @@
 use Rattle.std.proofs.Common.{ℕ, false, List, [], ◌∷◌, refl}
 use Rattle.graph_dot.specs.declared.node.GraphEdge.{GraphEdge}
 use Rattle.session_graph.specs.Edges.{edge, observed}
-use Rattle.session_graph.proofs.Appending.{parts_more, parts_end}
+use Rattle.graph_dot.proofs.Appending.{parts_more, parts_end}
 use Rattle.session_graph.proofs.edges.push_each.Goals as goal
 
 -- the edge to one

@@ -1,5 +1,5 @@
 use Rattle.std.proofs.Common.{◌≡◌, ℕ, List, IfOk, subst}
-use Rattle.yield_run.proofs.Asking.{above_text}
+use Rattle.yield_run.proofs.Faults.{above_text}
 use Rattle.yield_run.proofs.lines.fault_lines.Goals as goal
 
 pub returns-in-Above : goal.returns-in-Above

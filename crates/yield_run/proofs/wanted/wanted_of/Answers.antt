@@ -1,13 +1,46 @@
-use Rattle.std.proofs.Common.{map}
+use Rattle.std.proofs.Common.{refl, sym}
+use Rattle.std.specs.Prelude.{map}
 use Rattle.std.specs.String.{string_bytes}
-use Rattle.yield_run.proofs.Asking.{tells_taken, calls_taken, tells_refused}
+use Rattle.desk_edge.specs.Shelf.{files_of}
+use Rattle.market_loader.specs.Market.{market_calls}
+use Rattle.tool_run.proofs.Asking.{told_calls}
+use Rattle.tool_run.proofs.Wanted.{wanted_none, wanted_found, wanted_lost}
+use Rattle.yield_run.specs.Found.{request_in, wanted_in}
+use Rattle.yield_run.specs.Verdict.{wanted, verdict_of, reading_calls}
+use Rattle.yield_run.specs.Words.{Request, request_of}
 use Rattle.yield_run.proofs.wanted.wanted_of.Goals as goal
 
-pub returns-in-Some-clause-tells : goal.returns-in-Some-clause-tells
-returns-in-Some-clause-tells g c = tells_taken _ (map string_bytes c.args.words.now) c.request_of.result c.in-Some.request _ c.request_of.ensures.request c.in-Some.is c.wanted_for.ensures.tells
+pub returns-in_default-clause-tells : goal.returns-in_default-clause-tells
+unfolding verdict_of
+returns-in_default-clause-tells g c =
+    wanted_none (λ (request : Request). request.market) wanted wanted_in (files_of (g.H.Shelf.contents c.args.shelf.now))
+    (request_of (map string_bytes c.args.words.now)) (sym c.in_default.ensures.request)
 
-pub returns-in-Some-clause-calls : goal.returns-in-Some-clause-calls
-returns-in-Some-clause-calls g c = calls_taken _ (map string_bytes c.args.words.now) c.request_of.result c.in-Some.request _ _ c.request_of.ensures.request c.in-Some.is c.wanted_for.ensures.calls
+pub returns-in-Ok-clause-tells : goal.returns-in-Ok-clause-tells
+unfolding verdict_of
+returns-in-Ok-clause-tells g c =
+    wanted_found (λ (request : Request). request.market) wanted wanted_in (files_of (g.H.Shelf.contents c.args.shelf.now))
+    (request_of (map string_bytes c.args.words.now))
+    (request_in c.in-Some.request) (sym c.in-Some.ensures.request) c.in-Ok.market (record { market = c.in-Ok.market; request = c.in-Some.request })
+    refl c.in-Ok.ensures.reads.tells
 
-pub returns-in-None-clause-tells : goal.returns-in-None-clause-tells
-returns-in-None-clause-tells g c = tells_refused _ (map string_bytes c.args.words.now) c.request_of.result c.request_of.ensures.request c.in-None.is
+pub returns-in-Err-clause-tells : goal.returns-in-Err-clause-tells
+unfolding verdict_of
+returns-in-Err-clause-tells g c =
+    wanted_lost (λ (request : Request). request.market) wanted wanted_in (files_of (g.H.Shelf.contents c.args.shelf.now))
+    (request_of (map string_bytes c.args.words.now))
+    (request_in c.in-Some.request) (sym c.in-Some.ensures.request) c.in-Err.status c.in-Err.ensures.reads.tells
+
+pub returns-in-Ok-clause-calls : goal.returns-in-Ok-clause-calls
+unfolding reading_calls
+returns-in-Ok-clause-calls g c =
+    told_calls (λ (request : Request). market_calls request.market) (files_of (g.H.Shelf.contents c.args.shelf.now))
+    (request_of (map string_bytes c.args.words.now)) (request_in c.in-Some.request) _ _
+    (sym c.in-Some.ensures.request) c.in-Ok.ensures.reads.calls
+
+pub returns-in-Err-clause-calls : goal.returns-in-Err-clause-calls
+unfolding reading_calls
+returns-in-Err-clause-calls g c =
+    told_calls (λ (request : Request). market_calls request.market) (files_of (g.H.Shelf.contents c.args.shelf.now))
+    (request_of (map string_bytes c.args.words.now)) (request_in c.in-Some.request) _ _
+    (sym c.in-Some.ensures.request) c.in-Err.ensures.reads.calls

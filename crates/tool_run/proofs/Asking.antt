@@ -1,0 +1,30 @@
+-- What is wanted, by words.
+use Rattle.std.proofs.Common.{◌≡◌, inl, inr, ℕ, ◌+◌, ◌≤◌, List, Option, Some, None, Result, Ok, Err, refl, sym, ◌∙◌, ap, subst, arith}
+use Rattle.std.specs.Prelude.{IfSome, option_map}
+use Rattle.market_loader.specs.Files.{Files}
+use Rattle.tool_run.specs.Run.{asked, calls_for, Tells}
+use Rattle.tool_run.specs.Stage.{Stage}
+
+module _ {Request Found Wanted Status : Type 0} (stage : Status → Stage) (view : Found → Wanted) (usage : Status) (wanted_of : Request → Files → Result Wanted Status) where
+  -- the words are this request
+  pub told_request : (told : Option Files) (words : Option Request) (request : Request) (result : Result Found Status)
+      → words ≡ Some request → IfSome told (λ files. Tells stage view result (wanted_of request files))
+      → IfSome told (λ files. Tells stage view result (asked usage wanted_of words files))
+  told_request told words request result is t = rw is t
+
+  -- or none
+  pub told_usage : (told : Option Files) (words : Option Request) → words ≡ None
+      → IfSome told (λ files. Tells stage view (Err usage) (asked usage wanted_of words files))
+  told_usage None words none = tt
+  told_usage (Some files) words none = rw none (inr refl)
+
+module _ {Request : Type 0} (most : Request → Files → ℕ) where
+  pub told_calls : (told : Option Files) (words : Option Request) (request : Request) (old new : ℕ) → words ≡ Some request
+      → IfSome told (λ files. new ≤ old + most request files) → IfSome told (λ files. new ≤ old + calls_for most words files)
+  told_calls told words request old new is few = rw is few
+
+  -- where nothing was called
+  pub told_uncalled : (told : Option Files) (words : Option Request) (calls : ℕ)
+      → IfSome told (λ files. calls ≤ calls + calls_for most words files)
+  told_uncalled None words calls = tt
+  told_uncalled (Some files) words calls = omega arith

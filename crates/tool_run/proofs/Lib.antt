@@ -1,0 +1,4 @@
+pub mod Asking
+pub mod Early
+pub mod Opening
+pub mod Wanted

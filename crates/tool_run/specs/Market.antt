@@ -1,0 +1,38 @@
+-- The market of a tool.
+use Rattle.std.specs.Prelude.{ℕ, List, Result, Ok}
+use Rattle.market_file.specs.Market.{Market}
+use Rattle.market_tables.specs.Given.{◌>>=◌}
+use Rattle.market_loader.specs.Ends.{End, with_fault}
+use Rattle.market_loader.specs.Files.{Files}
+use Rattle.market_loader.specs.Market.{market_of}
+use Rattle.tool_run.specs.declared.market.OpenMarket.{OpenMarket}
+use Rattle.tool_run.specs.declared.status.MarketStatus.{MarketStatus}
+use Rattle.tool_run.specs.declared.status.MarketStatus.TheVariants as status
+use Rattle.tool_run.specs.Stage.{stage_end}
+use Rattle.tool_run.specs.Status.{load_status, stage_of}
+
+-- a market of the code, as the definition sees it
+abbrev pub market_in : OpenMarket → Market
+market_in market = record { today = market.today; made = market.made.items; names = market.names }
+
+-- the market at a path, or why it was not read
+abbrev pub market_at : List ℕ → Files → Result Market MarketStatus
+market_at path files = with_fault load_status (market_of path files)
+
+-- what a request asks for of a tool that reads a market: of the market at its path
+abbrev pub wanted_from : {Request Wanted : Type 0} → (Request → List ℕ) → (Request → Market → Wanted) → Request → Files → Result Wanted MarketStatus
+wanted_from path wanted request files = market_at (path request) files >>= (λ market. Ok (wanted request market))
+
+-- how a reading ended that has this status
+abbrev pub status_end : MarketStatus → End
+status_end status = stage_end (stage_of status)
+
+-- a status that the reading of files may end with
+abbrev pub IsRefusal : MarketStatus → Type 0
+IsRefusal (status.Market section entry why) = Unit {0}
+IsRefusal (status.Absent role) = Unit {0}
+IsRefusal status.ReadFault = Unit {0}
+IsRefusal status.NoMemory = Unit {0}
+IsRefusal status.Usage = ⊥
+IsRefusal status.Done = ⊥
+IsRefusal status.WriteFault = ⊥

@@ -13,10 +13,12 @@ use Rattle.watch_rounds.specs.declared.picker.Order.TheVariants.{First}
 use Rattle.desk_plan.specs.declared.plan.Plan as planned
 use Rattle.desk_plan.specs.declared.status.Status.{Status}
 use Rattle.desk_plan.specs.declared.status.Status.TheVariants as status
-use Rattle.desk_plan.specs.Found.{CanDo, IsBefore, plan_in, run_in}
+use Rattle.desk_plan.specs.Found.{CanDo, plan_in, run_in}
+use Rattle.desk_plan.specs.Status.{stage_of}
 use Rattle.desk_plan.specs.Verdict.{ScriptRun, verdict_of}
 use Rattle.session_play.specs.Output.{ordered, output_in}
 use Rattle.session_play.specs.Written.{IsLate}
+use Rattle.tool_run.specs.Stage.{IsBefore}
 use Rattle.desk_top.specs.Headline.{Headline, IsHeadline}
 
 shows : (calc : Calc) (order : Order) (run : ScriptRun) (bytes : List ℕ) (old new : Option (List ℕ)) → IsScript run.names run.script
@@ -42,9 +44,9 @@ told_headline told words calc plan old new s can is written = told_map told
     (λ files e done. subst (λ v. IsHeadline calc v old new) (sym e) (headline_in calc plan old new can (written done))) is
 
 -- what ends before a plan is there is not Done
-pub no_headline : (told : Option Files) (words : List (List ℕ)) (calc : Calc) (old new : Option (List ℕ)) (s : Status) → IsBefore s
+pub no_headline : (told : Option Files) (words : List (List ℕ)) (calc : Calc) (old new : Option (List ℕ)) (s : Status) → IsBefore (stage_of s)
     → IfSome told (λ files. s ≡ status.Done → IsHeadline calc (verdict_of files words) old new)
-no_headline told words calc old new s before = told_any told (λ files. λ done. absurd (subst IsBefore done before))
+no_headline told words calc old new s before = told_any told (λ files. λ done. absurd (subst (λ t. IsBefore (stage_of t)) done before))
 
 pub late_headline : (s : Status) (old new : Option (List ℕ)) (bytes : List ℕ) → IsLate s → s ≡ status.Done → new ≡ appended bytes old
 late_headline s old new bytes late done = absurd (subst IsLate done late)

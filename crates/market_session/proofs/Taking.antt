@@ -1,7 +1,7 @@
 -- What a session holds while the objects of a market are made in it: each next one finds its name free, room, and
 -- inputs of the kinds that it wants.
-use Rattle.std.proofs.Common.{◌≡◌, ℕ, zero, suc, ◌+◌, ◌<◌, ◌≤◌, Bool, true, false, ◌&&◌, ◌||◌, ◌==◌, nat_le, if◌then◌else◌, List, [], ◌∷◌, ◌++◌, length, Option, Some, None, Result, Ok, Err, ℤ, slice_get, refl, sym, ◌∙◌, ap, subst, arith, All}
-use Rattle.std.specs.Prelude.{slice_index_or, codes, is_some}
+use Rattle.std.proofs.Common.{◌≡◌, ℕ, suc, ◌+◌, ◌<◌, ◌≤◌, Bool, true, false, ◌&&◌, ◌||◌, ◌==◌, nat_le, if◌then◌else◌, List, [], ◌∷◌, ◌++◌, length, Option, Some, None, Result, Ok, Err, ℤ, slice_get, refl, sym, ◌∙◌, ap, subst, arith, All}
+use Rattle.std.specs.Prelude.{codes, is_some}
 use Rattle.std.proofs.lemmas.Bool.Decides.{nat_tests}
 use Rattle.std.proofs.lemmas.List.{length-append}
 use Rattle.std.proofs.lemmas.List.Elements.{All-nil, All-cons, All-head, All-tail, All-push, All-weaker}
@@ -9,15 +9,12 @@ use Rattle.std.proofs.lemmas.Slice.Eq.{bytes_eq-Decides}
 use Rattle.desk_names.specs.Names.{place_of}
 use Rattle.desk_terms.specs.declared.kind.Kind.{Kind}
 use Rattle.desk_terms.specs.declared.kind.Kind.TheVariants as kind
-use Rattle.desk_terms.specs.declared.kind.Wanted.{Wanted}
-use Rattle.desk_terms.specs.declared.reference.Reference.{Reference}
 use Rattle.desk_terms.specs.declared.terms.Terms.{Terms}
 use Rattle.desk_terms.specs.Terms.{kind_of, inputs_of}
 use Rattle.desk_terms.specs.Reading.{AreInRange}
 use Rattle.desk_model.specs.declared.slot.Slot.{Slot}
-use Rattle.desk_model.specs.declared.slot.Slot.TheVariants.{Free, Live}
-use Rattle.desk_model.specs.Market.{Market, slot_at, kind_in, is_given, count_live, live_count}
-use Rattle.desk_model.specs.Links.{serves_as, Serve, AreOfKind}
+use Rattle.desk_model.specs.Market.{Market, slot_at, is_given, count_live, live_count}
+use Rattle.desk_model.specs.Links.{AreOfKind}
 use Rattle.desk_model.specs.Effect.{made}
 use Rattle.session_commands.specs.declared.command.Command.{Command}
 use Rattle.session_model.specs.Standing.{Standing, with_objects, start_of, named_from, object_named, is_full}
@@ -28,14 +25,8 @@ use Rattle.session_model.specs.Resolve.{unless, making as wanted, unless_taken}
 use Rattle.session_core.specs.declared.fault.MakeFault.{MakeFault}
 use Rattle.session_core.specs.declared.fault.MakeFault.TheVariants.{Refused}
 use Rattle.session_core.specs.Steps.{with_object, AnswersMake}
-use Rattle.market_file.specs.Standing.{is_served, AreServed, AreInOrder, IsReady}
-
--- the objects stand, each of its kind
-abbrev pub AreStanding : List Kind → List Slot → Type 0
-AreStanding [] [] = Unit {0}
-AreStanding [] (slot ∷ slots) = ⊥
-AreStanding (k ∷ kinds) [] = ⊥
-AreStanding (k ∷ kinds) (slot ∷ slots) = (kind_in slot ≡ Some k) × AreStanding kinds slots
+use Rattle.market_file.specs.Standing.{AreInOrder, IsReady}
+use Rattle.market_desk.proofs.Taking.{AreStanding, serve, standing_length, more_standing}
 
 -- THE OBJECTS THAT A SESSION MAY TAKE NEXT
 pub record MayTake (p : Standing) (rest : List (ℕ × Terms)) : Type 0 where
@@ -65,29 +56,6 @@ pub left_all : (items entries : List (ℕ × Terms)) (p first : Standing) → it
     → with_objects items p ≡ with_objects entries first
 left_all items entries p first gives start = rw (gives, start) refl
 
--- ---- inputs
-
-kind_standing : (kinds : List Kind) (slots : List Slot) → AreStanding kinds slots → (o : ℕ)
-    → kind_in (slice_index_or slots o Free) ≡ slice_get kinds o
-kind_standing [] [] h o = refl
-kind_standing [] (slot ∷ slots) h o = absurd h
-kind_standing (k ∷ kinds) [] h o = absurd h
-kind_standing (k ∷ kinds) (slot ∷ slots) h zero = h.0
-kind_standing (k ∷ kinds) (slot ∷ slots) h (suc o) = kind_standing kinds slots h.1 o
-
-serves_so : (found : Option Kind) (wanted : Wanted) → serves_as found wanted ≡ is_served found wanted
-serves_so None wanted = refl
-serves_so (Some k) wanted = refl
-
-serve : (kinds : List Kind) (market : Market) → AreStanding kinds market.objects → (references : List Reference)
-    → AreServed kinds references → Serve market references
-serve kinds market h [] served = tt
-serve kinds market h (r ∷ references) served = (
-  ap (λ (found : Option Kind). serves_as found r.wanted) (kind_standing kinds market.objects h r.object)
-      ∙ serves_so (slice_get kinds r.object) r.wanted ∙ served.0,
-  serve kinds market h references served.1,
-)
-
 -- ---- room
 
 count_within : (slots : List Slot) → count_live slots ≤ length slots
@@ -98,12 +66,6 @@ count_within (slot ∷ slots) = by (is_given slot) (count_within slots)
         → (if b then suc (count_live slots) else count_live slots) ≤ suc (length slots)
     by true h = omega (arith, h)
     by false h = omega (arith, h)
-
-standing_length : (kinds : List Kind) (slots : List Slot) → AreStanding kinds slots → length slots ≡ length kinds
-standing_length [] [] h = refl
-standing_length [] (slot ∷ slots) h = absurd h
-standing_length (k ∷ kinds) [] h = absurd h
-standing_length (k ∷ kinds) (slot ∷ slots) h = ap suc (standing_length kinds slots h.1)
 
 below : (a b n : ℕ) → a ≤ n → b ≤ n → n < 4096 → (nat_le 4096 a || nat_le 65536 b) ≡ false
 below a b n ha hb h = grind (arith, nat_tests)
@@ -153,13 +115,6 @@ module _ (p : Standing) (items rest : List (ℕ × Terms)) (name : ℕ) (terms :
 
   pub are_of_kind : AreOfKind p.state.market (Some terms)
   are_of_kind = serve h.kinds p.state.market h.standing (inputs_of terms) h.order.0.inputs
-
-more_standing : (kinds : List Kind) (slots : List Slot) (terms : Terms) → AreStanding kinds slots
-    → AreStanding (kinds ++ kind_of terms ∷ []) (slots ++ Live terms ∷ [])
-more_standing [] [] terms h = (refl, tt)
-more_standing [] (slot ∷ slots) terms h = absurd h
-more_standing (k ∷ kinds) [] terms h = absurd h
-more_standing (k ∷ kinds) (slot ∷ slots) terms h = (h.0, more_standing kinds slots terms h.1)
 
 -- after it the session may take the others
 may_rest : (p : Standing) (name : ℕ) (terms : Terms) (rest : List (ℕ × Terms)) → MayTake p ((name, terms) ∷ rest)

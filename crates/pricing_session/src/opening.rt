@@ -1,24 +1,23 @@
 // A session for a script.
-ghost use Rattle.std.specs.Prelude.{◌≡◌, false, length, All, IfOk};
+ghost use Rattle.std.specs.Prelude.{◌≡◌, false, All, IfOk};
 ghost use Rattle.desk_terms.specs.Reading.{Calc};
 ghost use Rattle.desk_model.specs.Sound.{IsSound};
 ghost use Rattle.market_file.specs.Standing.{IsReady};
 ghost use Rattle.script_words.specs.Given.{Grows};
-ghost use Rattle.session_commands.specs.Whole.{IsCommand, IsScript};
+ghost use Rattle.session_commands.specs.Whole.{IsScript};
 ghost use Rattle.session_lang.specs.Given.{GivesAt};
 ghost use Rattle.session_lang.specs.Reading.{script_meaning};
-ghost use Rattle.session_model.specs.Standing.{IsKnown, start_with};
-ghost use Rattle.session_model.specs.Course.{running};
+ghost use Rattle.session_model.specs.Standing.{IsKnown};
 ghost use Rattle.pricing_session.specs.Opening.{opened};
 
 use day_number::Day;
 use desk_names::Names;
 use market_file::MadeList;
-use market_session::session_of;
-use session_commands::{Actions, CommandList, Script};
+use market_session::begun;
+use session_commands::{CommandList, Script};
 use session_lang::{ScriptFault, read_script};
 use session_rounds::WatchedSession;
-use std::alloc::{AllocError, Global};
+use std::alloc::Global;
 use watch_rounds::Picker;
 
 /// The session of a market's objects that is ready for a script, and the commands of the script outside of its blocks,
@@ -42,8 +41,8 @@ pub fn session_for<P: Picker + Drop>(
     ensures sound { IfOk result (λ begun. (calc : Calc) → IsSound calc begun.0.standing.state) }
 {
     let script = read(alloc, text, &mut names)?;
-    let session = started(alloc, names, today, made, script.actions, picker)?;
-    Ok((session, script.commands))
+    let begun = begun(alloc, names, today, made, script, picker)?;
+    Ok(begun)
 }
 
 // The script of a text, whole.
@@ -54,26 +53,4 @@ pub(crate) fn read(alloc: Global, text: &[u8], names: &mut Names) -> Result<Scri
 {
     let _ = names.len();
     read_script(alloc, text, names)
-}
-
-// A session of a market's objects with the actions of a script.
-pub(crate) fn started<P: Picker + Drop>(
-    alloc: Global,
-    names: Names,
-    today: Day,
-    made: MadeList,
-    actions: Actions,
-    picker: P,
-) -> Result<WatchedSession<P>, AllocError>
-    requires ready { IsReady names made.items }
-    requires acting { All (λ block. All (IsCommand (length names) (length actions)) block) actions }
-    ensures begins { IfOk result (λ session. session ≡ running picker (start_with today names made.items actions)) }
-    ensures running { IfOk result (λ session. session.standing.stopped ≡ false) }
-    ensures names { IfOk result (λ session. session.standing.names ≡ names) }
-    ensures actions { IfOk result (λ session. session.standing.actions ≡ actions) }
-    ensures sound { IfOk result (λ session. (calc : Calc) → IsSound calc session.standing.state) }
-{
-    let session = session_of(alloc, names, today, made, actions)?;
-    let session = WatchedSession::new(alloc, session, picker)?;
-    Ok(session)
 }

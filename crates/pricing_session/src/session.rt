@@ -16,12 +16,13 @@ ghost use Rattle.pricing_session.specs.Opening.{opened};
 ghost use Rattle.pricing_session.specs.Taking.{Takes, Misses, LeavesToAStep};
 
 use crate::known::is_known;
-use crate::opening::{read, started};
+use crate::opening::read;
 use crate::{ChangeFault, StepFault};
 use day_number::Day;
 use desk_names::{NameId, Names};
 use desk_terms::{Asked, Bench, Value};
 use market_file::MadeList;
+use market_session::watched_session;
 use session_commands::{Command, CommandList, Refusal};
 use session_lang::ScriptFault;
 use session_model::is_quiet;
@@ -80,7 +81,7 @@ impl<P: Picker + Drop, B: Bench + Drop> PricingSession<P, B> {
     {
         let script = read(alloc, script, &mut names)?;
         let actions = script.actions.len();
-        let session = started(alloc, names, today, made, script.actions, picker)?;
+        let session = watched_session(alloc, names, today, made, script.actions, picker)?;
         let session = PricingSession {
             session,
             bench,

@@ -1,5 +1,5 @@
 -- How far a session has come: the rounds that are done, and what is left.
-use Rattle.std.proofs.Common.{◌≡◌, ℕ, zero, suc, ◌+◌, ◌-◌, ◌^◌, ◌<◌, ◌≤◌, min, Bool, false, List, [], ◌∷◌, ◌++◌, length, get_or, take, drop, Option, Some, None, Result, Err, refl, sym, ◌∙◌, ap, subst, arith, append_assoc, length-append}
+use Rattle.std.proofs.Common.{◌≡◌, ℕ, ◌+◌, ◌<◌, ◌≤◌, Bool, false, List, [], ◌∷◌, ◌++◌, length, get_or, take, drop, Option, Result, Err, refl, sym, ◌∙◌, ap, subst, arith, append_assoc, length-append}
 use Rattle.std.specs.Prelude.{All}
 use Rattle.std.proofs.lemmas.List.{append-nil, take-append-drop, take-append-le, drop_more, drop_all}
 use Rattle.std.proofs.lemmas.List.Elements.{All-nil, All-push}
@@ -11,6 +11,7 @@ use Rattle.desk_model.specs.Sound.{IsSound}
 use Rattle.session_commands.specs.declared.command.Command.{Command}
 use Rattle.session_model.specs.Course.{Running, Meaning, Course, round_of}
 use Rattle.session_model.specs.Rounds.{rounds, lines_of, calls_in}
+use Rattle.session_rounds.proofs.Going.{counted_more, logged_more, logged_none}
 use Rattle.session_play.specs.Early.{Outside, next_of, IsCut, IsHalted}
 use Rattle.session_play.specs.Round.{IsPlayed, IsUnwritten, IsStopped, RoundEnds}
 use Rattle.session_play.specs.Written.{Writes}
@@ -19,18 +20,6 @@ use Rattle.desk_plan.specs.declared.status.Status as status
 
 abbrev pub Log : Type 0
 Log = Option (List (ℕ × Bool))
-
-counted-counted : (n a b : ℕ) → counted (counted n a) b ≡ counted n (a + b)
-counted-counted n a zero = let e : a ≡ a + 0 = omega arith in ap (counted n) e
-counted-counted n a (suc b) = let e : suc (a + b) ≡ a + suc b = omega arith in ap (λ (m : ℕ). min (m + 1) (2 ^ 64 - 1)) (counted-counted n a b) ∙ ap (counted n) e
-
-logged-logged : (log : Log) (a b : List (ℕ × Bool)) → logged (logged log a) b ≡ logged log (a ++ b)
-logged-logged None a b = refl
-logged-logged (Some entries) a b = ap Some (append_assoc entries a b)
-
-pub logged_nothing : (log : Log) → log ≡ logged log []
-logged_nothing None = refl
-logged_nothing (Some entries) = ap Some (sym (append-nil entries))
 
 -- the lines of two lists of rounds, and their computations
 lines_joined : {P : Type 0} (a b : List (Course P)) → lines_of (a ++ b) ≡ lines_of a ++ lines_of b
@@ -71,7 +60,7 @@ progress_none {P} m first commands start running sound = record {
   done = [];
   bytes = sym (appended-nil start.bytes);
   count = refl;
-  log = logged_nothing start.log;
+  log = logged_none start.log;
   whole = refl;
   sounds = All-nil (λ (t : Course P). IsSound m.calc t.next.standing.state);
   names = refl;
@@ -112,9 +101,9 @@ module _ {P : Type 0} (turns done later : List (Course P)) (t : Course P) (whole
       part = r.part;
       short = omega (arith, r.short, ap (λ (l : List ℕ). length l) lines_next);
       bytes = bytes_within start.bytes now.bytes new.bytes r.part bytes r.bytes;
-      count = r.count ∙ ap (λ (n : ℕ). counted n (length t.calls)) count ∙ counted-counted start.count (length (calls_in done)) (length t.calls)
+      count = r.count ∙ ap (λ (n : ℕ). counted n (length t.calls)) count ∙ counted_more start.count (length (calls_in done)) (length t.calls)
           ∙ ap (counted start.count) (sym (length-append (calls_in done) t.calls)) ∙ ap (λ (l : List (ℕ × Bool)). counted start.count (length l)) (sym calls_with);
-      log = r.log ∙ ap (λ (l : Log). logged l t.calls) log ∙ logged-logged start.log (calls_in done) t.calls ∙ ap (logged start.log) (sym calls_with);
+      log = r.log ∙ ap (λ (l : Log). logged l t.calls) log ∙ logged_more start.log (calls_in done) t.calls ∙ ap (logged start.log) (sym calls_with);
     }
 
     pub halted_in : IsStopped t now new → IsHalted turns start new
@@ -127,9 +116,9 @@ module _ {P : Type 0} (turns done later : List (Course P)) (t : Course P) (whole
       most = omega (arith, r.most, ap (λ (l : List (ℕ × Bool)). length l) calls_next);
       last = r.last;
       bytes = bytes_within start.bytes now.bytes new.bytes r.part bytes r.bytes;
-      count = r.count ∙ ap (λ (n : ℕ). counted n r.begun) count ∙ counted-counted start.count (length (calls_in done)) r.begun
+      count = r.count ∙ ap (λ (n : ℕ). counted n r.begun) count ∙ counted_more start.count (length (calls_in done)) r.begun
           ∙ ap (λ (l : List (Course P)). counted start.count (length (calls_in l) + r.begun)) (sym done_is);
-      log = r.log ∙ ap (λ (l : Log). logged l (take r.ended t.calls)) log ∙ logged-logged start.log (calls_in done) (take r.ended t.calls)
+      log = r.log ∙ ap (λ (l : Log). logged l (take r.ended t.calls)) log ∙ logged_more start.log (calls_in done) (take r.ended t.calls)
           ∙ ap (λ (l : List (ℕ × Bool)). logged start.log (calls_in done ++ take r.ended l)) (sym calls_next)
           ∙ ap (λ (l : List (Course P)). logged start.log (calls_in l ++ take r.ended (calls_in (next_of (length done) turns)))) (sym done_is);
     }
@@ -147,18 +136,18 @@ halted_before turns start = record {
   last = (omega arith, omega arith);
   bytes = sym (appended-nil start.bytes);
   count = refl;
-  log = logged_nothing start.log;
+  log = logged_none start.log;
 }
 
 -- where there is one round alone
 module _ {P : Type 0} (t : Course P) (start new : Outside) where
   pub one_cut : IsUnwritten t start new → IsCut (t ∷ []) start new
   unfolding lines_of calls_in
-  one_cut r = cut_in (t ∷ []) [] [] t refl start start new (sym (appended-nil start.bytes)) refl (logged_nothing start.log) r
+  one_cut r = cut_in (t ∷ []) [] [] t refl start start new (sym (appended-nil start.bytes)) refl (logged_none start.log) r
 
   pub one_halted : IsStopped t start new → IsHalted (t ∷ []) start new
   unfolding lines_of calls_in
-  one_halted r = halted_in (t ∷ []) [] [] t refl start start new (sym (appended-nil start.bytes)) refl (logged_nothing start.log) r
+  one_halted r = halted_in (t ∷ []) [] [] t refl start start new (sym (appended-nil start.bytes)) refl (logged_none start.log) r
 
 -- what is written of whole rounds and a part of the next one is a front of the lines
 module _ {P : Type 0} (turns : List (Course P)) (whole part : ℕ) (short : part ≤ length (lines_of (next_of whole turns))) where
@@ -225,9 +214,9 @@ module _ {P : Type 0} (m : Meaning P) (first : Running P) (commands : List Comma
       record {
         done = p.done ++ t ∷ [];
         bytes = played.bytes ∙ ap (appended t.lines) p.bytes ∙ appended-appended (lines_of p.done) t.lines start.bytes ∙ ap (λ (l : List ℕ). appended l start.bytes) (sym lines);
-        count = played.count ∙ ap (λ (n : ℕ). counted n (length t.calls)) p.count ∙ counted-counted start.count (length (calls_in p.done)) (length t.calls)
+        count = played.count ∙ ap (λ (n : ℕ). counted n (length t.calls)) p.count ∙ counted_more start.count (length (calls_in p.done)) (length t.calls)
             ∙ ap (counted start.count) (sym (length-append (calls_in p.done) t.calls)) ∙ ap (λ (l : List (ℕ × Bool)). counted start.count (length l)) (sym calls);
-        log = played.log ∙ ap (λ (l : Log). logged l t.calls) p.log ∙ logged-logged start.log (calls_in p.done) t.calls ∙ ap (logged start.log) (sym calls);
+        log = played.log ∙ ap (λ (l : Log). logged l t.calls) p.log ∙ logged_more start.log (calls_in p.done) t.calls ∙ ap (logged start.log) (sym calls);
         whole = next_whole command rest state p.done p.whole ∙ sym (append_assoc p.done (t ∷ []) (rounds m t.next rest)) ∙ ap (λ (s : Running P). (p.done ++ t ∷ []) ++ rounds m s rest) (sym is);
         sounds = All-push (λ (u : Course P). IsSound m.calc u.next.standing.state) p.done t p.sounds (subst (λ (s : Running P). IsSound m.calc s.standing.state) is sound);
         names = names ∙ p.names;

@@ -2,4 +2,5 @@ pub mod Early
 pub mod Output
 pub mod Report
 pub mod Round
+pub mod Rows
 pub mod Written

@@ -10,11 +10,11 @@ ghost use Rattle.session_play.specs.Written.{IsLate, Writes, ended};
 
 use crate::play::play;
 use crate::report::report;
-use crate::starting::begun;
 use crate::summing::sum_up;
 use desk_edge::Sink;
 use desk_plan::{Plan, ScriptRun, Status};
 use desk_terms::Bench;
+use market_session::begun;
 use std::alloc::Global;
 use watch_rounds::Order;
 
@@ -79,7 +79,14 @@ fn play_script<K: Sink, B: Bench>(
     ensures at_most { IsErrOf result Status.NoMemory
         → (K.faults out.new ≡ K.faults out.old) ⊎ (K.faults out.new ≡ raised (K.faults out.old)) }
 {
-    let (mut session, commands) = begun(alloc, run, order)?;
+    let (mut session, commands) = begun(
+        alloc,
+        run.market.names,
+        run.market.today,
+        run.market.made,
+        run.script,
+        order,
+    )?;
     let played = play(alloc, &mut session, commands.items(), out, bench);
     drop(session);
     played

@@ -7,7 +7,7 @@
 mod carrying;
 mod play;
 mod report;
-mod starting;
+mod rows;
 mod summing;
 
 pub use carrying::carry_out;

@@ -15,11 +15,11 @@ ghost use Rattle.session_play.specs.Written.{IsLate, Writes, ended};
 ghost use Rattle.load_summary.specs.Summary.{tally_of};
 ghost use Rattle.session_play.specs.Output.{output_in, computed_in, rounds_in};
 
-use crate::starting::begun;
 use desk_edge::{Sink, write_whole};
 use desk_plan::{ScriptRun, Status};
 use desk_terms::Bench;
 use load_summary::{Tally, summary};
+use market_session::begun;
 use session_commands::Command;
 use session_rounds::WatchedSession;
 use std::alloc::{AllocError, Global};
@@ -48,7 +48,14 @@ pub(crate) fn sum_up<K: Sink, B: Bench>(
     ensures once { IsErrOf result Status.WriteFault → K.faults out.new ≡ raised (K.faults out.old) }
     ensures at_most { IsErrOf result Status.NoMemory → K.faults out.new ≡ K.faults out.old }
 {
-    let (mut session, commands) = begun(alloc, run, Order::First)?;
+    let (mut session, commands) = begun(
+        alloc,
+        run.market.names,
+        run.market.today,
+        run.market.made,
+        run.script,
+        Order::First,
+    )?;
     let counted = tallied(alloc, &mut session, commands.items(), bench);
     // Let go here, once for all exits behind it.
     drop(session);

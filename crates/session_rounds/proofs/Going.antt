@@ -9,15 +9,15 @@ use Rattle.session_model.specs.Course.{Running, Course, quiet, before, and_then}
 use Rattle.session_rounds.specs.Goes.{Output, with_more, lines_alone, Does, Halts, Goes, Stays}
 
 -- counts and logs go on
-counted_more : (count n m : ℕ) → counted (counted count n) m ≡ counted count (n + m)
+pub counted_more : (count n m : ℕ) → counted (counted count n) m ≡ counted count (n + m)
 counted_more count n zero = let e : n + zero ≡ n = omega arith in ap (counted count) (sym e)
 counted_more count n (suc m) = let e : n + suc m ≡ suc (n + m) = omega arith in rw e (rw (counted_more count n m) refl)
 
-logged_more : (log : Option (List (ℕ × Bool))) (calls more : List (ℕ × Bool)) → logged (logged log calls) more ≡ logged log (calls ++ more)
+pub logged_more : (log : Option (List (ℕ × Bool))) (calls more : List (ℕ × Bool)) → logged (logged log calls) more ≡ logged log (calls ++ more)
 logged_more None calls more = refl
 logged_more (Some log) calls more = ap Some (append_assoc log calls more)
 
-logged_none : (log : Option (List (ℕ × Bool))) → log ≡ logged log []
+pub logged_none : (log : Option (List (ℕ × Bool))) → log ≡ logged log []
 logged_none None = refl
 logged_none (Some log) = ap Some (sym (append-nil log))
 

@@ -32,7 +32,7 @@ pub returns-in-Ok-carry_out-clause-headline : goal.returns-in-Ok-carry_out-claus
 returns-in-Ok-carry_out-clause-headline g c =
     told_headline (files_of (g.H.Shelf.contents c.args.shelf.now)) (map string_bytes c.args.words.now)
     (g.B.Bench.calc c.args.bench.now) c.in-Ok.plan (g.K.Sink.bytes c.args.out.now) (g.K.Sink.bytes c.carry_out.new.out) _
-    c.in-Ok.ensures.can c.in-Ok.ensures.plans (λ done. c.carry_out.ensures.written)
+    c.in-Ok.ensures.can c.in-Ok.ensures.plans (λ done. c.in-Ok-carry_out.ensures.written)
 
 pub returns-in-Err-carry_out-clause-headline : goal.returns-in-Err-carry_out-clause-headline
 returns-in-Err-carry_out-clause-headline g c =

@@ -1,7 +1,7 @@
 use Rattle.std.proofs.Common.{refl, []}
 use Rattle.session_play.specs.Report.{check_line}
 use Rattle.session_play.specs.Output.{as_round}
-use Rattle.session_play.proofs.Progress.{logged_nothing}
+use Rattle.session_rounds.proofs.Going.{logged_none}
 use Rattle.session_play.proofs.Reported.{report_writes, report_cut, report_halted}
 use Rattle.session_play.proofs.carrying.carry_out.Goals as goal
 
@@ -22,7 +22,7 @@ returns-in-Check-clause-cut g c =
     rw c.in-Check.is (λ e. let front = c.report.ensures.front e in
     report_cut (as_round (check_line c.in-Check.objects c.in-Check.fixings) []) (g.K.Sink.bytes c.args.out.now)
     (g.K.Sink.bytes c.report.new.out) (g.B.Bench.count c.args.bench.now) (g.B.Bench.count c.args.bench.now)
-    (g.B.Bench.log c.args.bench.now) (g.B.Bench.log c.args.bench.now) front.0 refl (logged_nothing _) front.1 front.2)
+    (g.B.Bench.log c.args.bench.now) (g.B.Bench.log c.args.bench.now) front.0 refl (logged_none _) front.1 front.2)
 
 pub returns-in-Check-clause-halted : goal.returns-in-Check-clause-halted
 returns-in-Check-clause-halted g c =

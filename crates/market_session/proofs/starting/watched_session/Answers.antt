@@ -2,7 +2,7 @@ use Rattle.std.proofs.Common.{◌∙◌, sym, ap, subst}
 use Rattle.desk_model.specs.Sound.{IsSound}
 use Rattle.session_model.specs.Standing.{Standing}
 use Rattle.market_session.proofs.Started.{starts_running, starts_names, starts_actions, starts_acting}
-use Rattle.pricing_session.proofs.opening.started.Goals as goal
+use Rattle.market_session.proofs.starting.watched_session.Goals as goal
 
 pub new-requires : goal.new-requires
 new-requires g c = record {

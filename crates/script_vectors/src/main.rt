@@ -1,12 +1,15 @@
 //! Runs scripts over the two-line market and over markets of every kind, and compares the bytes with those that an
 //! independent model of the session writes: prints each case that differs, and how many agree.
 //! Then runs one script with each call of the shelf and of the sink failing in turn, and compares how many calls were
-//! made, failed and missed, how many bytes were written, and the exit status with its line.
+//! made, failed and missed, how many bytes were written, and the exit status with its line. Then the tools over whole cases
+//! of their own, and scripts that are printed and read back.
 #![tactic(auto)]
 
 mod calls;
 mod cuts;
 mod endless;
+mod printed;
+mod tools;
 mod wholes;
 
 use desk_bench::DeskBench;
@@ -67,7 +70,9 @@ fn main(rt: HostRuntime) -> io::Result<()> {
     }
     cuts::compare(&rt)?;
     endless::compare(&rt)?;
-    calls::compare(&rt)
+    calls::compare(&rt)?;
+    tools::compare(&rt)?;
+    printed::compare(&rt)
 }
 
 // Compares the cases of a file and prints how many agree. A line `==` stands between two cases. One that begins with a

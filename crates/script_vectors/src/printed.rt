@@ -1,15 +1,13 @@
-//! Reads scripts, prints them, and reads and prints what was printed: prints each case that differs from what an
-//! independent model prints, and how many agree. An answer of want of memory is a difference.
-#![tactic(auto)]
-
+// Scripts that are read, printed, and read and printed again, beside what an independent model prints. An answer of want
+// of memory is a difference.
 use desk_names::Names;
 use session_lang::{print_script, read_script};
 use std::alloc::Global;
 use std::{fs, io};
 
 // A line `==` stands between two cases. A case is a script, a line `--`, and what it prints as.
-fn main(rt: HostRuntime) -> io::Result<()> {
-    let text = fs::read_to_string(&rt, "scripts")?;
+pub(crate) fn compare(rt: &HostRuntime) -> io::Result<()> {
+    let text = fs::read_to_string(rt, "printed")?;
     let mut agree = 0u32;
     let mut differ = 0u32;
     for case in text.split("==\n") {
@@ -20,7 +18,7 @@ fn main(rt: HostRuntime) -> io::Result<()> {
             println!(rt; "this differs: {case}")?;
         }
     }
-    println!(rt; "scripts: {agree} agree, {differ} differ")
+    println!(rt; "printed: {agree} agree, {differ} differ")
 }
 
 // Whether the script of a case prints as the case says, and what it prints as prints as itself.

@@ -1,18 +1,16 @@
-//! Runs `desk_bump`, `desk_curve`, `desk_graph`, `desk_grid` and `desk_yield` over whole cases, and compares the bytes with
-//! those that an independent model writes: prints each case that differs, and how many agree.
-#![tactic(auto)]
-
-use bump_run::{BumpStatus, run_bump};
-use curve_run::{CurveStatus, run_curve};
+// The tools: runs `desk_bump`, `desk_curve`, `desk_graph`, `desk_grid` and `desk_yield` over whole cases, and compares the
+// bytes with those that an independent model writes.
+use bump_run::run_bump;
+use curve_run::run_curve;
 use desk_bench::DeskBench;
 use desk_edge::{CallList, MemoryShelf, MemorySink};
-use graph_run::{Status, StatusLine, run_graph};
-use grid_run::{GridStatus, run_grid};
+use graph_run::run_graph;
+use grid_run::run_grid;
 use std::alloc::{AllocError, Global};
-use std::fmt::Display;
 use std::{fs, io};
+use tool_process::Ending;
 use whole_cases::{shelf, words};
-use yield_run::{YieldStatus, run_yield};
+use yield_run::run_yield;
 
 // The most bytes that a case may write.
 const ROOM: usize = 100_000;
@@ -29,31 +27,31 @@ enum Tool {
 
 // Each program's `by_hand` has its limits, names that are none, words and files that are refused or not there; `markets` and
 // `bonds` are made at random, `version_two` over markets of version 2; `faults` has markets and scripts that are refused.
-fn main(rt: HostRuntime) -> io::Result<()> {
+pub(crate) fn compare(rt: &HostRuntime) -> io::Result<()> {
     // Quotes at the limit and quotes without a value.
-    compare(&rt, Tool::Bump, "bump_by_hand")?;
-    compare(&rt, Tool::Bump, "bump_markets")?;
-    compare(&rt, Tool::Bump, "bump_faults")?;
+    compare_file(rt, Tool::Bump, "bump_by_hand")?;
+    compare_file(rt, Tool::Bump, "bump_markets")?;
+    compare_file(rt, Tool::Bump, "bump_faults")?;
     // Curves of one day and of sixty years, factors near 1, above it and far below.
-    compare(&rt, Tool::Curve, "curve_by_hand")?;
-    compare(&rt, Tool::Curve, "curve_markets")?;
-    compare(&rt, Tool::Curve, "curve_version_two")?;
-    compare(&rt, Tool::Curve, "curve_faults")?;
+    compare_file(rt, Tool::Curve, "curve_by_hand")?;
+    compare_file(rt, Tool::Curve, "curve_markets")?;
+    compare_file(rt, Tool::Curve, "curve_version_two")?;
+    compare_file(rt, Tool::Curve, "curve_faults")?;
     // Sessions of which each shows one thing, and scripts cut off at some command, with what is frozen, late or held then.
-    compare(&rt, Tool::Graph, "graph_by_hand")?;
-    compare(&rt, Tool::Graph, "graph_sessions")?;
+    compare_file(rt, Tool::Graph, "graph_by_hand")?;
+    compare_file(rt, Tool::Graph, "graph_sessions")?;
     // Blocks in either order, a block that holds nothing, as many blocks and asks as there may be and one more.
-    compare(&rt, Tool::Grid, "grid_by_hand")?;
-    compare(&rt, Tool::Grid, "grid_markets")?;
-    compare(&rt, Tool::Grid, "grid_version_two")?;
-    compare(&rt, Tool::Grid, "grid_faults")?;
+    compare_file(rt, Tool::Grid, "grid_by_hand")?;
+    compare_file(rt, Tool::Grid, "grid_markets")?;
+    compare_file(rt, Tool::Grid, "grid_version_two")?;
+    compare_file(rt, Tool::Grid, "grid_faults")?;
     // Prices at the limits and beyond, days on and beside those of coupons.
-    compare(&rt, Tool::Yield, "yield_by_hand")?;
-    compare(&rt, Tool::Yield, "yield_bonds")
+    compare_file(rt, Tool::Yield, "yield_by_hand")?;
+    compare_file(rt, Tool::Yield, "yield_bonds")
 }
 
 // Compares the cases of a file and prints how many agree. A line `==` stands between two cases.
-fn compare(rt: &HostRuntime, tool: Tool, file: &str) -> io::Result<()> {
+fn compare_file(rt: &HostRuntime, tool: Tool, file: &str) -> io::Result<()> {
     let text = fs::read_to_string(rt, file)?;
     let mut agree = 0u32;
     let mut differ = 0u32;
@@ -104,33 +102,34 @@ fn ended(
 ) -> Result<String, AllocError> {
     let mut bench = DeskBench::new();
     match tool {
-        Tool::Bump => {
-            let status = run_bump(alloc, words, shelf, out, &mut bench);
-            line(alloc, status == BumpStatus::Done, status)
-        }
-        Tool::Curve => {
-            let status = run_curve(alloc, words, shelf, out, &mut bench);
-            line(alloc, status == CurveStatus::Done, status)
-        }
-        Tool::Graph => {
-            let status = run_graph(alloc, words, shelf, out, &mut bench);
-            line(alloc, status == Status::Done, StatusLine(status))
-        }
-        Tool::Grid => {
-            let status = run_grid(alloc, words, shelf, out, &mut bench);
-            line(alloc, status == GridStatus::Done, status)
-        }
-        Tool::Yield => {
-            let status = run_yield(alloc, words, shelf, out);
-            line(alloc, status == YieldStatus::Done, status)
-        }
+        Tool::Bump => line(
+            alloc,
+            bump_run::NAME,
+            run_bump(alloc, words, shelf, out, &mut bench),
+        ),
+        Tool::Curve => line(
+            alloc,
+            curve_run::NAME,
+            run_curve(alloc, words, shelf, out, &mut bench),
+        ),
+        Tool::Graph => line(
+            alloc,
+            graph_run::NAME,
+            run_graph(alloc, words, shelf, out, &mut bench),
+        ),
+        Tool::Grid => line(
+            alloc,
+            grid_run::NAME,
+            run_grid(alloc, words, shelf, out, &mut bench),
+        ),
+        Tool::Yield => line(alloc, yield_run::NAME, run_yield(alloc, words, shelf, out)),
     }
 }
 
-// The line of a status; none where the program is done.
-fn line<S: Display + Drop>(alloc: Global, done: bool, status: S) -> Result<String, AllocError> {
-    if done {
-        return Ok(String::new(alloc));
+// The line of a status on standard error; none where the program is done.
+fn line<S: Ending>(alloc: Global, program: &str, status: S) -> Result<String, AllocError> {
+    match status.words() {
+        Some(words) => format!(in alloc; "{program}: {words}\n"),
+        None => Ok(String::new(alloc)),
     }
-    format!(in alloc; "{status}\n")
 }

@@ -1,5 +1,5 @@
 #!/usr/bin/env bash
-# Runs the built program on each case `graph_*` of crates/tool_vectors, compares what a terminal shows with what stands there, and
+# Runs the built program on each case `graph_*` of crates/script_vectors, compares what a terminal shows with what stands there, and
 # reads each graph by the grammar of the DOT language: every name stands first in its label, and every arrow leads from a node to a
 # node, once. Where Graphviz is on the path, `dot -Tsvg` draws each besides, and an XML parser finds as many nodes and arrows in the
 # picture. Prints how many there were of each.
@@ -116,7 +116,7 @@ def draw(text):
 
 
 for name in ("graph_by_hand", "graph_sessions"):
-    for case in (top / "crates/tool_vectors/data" / name).read_text().split("==\n"):
+    for case in (top / "crates/script_vectors/data" / name).read_text().split("==\n"):
         given, _, shown = case.partition("-- shown\n")
         words, files = fields(given)
         for old in pathlib.Path(".").iterdir():

@@ -1,5 +1,5 @@
 #!/usr/bin/env bash
-# Runs the built program on each case `curve_*` of crates/tool_vectors, puts each picture through an XML parser and each table through a reader of
+# Runs the built program on each case `curve_*` of crates/script_vectors, puts each picture through an XML parser and each table through a reader of
 # comma-separated values, and compares them with what stands there. Where a table is wanted, the picture of the same curves is drawn and parsed
 # besides: it has the points of the table. Prints how many there were of each.
 #
@@ -70,7 +70,7 @@ def sizes(rows):
 
 
 for name in ("curve_by_hand", "curve_markets", "curve_version_two", "curve_faults"):
-    for case in (top / "crates/tool_vectors/data" / name).read_text().split("==\n"):
+    for case in (top / "crates/script_vectors/data" / name).read_text().split("==\n"):
         given, _, shown = case.partition("-- shown\n")
         words, files = fields(given)
         for old in pathlib.Path(".").iterdir():

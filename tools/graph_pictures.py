@@ -5,7 +5,7 @@
     tools/graph_pictures.py MODEL --random COUNT SEED
 
 MODEL is the folder of an independent model of the session, a package of Python that this repository does not have. It plays the
-script; what an ask would find is what it answers to one, over a copy. Compares the cases of the files, those of crates/tool_vectors
+script; what an ask would find is what it answers to one, over a copy. Compares the cases of the files, those of crates/script_vectors
 if none is named, prints each that differs and how many agree, and ends with 1 if any differs. With `--random` it writes so many cases
 of sessions made at random, with their texts, over markets of version 1 and 2 in turn.
 """
@@ -18,7 +18,7 @@ import re
 import sys
 
 TOP = pathlib.Path(__file__).resolve().parent.parent
-CASES = [TOP / "crates/tool_vectors/data" / name for name in ("graph_by_hand", "graph_sessions")]
+CASES = [TOP / "crates/script_vectors/data" / name for name in ("graph_by_hand", "graph_sessions")]
 
 HEAD = """\
 // An arrow goes from an object to what it observes; that of a registration is dashed.

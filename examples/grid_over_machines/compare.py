@@ -1,5 +1,5 @@
 #!/usr/bin/env python3
-"""Compares joined grids with the bytes that an independent model writes of the whole: each case `grid_*` of crates/tool_vectors/data that ends
+"""Compares joined grids with the bytes that an independent model writes of the whole: each case `grid_*` of crates/script_vectors/data that ends
 well, with its script cut into parts of 1, 7 and 100 blocks. DESK_GRID is the program, as for grid.sh. Prints what differs, and how many
 agree. The two cases of a thousand blocks or asks are not cut into single blocks.
 """
@@ -9,7 +9,7 @@ import sys
 import tempfile
 
 here = os.path.dirname(os.path.abspath(__file__))
-data = os.path.join(here, "../../crates/tool_vectors/data")
+data = os.path.join(here, "../../crates/script_vectors/data")
 grid = os.path.abspath(os.environ.get("DESK_GRID", os.path.join(here, "../../crates/desk_grid/out/desk_grid")))
 
 

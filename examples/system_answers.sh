@@ -6,7 +6,11 @@
 #   cd crates/desk && rt run -- run data/market.toml data/script     # builds the program
 #   examples/system_answers.sh
 set -euo pipefail
-desk=$(realpath "${1:-$(dirname "$0")/../crates/desk/out/desk}")
+desk=$(realpath -m "${1:-$(dirname "$0")/../crates/desk/out/desk}")
+if [ ! -x "$desk" ]; then
+    echo "system_answers.sh: $desk is not built: tools/install proves and builds it" >&2
+    exit 2
+fi
 work=$(mktemp -d)
 trap 'rm -rf "$work"' EXIT
 cd "$work"

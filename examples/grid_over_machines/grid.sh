@@ -13,8 +13,16 @@
 set -euo pipefail
 [ $# -ge 4 ] || { echo "usage: grid.sh MARKET SCRIPT BLOCKS OUT [PROCESSES]" >&2; exit 2; }
 here=$(cd "$(dirname "$0")" && pwd)
-export DESK_GRID=${DESK_GRID:-$here/../../crates/desk_grid/out/desk_grid}
+export DESK_GRID=${DESK_GRID:-$(realpath -m "$here/../../crates/desk_grid/out/desk_grid")}
 market=$1 script=$2 blocks=$3 out=$4 processes=${5:-2}
+if [ ! -x "$DESK_GRID" ]; then
+    echo "grid.sh: $DESK_GRID is not built: tools/install proves and builds it" >&2
+    exit 2
+fi
+command -v parallel > /dev/null || { echo "grid.sh: no command parallel: it takes GNU parallel (apt-get install parallel)" >&2; exit 2; }
+for file in "$market" "$script"; do
+    [ -f "$file" ] && [ -r "$file" ] || { echo "grid.sh: $file is no file that can be read" >&2; exit 2; }
+done
 if [ -n "${GRID_FOLDER:-}" ]; then
     folder=$GRID_FOLDER
 else

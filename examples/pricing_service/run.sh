@@ -6,6 +6,15 @@
 #   examples/pricing_service/run.sh
 set -euo pipefail
 here=$(cd "$(dirname "$0")" && pwd)
-service=$(realpath "$here/../../crates/tick_service/out/tick_service")
-cd "${1:-$here}"
+service=$(realpath -m "$here/../../crates/tick_service/out/tick_service")
+if [ ! -x "$service" ]; then
+    echo "run.sh: $service is not built:" >&2
+    echo "run.sh: (cd crates/tick_service && rt run -- data/two_lines.toml data/script) proves and builds it" >&2
+    exit 2
+fi
+folder=${1:-$here}
+for file in market.toml feed.txt answers.txt; do
+    [ -f "$folder/$file" ] || { echo "run.sh: $folder has no $file" >&2; exit 2; }
+done
+cd "$folder"
 "$service" market.toml feed.txt | diff - answers.txt && echo "as answers.txt"

@@ -148,6 +148,15 @@ def compare_own(read, top):
     return agree, differ
 
 
+def kinds_without_row(top):
+    """Each section and kind of fault that a row of the gate has and none of the own rows."""
+    gate = {tuple(it[1].split()[::2]) for it in gate_markets(top) if it[1] != "ok"}
+    gate |= {("script", it[1].split()[-1]) for it in gate_scripts(top) if it[1] != "ok"}
+    said = [said.split("\n")[0].split() for _, _, said in own_rows(top)]
+    own = {(it[-4], it[-2]) if it[1] == "market" else (it[1], it[-2]) for it in said if len(it) > 4}
+    return [f"no row of desk_fault_rows has {' '.join(it)}" for it in sorted(gate - own)]
+
+
 def manual_sections(top):
     """The sections of the manuals that a row names and that have no such heading; and words of the tables that no
     manual has."""
@@ -171,7 +180,7 @@ def manual_sections(top):
 def check(read, top):
     own, own_lost = compare_own(read, top)
     gate, gate_lost = compare_gate(top)
-    lost = own_lost + gate_lost + manual_sections(top)
+    lost = own_lost + gate_lost + kinds_without_row(top) + manual_sections(top)
     for it in lost:
         print(f"desk_fault: {it}", file=sys.stderr)
     print(f"desk_fault: {own + gate} rows agree, {len(own_lost) + len(gate_lost)} differ")

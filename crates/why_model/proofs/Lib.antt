@@ -1,0 +1,4 @@
+pub mod Alike
+pub mod Listed
+pub mod Shown
+pub mod Worked

@@ -1,0 +1,5 @@
+mod Alike
+mod Fronts
+mod Moving
+mod SoFar
+pub mod Sums

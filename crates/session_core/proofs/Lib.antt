@@ -1,5 +1,6 @@
 pub mod Alike
 pub mod Counting
+pub mod Learning
 pub mod Linking
 pub mod Making
 pub mod Naming

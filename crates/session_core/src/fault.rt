@@ -1,4 +1,4 @@
-// Why no object is made.
+// Why no object is made, and no action added.
 use session_commands::Refusal;
 use std::alloc::AllocError;
 use thiserror::Error;
@@ -11,6 +11,27 @@ pub enum MakeFault {
     Refused(Refusal),
     #[error("out of memory")]
     NoMemory,
+}
+
+/// Why a session takes no action more.
+#[derive(Clone, Copy, Debug, Error, PartialEq, Eq)]
+pub enum ActionFault {
+    /// It has as many as may be.
+    #[error("too many actions")]
+    Full,
+    #[error("out of memory")]
+    NoMemory,
+}
+
+impl From<AllocError> for ActionFault {
+    ghost use Rattle.std.specs.Prelude.{◌≡◌};
+    ghost use Rattle.session_core.specs.declared.fault.ActionFault.TheVariants.{NoMemory};
+
+    ghost from_gives = { λ _ e. e ≡ NoMemory };
+
+    fn from(_: AllocError) -> Self {
+        ActionFault::NoMemory
+    }
 }
 
 impl From<Refusal> for MakeFault {

@@ -86,8 +86,8 @@ impl Session {
         }
     }
 
-    // A new name must not be the name of a live object.
-    pub(crate) fn free(&self, name: NameId) -> Result<(), Refusal>
+    /// A new name must not be the name of a live object.
+    pub fn free(&self, name: NameId) -> Result<(), Refusal>
         ensures { result ≡ (if is_some (object_named self.now name) then Err (Taken name) else Ok tt) }
     {
         match self.named(name) {
@@ -96,8 +96,8 @@ impl Session {
         }
     }
 
-    // A new object needs room.
-    pub(crate) fn room(&self) -> Result<(), Refusal>
+    /// A new object needs room.
+    pub fn room(&self) -> Result<(), Refusal>
         ensures { result ≡ (if is_full self.now.state.market then Err TooMany else Ok tt) }
     {
         if self.is_full() {

@@ -39,13 +39,13 @@ use std::marker::Model;
 /// A session: its objects with their names, the values that are stored, and the actions of its script.
 pub struct Session {
     desk: Desk,
-    names: Names,
+    pub(crate) names: Names,
     of_object: NameList,
-    actions: Actions,
+    pub(crate) actions: Actions,
     // The action of the watcher that has or had a name, by the name's number.
-    watching: Vec<Option<ActionId>>,
+    pub(crate) watching: Vec<Option<ActionId>>,
     // The live object of each name, by the name's number.
-    of_name: Vec<Option<ObjId>>,
+    pub(crate) of_name: Vec<Option<ObjId>>,
     live: usize,
     stopped: bool,
     alloc: Global,

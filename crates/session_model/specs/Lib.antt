@@ -2,6 +2,8 @@ pub mod Afresh
 pub mod Place
 pub mod Standing
 pub mod Change
+pub mod Growing
+pub mod Grown
 pub mod Pricing
 pub mod Resolve
 pub mod Quiet

@@ -1,6 +1,7 @@
 // Interest that has accrued.
 ghost use Rattle.std.specs.Prelude.{◌≡◌, true, length, ◌≤◌, ◌*◌, ◌≤ℤ◌, ◌<ℤ◌, pos, unsigned_abs};
 ghost use Rattle.flow_terms.specs.declared.limits.TheConstants.{MOST_AMOUNT, MOST_FLOWS};
+ghost use Rattle.flow_terms.specs.Ranges.{AreFlowsInRange};
 ghost use Rattle.bond_yield.specs.Fixed.{is_payment, is_known, are_known, is_fixed};
 ghost use Rattle.bond_yield.specs.Accrued as accrual;
 
@@ -12,8 +13,8 @@ use flow_terms::{FlowTerm, FlowTerms};
 /// The interest of a fixed bond that has accrued on a settlement day: of each coupon whose period has begun and not
 /// ended its share by days, rounded to the nearest (QuantLib's `BondFunctions::accruedAmount`).
 pub fn accrued(flows: &FlowTerms, settle: Day) -> Amount
+    requires range { AreFlowsInRange flows.now }
     requires fixed { is_fixed flows.now.flows ≡ true }
-    requires count { length flows.now.flows ≤ MOST_FLOWS }
     ensures value { result ≡ accrual.accrued flows.now.flows settle }
     ensures low { pos 0 ≤ℤ result }
     ensures high { result ≤ℤ pos (MOST_FLOWS * MOST_AMOUNT) }

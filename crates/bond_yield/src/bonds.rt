@@ -1,7 +1,8 @@
 // The yield of a bond at a clean price.
-ghost use Rattle.std.specs.Prelude.{◌≡◌, ◌↔◌, true, length, ◌≤◌, ◌*◌, Err, Some, None, IfOk, ◌+ℤ◌, ◌≤ℤ◌, pos};
+ghost use Rattle.std.specs.Prelude.{◌≡◌, ◌↔◌, true, ◌*◌, Err, Some, None, IfOk, ◌+ℤ◌, ◌≤ℤ◌, pos};
 ghost use Rattle.jiff_core.specs.Calendar.{IsWithin};
 ghost use Rattle.flow_terms.specs.declared.limits.TheConstants.{MOST_AMOUNT, MOST_FLOWS};
+ghost use Rattle.flow_terms.specs.Ranges.{AreFlowsInRange};
 ghost use Rattle.bond_yield.specs.declared.yields.TheConstants.{MOST_YIELD, MOST_CLEAN};
 ghost use Rattle.bond_yield.specs.Fixed.{is_fixed};
 ghost use Rattle.bond_yield.specs.Accrued as accrual;
@@ -37,7 +38,7 @@ pub enum YieldFault {
 /// The yield of a bond on a settlement day at a clean price of at most 10^19 units either way: the least from 0 to 10 at
 /// which the full price is not above the clean price and the accrued interest.
 pub fn bond_yield(flows: &FlowTerms, settle: Day, clean: Amount) -> Result<Rate, YieldFault>
-    requires count { length flows.now.flows ≤ MOST_FLOWS }
+    requires range { AreFlowsInRange flows.now }
     requires clean { IsWithin MOST_CLEAN clean }
     ensures answer { result ≡ yield_of flows.now.flows settle clean }
     ensures fault { (fault : YieldFault) → (result ≡ Err fault) ↔ (fault_of flows.now.flows settle clean ≡ Some fault) }
@@ -64,8 +65,8 @@ fn sum(clean: Amount, interest: Amount) -> Amount
 
 // The yield at a full price.
 fn yield_at(flows: &FlowTerms, settle: Day, price: Amount) -> Result<Rate, YieldFault>
+    requires range { AreFlowsInRange flows.now }
     requires fixed { is_fixed flows.now.flows ≡ true }
-    requires count { length flows.now.flows ≤ MOST_FLOWS }
     ensures fault { (fault : YieldFault) → (result ≡ Err fault) ↔ (price_fault flows.now.flows settle price ≡ Some fault) }
     ensures least { IfOk result (IsYield flows.now.flows settle price) }
 {

@@ -1,6 +1,7 @@
 // The price of a fixed bond at a yield.
 ghost use Rattle.std.specs.Prelude.{◌≡◌, true, length, ◌≤◌, ◌*◌, ◌≤ℤ◌, pos, unsigned_abs};
 ghost use Rattle.flow_terms.specs.declared.limits.TheConstants.{MOST_AMOUNT, MOST_FLOWS};
+ghost use Rattle.flow_terms.specs.Ranges.{AreFlowsInRange};
 ghost use Rattle.bond_yield.specs.declared.yields.TheConstants.{MOST_YIELD};
 ghost use Rattle.bond_yield.specs.Fixed.{are_known, is_fixed};
 ghost use Rattle.bond_yield.specs.Price as price;
@@ -22,8 +23,8 @@ const PARTS_IN_DAY: u128 = 30_744;
 /// The full price of a fixed bond on a settlement day at a yield from 0 to 10: what is paid after the day, discounted
 /// at simple interest over Act/365 from one payment day to the next, and rounded once.
 pub fn full_price(flows: &FlowTerms, settle: Day, y: Rate) -> Amount
+    requires range { AreFlowsInRange flows.now }
     requires fixed { is_fixed flows.now.flows ≡ true }
-    requires count { length flows.now.flows ≤ MOST_FLOWS }
     requires low { pos 0 ≤ℤ y }
     requires high { unsigned_abs y ≤ MOST_YIELD }
     ensures { result ≡ price.full_price flows.now.flows settle (unsigned_abs y) }

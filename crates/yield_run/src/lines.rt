@@ -1,8 +1,9 @@
 // The lines of a name.
-ghost use Rattle.std.specs.Prelude.{◌≡◌, ◌≤◌, ◌++◌, ◌+ℤ◌, ◌≤ℤ◌, ◌*◌, pos, Err, length, OnOk, IfOk};
+ghost use Rattle.std.specs.Prelude.{◌≡◌, ◌≤◌, ◌++◌, ◌+ℤ◌, ◌≤ℤ◌, ◌*◌, pos, Err, OnOk, IfOk};
 ghost use Rattle.jiff_core.specs.Calendar.{IsWithin};
 ghost use Rattle.desk_terms.specs.declared.terms.Terms.{Terms};
 ghost use Rattle.flow_terms.specs.declared.limits.TheConstants.{MOST_AMOUNT, MOST_FLOWS};
+ghost use Rattle.flow_terms.specs.Ranges.{AreFlowsInRange};
 ghost use Rattle.market_file.specs.Standing.{AreLimited};
 ghost use Rattle.bond_yield.specs.Yield.{yield_of};
 ghost use Rattle.yield_run.specs.Lines as text;
@@ -78,7 +79,7 @@ fn bond_lines(
     settle: Day,
     clean: Amount,
 ) -> Result<Vec<u8>, AllocError>
-    requires count { length flows.now.flows ≤ MOST_FLOWS }
+    requires range { AreFlowsInRange flows.now }
     requires price { IsWithin most_price clean }
     ensures { IfOk result (λ lines. lines.items ≡ text.bond_text name.now flows.now.flows settle clean) }
 {
@@ -97,7 +98,7 @@ fn fault_lines(
     clean: Amount,
     fault: YieldFault,
 ) -> Result<Vec<u8>, AllocError>
-    requires count { length flows.now.flows ≤ MOST_FLOWS }
+    requires range { AreFlowsInRange flows.now }
     requires price { IsWithin most_price clean }
     requires fault { yield_of flows.now.flows settle clean ≡ Err fault }
     ensures { IfOk result (λ lines. lines.items ≡ text.bond_text name.now flows.now.flows settle clean) }

@@ -1,5 +1,6 @@
 // The whole of a file.
-ghost use Rattle.std.specs.Prelude.{◌≡◌};
+ghost use Rattle.std.specs.Prelude.{◌≡◌, IfSome, IsErrOf, IsSome};
+ghost use Rattle.desk_edge.specs.Shelf.{file_at, files_of};
 ghost use Rattle.market_loader.specs.Ends.{file_end};
 ghost use Rattle.market_loader.specs.Files.{file_of, file_calls};
 ghost use Rattle.market_loader.specs.Reads.{Reads, seen};
@@ -13,9 +14,12 @@ use std::alloc::Global;
 /// `text_limits::MOST_BYTES` bytes, a call of the shelf failed, or memory ran out. The shelf's counts say which calls were
 /// made.
 pub fn load_file<H: Shelf>(alloc: Global, path: &str, shelf: &mut H) -> Result<Vec<u8>, FileFault>
-    ensures { Reads file_end (λ text. text.items) (file_of path.now) (file_calls path.now)
+    ensures reads { Reads file_end (λ text. text.items) (file_of path.now) (file_calls path.now)
         (seen (H.contents shelf.old) (H.faults shelf.old) (H.misses shelf.old) (H.calls shelf.old))
         (seen (H.contents shelf.new) (H.faults shelf.new) (H.misses shelf.new) (H.calls shelf.new)) result }
+    // Memory is wanted for a file that is there, and for no other.
+    ensures there { IfSome (files_of (H.contents shelf.old))
+        (λ files. IsErrOf result FileFault.NoMemory → IsSome (file_at files path.now)) }
 {
     let mut text = Vec::new(alloc);
     match read_whole(shelf, path, &mut text) {

@@ -2,3 +2,4 @@ pub mod Asking
 pub mod Early
 pub mod Opening
 pub mod Wanted
+pub mod There

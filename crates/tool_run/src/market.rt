@@ -1,6 +1,7 @@
 // The market of a tool.
-ghost use Rattle.std.specs.Prelude.{IfOk, IfErr};
+ghost use Rattle.std.specs.Prelude.{IfOk, IfErr, IfSome, IsErrOf, IsSome};
 ghost use Rattle.std.specs.List.{All};
+ghost use Rattle.desk_edge.specs.Shelf.{file_at, files_of};
 ghost use Rattle.desk_terms.specs.Reading.{AreInRange};
 ghost use Rattle.market_file.specs.Standing.{IsReady, AreLimited};
 ghost use Rattle.market_loader.specs.Market.{market_calls};
@@ -32,6 +33,9 @@ pub fn open_market<H: Shelf>(
     ensures reads { Reads status_end market_in (market_at path.now) (market_calls path.now)
         (seen (H.contents shelf.old) (H.faults shelf.old) (H.misses shelf.old) (H.calls shelf.old))
         (seen (H.contents shelf.new) (H.faults shelf.new) (H.misses shelf.new) (H.calls shelf.new)) result }
+    // Memory is wanted only where the market's file is there.
+    ensures there { IfSome (files_of (H.contents shelf.old))
+        (λ files. IsErrOf result MarketStatus.NoMemory → IsSome (file_at files path.now)) }
     ensures ready { IfOk result (λ market. IsReady market.names market.made.items) }
     ensures ranged { IfOk result (λ market. All (λ entry. AreInRange entry.1) market.made.items) }
     ensures limited { IfOk result (λ market. All (λ entry. AreLimited entry.1) market.made.items) }

@@ -2,7 +2,7 @@
 //! scenario are done and then what is asked for is asked; and the lines of a whole grid of them. And a script whose
 //! lines are let go, as a graph wants it.
 //!
-//! `one_scenario`, `MoneyList`; `grid_lines`; `play_all`.
+//! `check_shape` of grid_shape; `one_scenario`, `MoneyList`; `grid_lines`; `play_all`.
 #![tactic(auto)]
 
 mod asking;
@@ -13,5 +13,6 @@ mod playing;
 mod scenario;
 
 pub use grid::grid_lines;
+pub use grid_shape::check_shape;
 pub use playing::play_all;
 pub use scenario::{MoneyList, one_scenario};

@@ -1,5 +1,5 @@
 -- A listing is closed, has nothing else, and has each object once.
-use Rattle.std.proofs.Common.{◌≡◌, ◌⊎◌, inl, inr, ℕ, zero, suc, ◌<◌, Bool, true, false, List, [], ◌∷◌, ◌++◌, length, refl, sym, ◌∙◌, subst, arith}
+use Rattle.std.proofs.Common.{◌≡◌, ◌⊎◌, inl, inr, ℕ, zero, suc, ◌<◌, Bool, true, false, List, [], ◌∷◌, ◌++◌, length, refl, sym, ◌∙◌, ap, subst, arith}
 use Rattle.std.specs.Prelude.{◌==◌, if◌then◌else◌}
 use Rattle.std.proofs.lemmas.Bool.{eqb-true, eq-eqb, false≢true}
 use Rattle.walks.specs.Walk.{Among, IsOnce, Below, Falls}
@@ -9,7 +9,7 @@ use Rattle.observer_graph.proofs.Members.{among_left, among_right, among_cases, 
 use Rattle.desk_model.specs.Market.{edges}
 use Rattle.desk_model.specs.State.{State}
 use Rattle.desk_model.proofs.Bounds.{ranks_of}
-use Rattle.why_model.specs.Laws.{ListingsAreWhole}
+use Rattle.why_model.specs.Laws.{ListingsAreWhole, ListingsHaveNoBound}
 use Rattle.why_model.specs.Listing.{shows_last, rests_on, is_listed, each_put, with_object, listing}
 
 -- what is listed is among the list, and what is not is not
@@ -180,6 +180,25 @@ module _ (reads : ℕ → List ℕ) where
         | inr below ↦ closed_below (with_object reads n [] o) closed x o grown.1 below
       ]
 
+-- how long paths may be does not matter, once it is above the ranks
+each_same : (put put2 : List ℕ → ℕ → List ℕ) (list os : List ℕ) → ((l : List ℕ) (o : ℕ) → Among o os → put l o ≡ put2 l o)
+    → each_put put list os ≡ each_put put2 list os
+each_same put put2 list [] same = refl
+each_same put put2 list (o ∷ os) same =
+    ap (λ (l : List ℕ). each_put put l os) (same list o (inl refl))
+    ∙ each_same put put2 (put2 list o) os (λ l x among. same l x (inr among))
+
+module _ (reads : ℕ → List ℕ) (rank : ℕ → ℕ) (falls : Falls reads rank) where
+  pub with_steps : (n k : ℕ) (list : List ℕ) (o : ℕ) → rank o < n → rank o < k
+      → with_object reads n list o ≡ with_object reads k list o
+  unfolding with_object
+  with_steps zero k list o p q = absurd (omega arith)
+  with_steps (suc n) zero list o p q = absurd (omega arith)
+  with_steps (suc n) (suc k) list o p q =
+      ap (λ (l : List ℕ). if is_listed list o then list else l)
+      (each_same (with_object reads n) (with_object reads k) (list ++ o ∷ []) (reads o)
+      (λ l x among. let fall = falls o x among in with_steps n k l x (omega arith) (omega arith)))
+
 -- ---- an answer
 
 fewer : (b : Bool) (x : ℕ) (xs : List ℕ) → Among x (if b then [] else xs) → Among x xs
@@ -198,3 +217,10 @@ whole s links o =
       only = listing_only (rests_on s) (suc (length s.market.objects)) o;
       every = λ x. listing_every (rests_on s) r.0 (rests_fall s r.0 r.1) (suc (length s.market.objects)) o x (r.2 o);
     }
+
+pub no_bound : ListingsHaveNoBound
+unfolding listing
+no_bound s links n o more =
+    let r = ranks_of s.market links in
+    let low = r.2 o in
+    with_steps (rests_on s) r.0 (rests_fall s r.0 r.1) n (suc (length s.market.objects)) [] o (omega arith) low

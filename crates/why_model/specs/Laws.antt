@@ -1,5 +1,5 @@
 -- What is proved of an answer.
-use Rattle.std.specs.Prelude.{◌≡◌, ◌⊎◌, ◌==◌, ℕ, ◌^◌, ℤ, true, false, List, length, Option, Some, Ok}
+use Rattle.std.specs.Prelude.{◌≡◌, ◌⊎◌, ◌==◌, ◌<◌, ℕ, ◌^◌, ℤ, true, false, List, [], length, Option, Some, Ok}
 use Rattle.walks.specs.Walk.{Among, IsOnce, Below}
 use Rattle.fixed_amount.specs.Rounding.{closest}
 use Rattle.desk_terms.specs.declared.terms.Part.{Part}
@@ -16,7 +16,7 @@ use Rattle.desk_model.specs.Fresh.{inputs_by, priced_by}
 use Rattle.desk_model.specs.State.{State, least_source, mark_of, shows}
 use Rattle.desk_model.specs.Links.{IsLinked, IsWhole, is_lazy_at}
 use Rattle.desk_model.specs.Visit.{asked}
-use Rattle.why_model.specs.Listing.{shows_last, rests_on, listing}
+use Rattle.why_model.specs.Listing.{shows_last, rests_on, with_object, listing}
 use Rattle.why_model.specs.Workings.{part_products, sum_of_parts, FlowProduct, flows_at, sum_of_flows}
 
 -- ---- which objects stand in an answer
@@ -33,6 +33,11 @@ pub record IsListing (s : State) (o : ℕ) : Type 0 where
 
 abbrev pub ListingsAreWhole : Type 0
 ListingsAreWhole = (s : State) → IsLinked s.market → (o : ℕ) → IsListing s o
+
+-- how long paths may be does not matter, once it is above the number of objects
+abbrev pub ListingsHaveNoBound : Type 0
+ListingsHaveNoBound = (s : State) → IsLinked s.market → (n o : ℕ) → length s.market.objects < n
+    → with_object (rests_on s) n [] o ≡ listing s o
 
 -- ---- what a listed object shows
 

@@ -1,10 +1,12 @@
 // Laws of the definitions, each the clause of a function with nothing to do.
-ghost use Rattle.why_model.specs.Laws.{AsksShowAlike, ListingsAreWhole, NeedsAreListed, ShownIsWorkedOut, TheProductsAddUp, TheSumIsThePrice};
+ghost use Rattle.why_model.specs.Laws.{AsksShowAlike, ListingsAreWhole, ListingsHaveNoBound, NeedsAreListed, ShownIsWorkedOut, TheProductsAddUp, TheSumIsThePrice};
 
 /// Law: each object of an answer stands there once, and all that the price rests on stands there, and nothing else: the
-/// objects beneath it by edges, but for those that lie beneath frozen or late ones alone.
+/// objects beneath it by edges, but for those that lie beneath frozen or late ones alone. How long paths may be does not
+/// matter, once it is above the number of objects.
 pub fn listing_law()
-    ensures { ListingsAreWhole }
+    ensures whole { ListingsAreWhole }
+    ensures bound { ListingsHaveNoBound }
 {}
 
 /// Law: a priced object of an answer that is neither frozen nor late shows its price over what is shown of the objects that

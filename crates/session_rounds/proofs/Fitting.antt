@@ -101,22 +101,24 @@ fits_opened r nodes new fits names objects runs known = record {
 no_names : (view : RoundsView) (nodes : ℕ) → grown 0 nodes view ≡ record view { nodes = max view.nodes nodes }
 no_names view nodes =
     let e : 0 - length view.round.tallies ≡ 0 = omega arith in
+    let same : max view.names 0 ≡ view.names = omega arith in
     λ i. record {
       round = record view.round { tallies = (ap (λ (n : ℕ). view.round.tallies ++ replicate n blank) e ∙ append-nil view.round.tallies) i };
       nodes = max view.nodes nodes;
+      names = same i;
     }
 
-pub grown_same : (round : Round) (old nodes : ℕ) (new : RoundsView) → new ≡ grown 0 nodes (record { round = round; nodes = old })
-    → (new.round ≡ round) × (new.nodes ≡ max old nodes)
-grown_same round old nodes new is =
-    let same = is ∙ no_names (record { round = round; nodes = old }) nodes in
+pub grown_same : (old new : RoundsView) (nodes : ℕ) → new ≡ grown 0 nodes old
+    → (new.round ≡ old.round) × (new.nodes ≡ max old.nodes nodes)
+grown_same old new nodes is =
+    let same = is ∙ no_names old nodes in
     (ap (λ (v : RoundsView). v.round) same, ap (λ (v : RoundsView). v.nodes) same)
 
 -- a session with watchers begins
 grown_blank : (names : ℕ) → (replicate 0 blank) ++ replicate (names - length (replicate 0 blank)) blank ≡ replicate names blank
 grown_blank names = let e : names - 0 ≡ names = omega arith in ap (λ (n : ℕ). replicate n blank) e
 
-pub begins : (names nodes : ℕ) (new : RoundsView) → new ≡ grown names nodes (record { round = no_round 0; nodes = 0 })
+pub begins : (names nodes : ℕ) (new : RoundsView) → new ≡ grown names nodes (record { round = no_round 0; nodes = 0; names = 0 })
     → (new.round ≡ no_round names) × (new.nodes ≡ max 0 nodes)
 begins names nodes new is = (
   ap (λ (v : RoundsView). v.round) is ∙ ap (λ (l : List Tally). let r : Round = record { due = []; tallies = l } in r) (grown_blank names),

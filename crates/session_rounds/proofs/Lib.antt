@@ -2,6 +2,7 @@ mod Fitting
 pub mod Going
 mod Hearing
 mod Known
+mod Larger
 mod Passing
 mod Plays
 mod Taken

@@ -5,6 +5,7 @@
 
 mod acting;
 mod changing;
+mod growing;
 mod idle;
 mod playing;
 mod session;

@@ -6,7 +6,7 @@ use Rattle.std.proofs.lemmas.List.{get_or-set_same, get_or-set_other}
 use Rattle.std.proofs.lemmas.Option.{slice_get_cases}
 use Rattle.watch_rounds.specs.declared.due.DueWatcher.{DueWatcher}
 use Rattle.watch_rounds.specs.declared.tally.Tally.{Tally}
-use Rattle.watch_rounds.specs.Round.{Round, RoundsView, IsRound, MayRun, blank, one_more, no_round, tally_at, with_notice, with_run, gone}
+use Rattle.watch_rounds.specs.Round.{Round, RoundsView, IsRound, blank, one_more, no_round, tally_at, with_notice, with_run, gone}
 use Rattle.watch_rounds.specs.Course.{Happening, Tell, Start, Leave, after, MayHappen, AreACourse, starts, is_of, all_starts, AtMostEightRuns}
 use Rattle.watch_rounds.proofs.Stays.{view_of, round_empty, round_with, round_without, round_over, round_after, may_run, ran_is, told_due, told_first, told_again}
 use Rattle.watch_rounds.proofs.Tallies.{read_blank}

@@ -10,13 +10,16 @@ use Rattle.watch_rounds.specs.declared.tally.Tally.{Tally}
 use Rattle.watch_rounds.specs.declared.notice.Notice.{Notice}
 use Rattle.watch_rounds.specs.declared.notice.Notice.TheVariants as notices
 use Rattle.watch_rounds.specs.Due.{with_due, without, AreAll, AreUnlike, IsOnly}
-use Rattle.watch_rounds.specs.Round.{Round, RoundsView, IsRound, MayRun, blank, one_more, with_run, run_of, with_notice, with_notice_as, notice_of, tally_at, watcher_at, watcher_of, runs_left, left_in}
+use Rattle.watch_rounds.specs.Round.{Round, RoundsView, IsRound, MayRunIn, blank, one_more, with_run, run_of, with_notice, with_notice_as, notice_of, tally_at, watcher_at, watcher_of, runs_left, left_in}
 use Rattle.std.proofs.lemmas.Option.{slice_get_read, slice_get_within}
 use Rattle.watch_rounds.proofs.Places.{all_map, all_both, all_at, all_with, all_without, all_removed, all_filtered, order_without, order_filtered, order_removed, rising_with, unlike_with, removed_unlike, rising_room}
 use Rattle.watch_rounds.proofs.Tallies.{tally_grown}
 
+abbrev pub round_in : List DueWatcher → List Tally → Round
+round_in due tallies = record { due = due; tallies = tallies }
+
 abbrev pub view_of : List DueWatcher → List Tally → ℕ → RoundsView
-view_of due tallies nodes = record { round = record { due = due; tallies = tallies }; nodes = nodes }
+view_of due tallies nodes = record { round = round_in due tallies; nodes = nodes; names = 0 }
 
 pub round_empty : (n nodes : ℕ) → ((name : ℕ) → get_or (replicate n blank) name blank ≡ blank)
     → IsRound (view_of [] (replicate n blank) nodes)
@@ -32,7 +35,7 @@ pub round_grown : (due : List DueWatcher) (tallies : List Tally) (nodes more_nod
 round_grown due tallies nodes more_nodes more le round = record {
   rising = round.rising;
   unlike = round.unlike;
-  due = all_map (MayRun (view_of due tallies nodes)) (MayRun (view_of due (tallies ++ replicate more blank) more_nodes))
+  due = all_map (MayRunIn (round_in due tallies) nodes) (MayRunIn (round_in due (tallies ++ replicate more blank)) more_nodes)
       (λ one may. (
         (let low = may.0 in omega arith),
         (let low = may.1 in let long = length-append tallies (replicate more blank) in omega arith),
@@ -42,12 +45,12 @@ round_grown due tallies nodes more_nodes more le round = record {
 }
 
 pub round_with : (due : List DueWatcher) (tallies : List Tally) (nodes : ℕ) (entry : DueWatcher)
-    → IsOnly entry.watcher entry.name due → MayRun (view_of due tallies nodes) entry
+    → IsOnly entry.watcher entry.name due → MayRunIn (round_in due tallies) nodes entry
     → IsRound (view_of due tallies nodes) → IsRound (view_of (with_due entry due) tallies nodes)
 round_with due tallies nodes entry only may round = record {
   rising = rising_with entry due round.rising;
   unlike = unlike_with entry due round.rising only round.unlike;
-  due = all_with (MayRun (view_of due tallies nodes)) entry due round.due may;
+  due = all_with (MayRunIn (round_in due tallies) nodes) entry due round.due may;
   most = round.most;
 }
 
@@ -56,7 +59,7 @@ pub round_without : (due : List DueWatcher) (tallies : List Tally) (nodes watche
 round_without due tallies nodes watcher round = record {
   rising = order_without (λ one later. one.watcher < later.watcher) watcher due round.rising;
   unlike = order_without (λ one later. one.name ≢ later.name) watcher due round.unlike;
-  due = all_without (MayRun (view_of due tallies nodes)) watcher due round.due;
+  due = all_without (MayRunIn (round_in due tallies) nodes) watcher due round.due;
   most = round.most;
 }
 
@@ -65,7 +68,7 @@ pub round_filtered : (due : List DueWatcher) (tallies : List Tally) (nodes : ℕ
 round_filtered due tallies nodes test round = record {
   rising = order_filtered (λ one later. one.watcher < later.watcher) test due round.rising;
   unlike = order_filtered (λ one later. one.name ≢ later.name) test due round.unlike;
-  due = all_filtered (MayRun (view_of due tallies nodes)) (MayRun (view_of due tallies nodes)) test (λ one may e. may) due round.due;
+  due = all_filtered (MayRunIn (round_in due tallies) nodes) (MayRunIn (round_in due tallies) nodes) test (λ one may e. may) due round.due;
   most = round.most;
 }
 
@@ -75,7 +78,7 @@ pub round_roomier : (due : List DueWatcher) (tallies : List Tally) (nodes more :
 round_roomier due tallies nodes more le round = record {
   rising = round.rising;
   unlike = round.unlike;
-  due = all_map (MayRun (view_of due tallies nodes)) (MayRun (view_of due tallies more))
+  due = all_map (MayRunIn (round_in due tallies) nodes) (MayRunIn (round_in due tallies) more)
       (λ one may. ((let low = may.0 in omega arith), may.1, may.2)) due round.due;
   most = round.most;
 }
@@ -121,8 +124,8 @@ pub round_over : (due : List DueWatcher) (tallies : List Tally) (nodes name : �
 round_over due tallies nodes name low round = record {
   rising = round.rising;
   unlike = round.unlike;
-  due = all_map (MayRun (view_of due tallies nodes))
-      (MayRun (view_of due (slice_set tallies name (record (get_or tallies name blank) { over = true })) nodes))
+  due = all_map (MayRunIn (round_in due tallies) nodes)
+      (MayRunIn (round_in due (slice_set tallies name (record (get_or tallies name blank) { over = true }))) nodes)
       (λ one may. (
         may.0,
         (let below = may.1 in
@@ -152,9 +155,9 @@ pub round_ran : (due : List DueWatcher) (tallies : List Tally) (nodes at : ℕ) 
 round_ran due tallies nodes at d low round = record {
   rising = order_removed (λ one later. one.watcher < later.watcher) due at low round.rising;
   unlike = order_removed (λ one later. one.name ≢ later.name) due at low round.unlike;
-  due = all_both (MayRun (view_of due tallies nodes)) (λ one. one.name ≢ (get_or due at d).name)
-      (MayRun (view_of (remove due at)
-      (slice_set tallies (get_or due at d).name (one_more (get_or tallies (get_or due at d).name blank))) nodes))
+  due = all_both (MayRunIn (round_in due tallies) nodes) (λ one. one.name ≢ (get_or due at d).name)
+      (MayRunIn (round_in (remove due at)
+      (slice_set tallies (get_or due at d).name (one_more (get_or tallies (get_or due at d).name blank)))) nodes)
       (λ one may ne. (
         may.0,
         (let below = may.1 in let long = length-set tallies (get_or due at d).name
@@ -162,7 +165,7 @@ round_ran due tallies nodes at d low round = record {
         rw (tally_other tallies (get_or due at d).name one.name (one_more (get_or tallies (get_or due at d).name blank))
             ne) may.2,
       ))
-      (remove due at) (all_removed (MayRun (view_of due tallies nodes)) due at low round.due)
+      (remove due at) (all_removed (MayRunIn (round_in due tallies) nodes) due at low round.due)
       (removed_unlike due at d low round.unlike);
   most = λ other. elim (cases_eq other (get_or due at d).name) [
     | inl same ↦ rw (
@@ -175,14 +178,14 @@ round_ran due tallies nodes at d low round = record {
   ];
 }
   where
-    may : MayRun (view_of due tallies nodes) (get_or due at d)
-    may = all_at (MayRun (view_of due tallies nodes)) due at d round.due low
+    may : MayRunIn (round_in due tallies) nodes (get_or due at d)
+    may = all_at (MayRunIn (round_in due tallies) nodes) due at d round.due low
 
 pub may_run : (due : List DueWatcher) (tallies : List Tally) (nodes at : ℕ) (entry : DueWatcher) → at < length due
-    → entry ≡ get_or due at entry → IsRound (view_of due tallies nodes) → MayRun (view_of due tallies nodes) entry
+    → entry ≡ get_or due at entry → IsRound (view_of due tallies nodes) → MayRunIn (round_in due tallies) nodes entry
 may_run due tallies nodes at entry low is round =
-    subst (MayRun (view_of due tallies nodes)) (sym is)
-    (all_at (MayRun (view_of due tallies nodes)) due at entry round.due low)
+    subst (MayRunIn (round_in due tallies) nodes) (sym is)
+    (all_at (MayRunIn (round_in due tallies) nodes) due at entry round.due low)
 
 pub round_after : (due : List DueWatcher) (tallies : List Tally) (nodes at : ℕ) (entry : DueWatcher) → at < length due
     → entry ≡ get_or due at entry → IsRound (view_of due tallies nodes)
@@ -257,13 +260,13 @@ pub room_with : (due : List DueWatcher) (tallies : List Tally) (nodes : ℕ) (en
     → IsRound (view_of due tallies nodes) → length (with_due entry due) ≤ nodes
 room_with due tallies nodes entry low round = rising_room nodes (with_due entry due)
     (all_with (λ one. one.watcher < nodes) entry due
-    (all_map (MayRun (view_of due tallies nodes)) (λ one. one.watcher < nodes) (λ one may. may.0) due round.due) low)
+    (all_map (MayRunIn (round_in due tallies) nodes) (λ one. one.watcher < nodes) (λ one may. may.0) due round.due) low)
     (rising_with entry due round.rising)
 
 pub room_of : (due : List DueWatcher) (tallies : List Tally) (nodes : ℕ) → IsRound (view_of due tallies nodes)
     → length due ≤ nodes
 room_of due tallies nodes round = rising_room nodes due
-    (all_map (MayRun (view_of due tallies nodes)) (λ one. one.watcher < nodes) (λ one may. may.0) due round.due)
+    (all_map (MayRunIn (round_in due tallies) nodes) (λ one. one.watcher < nodes) (λ one may. may.0) due round.due)
     round.rising
 
 -- what a picker chose is a position

@@ -6,7 +6,7 @@ use Rattle.watch_rounds.specs.declared.picker.Order.{Order}
 use Rattle.watch_rounds.specs.declared.picker.Order.TheVariants.{First, Last, Seed}
 use Rattle.watch_rounds.specs.Due.{with_due, without}
 use Rattle.watch_rounds.specs.Order.{order_at, order_after}
-use Rattle.watch_rounds.specs.Round.{Round, RoundsView, no_round, begun, grown, gone, notice_of, tally_at, watcher_at, with_notice, with_run, runs_left}
+use Rattle.watch_rounds.specs.Round.{Round, RoundsView, no_round, begun, grown, with_name, gone, notice_of, tally_at, watcher_at, with_notice, with_run, runs_left}
 
 -- the positions that an order chooses, one after another, among so many each time
 abbrev pub choices : Order → List ℕ → List ℕ
@@ -59,7 +59,9 @@ pub record AreEightRuns : Type 0 where
   pub same : with_notice 3 0 (with_notice 3 0 eight_runs) ≡ with_notice 3 0 eight_runs
   pub other : notice_of (tally_at (with_notice 3 0 eight_runs) 1) ≡ Due
   pub left : runs_left eight_runs ≡ 8
-  pub next_round : begun (record { round = with_notice 4 1 eight_runs; nodes = 9 })
-      ≡ record { round = no_round 2; nodes = 9 }
-  pub kept : (grown 3 5 (record { round = eight_runs; nodes = 9 })).nodes ≡ 9
-  pub one_more : runs_left (grown 3 5 (record { round = eight_runs; nodes = 9 })).round ≡ 16
+  pub next_round : begun (record { round = with_notice 4 1 eight_runs; nodes = 9; names = 2 })
+      ≡ record { round = no_round 2; nodes = 9; names = 2 }
+  pub kept : (grown 3 5 (record { round = eight_runs; nodes = 9; names = 2 })).nodes ≡ 9
+  pub one_more : runs_left (grown 3 5 (record { round = eight_runs; nodes = 9; names = 2 })).round ≡ 16
+  pub behind : notice_of (tally_at (with_name eight_runs) 2) ≡ Due
+  pub before : notice_of (tally_at (with_name eight_runs) 0) ≡ OverFirst

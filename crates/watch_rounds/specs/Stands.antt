@@ -4,7 +4,7 @@ use Rattle.std.specs.List.{sum_by}
 use Rattle.walks.specs.Walk.{Among}
 use Rattle.watch_rounds.specs.declared.due.DueWatcher.{DueWatcher}
 use Rattle.watch_rounds.specs.declared.tally.Tally.{Tally}
-use Rattle.watch_rounds.specs.Round.{IsRound, blank}
+use Rattle.watch_rounds.specs.Round.{IsRoundOf, blank}
 
 -- 1 where no run of the name began
 abbrev pub unrun : Tally → ℕ
@@ -18,6 +18,6 @@ pub record IsTracked (tallies : List Tally) (names : List ℕ) : Type 0 where
 
 -- the names of which a run began are known, and each number of a watcher fits 32 bits
 pub record Stands (due : List DueWatcher) (tallies : List Tally) (names : List ℕ) (nodes : ℕ) : Type 0 where
-  pub round : IsRound (record { round = record { due = due; tallies = tallies }; nodes = nodes })
+  pub round : IsRoundOf (record { due = due; tallies = tallies }) nodes
   pub tracked : IsTracked tallies names
   pub limit : nodes < 2 ^ 32

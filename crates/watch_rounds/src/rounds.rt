@@ -1,7 +1,7 @@
 // The due watchers of a round, and the runs of each name.
 ghost use Rattle.std.specs.Prelude.{◌≡◌, ◌+◌, ◌<◌, ◌≤◌, ◌*◌, ◌==◌, length, OnOk, OnErr, OnSome, if◌then◌else◌, ◌++◌, replicate, vec_capacity, slice_index_or, slice_set, max};
 ghost use Rattle.watch_rounds.specs.Due.{IsOnly};
-ghost use Rattle.watch_rounds.specs.Round.{no_rounds, grown, begun, tally_at, with_notice, notice_of, watcher_at, with_run, gone, runs_left, IsRound, blank, one_more};
+ghost use Rattle.watch_rounds.specs.Round.{no_rounds, grown, roomy, with_name, begun, tally_at, with_notice, notice_of, watcher_at, with_run, gone, runs_left, IsRound, blank, one_more};
 ghost use Rattle.watch_rounds.specs.Stands.{IsTracked};
 
 use crate::due::{DueWatcher, put_in, take_out};
@@ -21,6 +21,8 @@ pub struct Rounds {
     ran: Vec<NameId>,
     // Watchers below this number have room.
     nodes: usize,
+    // So many names have room.
+    names: usize,
 }
 
 impl Model for Rounds {
@@ -30,10 +32,15 @@ impl Model for Rounds {
 
     ghost Value = { RoundsView };
 
-    ghost view = { λ r. record { round = record { due = r.due.items; tallies = r.tallies.items }; nodes = r.nodes } };
+    ghost view = { λ r. record {
+      round = record { due = r.due.items; tallies = r.tallies.items };
+      nodes = r.nodes;
+      names = r.names;
+    } };
 
     ghost invariant = { λ r. Stands r.due.items r.tallies.items r.ran.items r.nodes
-        × (r.nodes ≤ vec_capacity r.due) × (length r.tallies.items ≤ vec_capacity r.ran) };
+        × (r.nodes ≤ vec_capacity r.due) × (length r.tallies.items ≤ r.names)
+        × (r.names ≤ vec_capacity r.tallies) × (r.names ≤ vec_capacity r.ran) };
 }
 
 impl Rounds {
@@ -46,24 +53,45 @@ impl Rounds {
             tallies: Vec::new(alloc),
             ran: Vec::new(alloc),
             nodes: 0,
+            names: 0,
         }
     }
 
-    /// Finds the room for so many names, and for the watchers below this number. It lowers neither. Where memory is
-    /// wanting, nothing is changed. No other call takes memory.
+    /// Finds the room for so many names, which are counted from then on, and for the watchers below this number. It lowers
+    /// neither. Where memory is wanting, nothing is changed. No other call but `reserve` takes memory.
     pub fn grow(&mut self, names: u32, nodes: u32) -> Result<(), AllocError>
         ensures ok { OnOk result (self.new ≡ grown names nodes self.old) }
         ensures err { OnErr result (self.new ≡ self.old) }
     {
         let more = (names as usize).saturating_sub(self.tallies.len());
         let nodes = greater(self.nodes, nodes as usize);
-        self.tallies.reserve(more)?;
-        self.ran
-            .reserve(self.tallies.len() + more - self.ran.len())?;
+        let names = greater(self.names, names as usize);
+        find_room(&mut self.tallies, &mut self.ran, names)?;
         self.due.reserve(nodes - self.due.len())?;
         self.nodes = nodes;
+        self.names = names;
         extend(&mut self.tallies, more);
         Ok(())
+    }
+
+    /// Finds the room for so many names, none of which is counted before `count_name`. Where memory is wanting, nothing is
+    /// changed.
+    pub fn reserve(&mut self, names: u32) -> Result<(), AllocError>
+        ensures ok { OnOk result (self.new ≡ roomy names self.old) }
+        ensures err { OnErr result (self.new ≡ self.old) }
+    {
+        let names = greater(self.names, names as usize);
+        find_room(&mut self.tallies, &mut self.ran, names)?;
+        self.names = names;
+        Ok(())
+    }
+
+    /// A name more is counted, of which no run began.
+    pub fn count_name(&mut self)
+        requires room { length self.old.round.tallies < self.old.names }
+        ensures counted { self.new ≡ record self.old { round = with_name self.old.round } }
+    {
+        self.tallies.push_reserved(Tally::default());
     }
 
     /// The due watchers, by creation.
@@ -152,6 +180,7 @@ fn count_run(tallies: &mut Vec<Tally>, ran: &mut Vec<NameId>, name: NameId)
         ≡ slice_set tallies.old.items name (one_more (slice_index_or tallies.old.items name blank)) }
     ensures tracks { IsTracked tallies.new.items ran.new.items }
     ensures room { vec_capacity ran.new ≡ vec_capacity ran.old }
+    ensures counts { vec_capacity tallies.new ≡ vec_capacity tallies.old }
 {
     let tally = tallies[name.place()];
     if tally.runs == 0 {
@@ -170,10 +199,28 @@ fn greater(one: usize, other: usize) -> usize
     if one < other { other } else { one }
 }
 
+// Finds the room for so many names.
+fn find_room(
+    tallies: &mut Vec<Tally>,
+    ran: &mut Vec<NameId>,
+    names: usize,
+) -> Result<(), AllocError>
+    requires tallies { length tallies.old.items ≤ names }
+    requires ran { length ran.old.items ≤ names }
+    ensures tallies { tallies.new.items ≡ tallies.old.items }
+    ensures ran { ran.new.items ≡ ran.old.items }
+    ensures kept { (vec_capacity tallies.old ≤ vec_capacity tallies.new) × (vec_capacity ran.old ≤ vec_capacity ran.new) }
+    ensures room { OnOk result ((names ≤ vec_capacity tallies.new) × (names ≤ vec_capacity ran.new)) }
+{
+    tallies.reserve(names - tallies.len())?;
+    ran.reserve(names - ran.len())
+}
+
 // So many names more, none of which has run.
 fn extend(tallies: &mut Vec<Tally>, more: usize)
     requires room { length tallies.old.items + more ≤ vec_capacity tallies.old }
-    ensures { tallies.new.items ≡ tallies.old.items ++ replicate more blank }
+    ensures items { tallies.new.items ≡ tallies.old.items ++ replicate more blank }
+    ensures room { vec_capacity tallies.new ≡ vec_capacity tallies.old }
 {
     for _ in 0..more {
         tallies.push_reserved(Tally::default());
@@ -183,7 +230,8 @@ fn extend(tallies: &mut Vec<Tally>, more: usize)
 // None of these names has run.
 fn clear_all(tallies: &mut Vec<Tally>, names: &[NameId])
     requires { IsTracked tallies.old.items names.now }
-    ensures { tallies.new.items ≡ replicate (length tallies.old.items) blank }
+    ensures items { tallies.new.items ≡ replicate (length tallies.old.items) blank }
+    ensures room { vec_capacity tallies.new ≡ vec_capacity tallies.old }
 {
     for name in names {
         tallies[name.place()] = Tally::default();

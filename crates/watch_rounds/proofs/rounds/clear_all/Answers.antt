@@ -24,9 +24,13 @@ loop-name-preserved c =
       left = cleared_more c.loop-name.tallies.items c.args.names.now c.loop-name.name-index c.name-item.result
           c.loop-name-test.true
           c.name-item.is (omega arith) c.loop-name.invariant.left;
+      room = c.loop-name.invariant.room;
     })
 
-pub returns : goal.returns
-returns c = cleared_all c.loop-name.tallies.items c.args.names.now c.loop-name.name-index c.loop-name-test.false
+pub returns-clause-items : goal.returns-clause-items
+returns-clause-items c = cleared_all c.loop-name.tallies.items c.args.names.now c.loop-name.name-index c.loop-name-test.false
     c.loop-name.invariant.left
     ∙ ap (λ (n : ℕ). replicate n blank) c.loop-name.invariant.long
+
+pub returns-clause-room : goal.returns-clause-room
+returns-clause-room c = c.loop-name.invariant.room

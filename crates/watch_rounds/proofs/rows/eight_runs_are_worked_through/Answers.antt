@@ -16,4 +16,6 @@ returns c = record {
   next_round = refl;
   kept = refl;
   one_more = refl;
+  behind = refl;
+  before = refl;
 }

@@ -13,6 +13,8 @@ invariant_of-self c = let stands = c.self.invariant.0 in rw (c.take_out.ensures.
   },
   c.self.invariant.1,
   c.self.invariant.2,
+  c.self.invariant.3,
+  c.self.invariant.4,
 )
 
 pub returns-clause-left : goal.returns-clause-left

@@ -14,7 +14,7 @@ returns-then-is_empty-clause-ran g c =
     let none = sym c.self.inside.due.ok.0 ∙ zero_of c.self.inside.due.len
     (sym c.is_empty.ensures ∙ c.if-is_empty.true) in
     rw (← c.self.view_is)
-    (ap (λ (r : Round). let v : RoundsView = record { round = r; nodes = c.self.inside.nodes } in v)
+    (ap (λ (r : Round). let v : RoundsView = record { round = r; nodes = c.self.inside.nodes; names = c.self.inside.names } in v)
     (sym (nobody_ran round (g.P.Picker.at c.args.picker.now (length c.self.inside.due.items)) none)))
 
 pub returns-then-is_empty-clause-most : goal.returns-then-is_empty-clause-most
@@ -34,7 +34,7 @@ invariant_of-self g c =
     c.pick-at.ensures.at (c.len.ensures ∙ c.self.inside.due.ok.0)
     (ap (λ (k : ℕ). k == 0) c.len.ensures ∙ sym c.is_empty.ensures ∙ c.if-is_empty.false)
     (λ k some. g.met.P.Picker.below c.args.picker.now k some) in
-    rw (c.remove-next.ensures.items, c.remove-next.ensures.capacity, c.count_run.ensures.room) (
+    rw (c.remove-next.ensures.items, c.remove-next.ensures.capacity, c.count_run.ensures.room, c.count_run.ensures.counts) (
       record {
         round = rw (c.count_run.ensures.counted)
             (round_after c.self.inside.due.items c.self.inside.tallies.items c.self.inside.nodes
@@ -48,6 +48,8 @@ invariant_of-self g c =
         length-set c.self.inside.tallies.items c.remove-next.result.name
             (one_more (get_or c.self.inside.tallies.items c.remove-next.result.name blank)),
       ) c.self.invariant.2,
+      c.self.invariant.3,
+      c.self.invariant.4,
     )
 
 pub returns-clause-due : goal.returns-clause-due
@@ -70,7 +72,7 @@ returns-clause-ran g c =
     (ap (λ (k : ℕ). k == 0) c.len.ensures ∙ sym c.is_empty.ensures ∙ c.if-is_empty.false)
     (λ k some. g.met.P.Picker.below c.args.picker.now k some) in
     rw (c.remove-next.ensures.items, c.count_run.ensures.counted, ← c.self.view_is, ← picked.1)
-    (ap (λ (r : Round). let v : RoundsView = record { round = r; nodes = c.self.inside.nodes } in v)
+    (ap (λ (r : Round). let v : RoundsView = record { round = r; nodes = c.self.inside.nodes; names = c.self.inside.names } in v)
     (sym (ran_is round c.pick-at.result c.remove-next.result picked.0 c.remove-next.ensures.value)))
 
 pub returns-clause-left : goal.returns-clause-left

@@ -36,6 +36,8 @@ invariant_of-self c =
       },
       omega arith,
       c.self.invariant.2,
+      c.self.invariant.3,
+      c.self.invariant.4,
     )
 
 pub returns-then-tally-lt-MOST_RUNS-clause-told : goal.returns-then-tally-lt-MOST_RUNS-clause-told
@@ -45,7 +47,7 @@ returns-then-tally-lt-MOST_RUNS-clause-told c =
     c.index-tally.ensures c.place.ensures low in
     let round : Round = record { due = c.self.inside.due.items; tallies = c.self.inside.tallies.items } in
     rw (c.put_in.ensures.items, ← c.self.view_is)
-    (ap (λ (r : Round). let v : RoundsView = record { round = r; nodes = c.self.inside.nodes } in v)
+    (ap (λ (r : Round). let v : RoundsView = record { round = r; nodes = c.self.inside.nodes; names = c.self.inside.names } in v)
     (sym (told_due c.args.watcher c.args.name round c.index-tally.result.now is c.if-tally-lt-MOST_RUNS.true)))
 
 pub returns-then-tally-clause-told : goal.returns-then-tally-clause-told
@@ -55,7 +57,7 @@ returns-then-tally-clause-told c =
     c.index-tally.ensures c.place.ensures low in
     let round : Round = record { due = c.self.inside.due.items; tallies = c.self.inside.tallies.items } in
     rw (← c.self.view_is)
-    (ap (λ (r : Round). let v : RoundsView = record { round = r; nodes = c.self.inside.nodes } in v)
+    (ap (λ (r : Round). let v : RoundsView = record { round = r; nodes = c.self.inside.nodes; names = c.self.inside.names } in v)
     (sym (told_again c.args.watcher c.args.name round c.index-tally.result.now is c.if-tally-lt-MOST_RUNS.false
     c.if-tally.true)))
 
@@ -84,6 +86,8 @@ invariant_of-self-2 c =
       },
       c.self.invariant.1,
       c.self.invariant.2,
+      c.self.invariant.3,
+      c.self.invariant.4,
     )
 
 pub returns-clause-told : goal.returns-clause-told
@@ -93,7 +97,7 @@ returns-clause-told c =
     c.index-tally.ensures c.place.ensures low in
     let round : Round = record { due = c.self.inside.due.items; tallies = c.self.inside.tallies.items } in
     rw (c.place-2.ensures, ← c.self.view_is)
-    (ap (λ (r : Round). let v : RoundsView = record { round = r; nodes = c.self.inside.nodes } in v)
+    (ap (λ (r : Round). let v : RoundsView = record { round = r; nodes = c.self.inside.nodes; names = c.self.inside.names } in v)
     (sym (told_first c.args.watcher c.args.name round c.index-tally.result.now is c.if-tally-lt-MOST_RUNS.false
     c.if-tally.false)))
 

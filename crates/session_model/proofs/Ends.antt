@@ -178,33 +178,44 @@ module _ {P : Type 0} (given : List ℕ) (names actions : ℕ) (m : Meaning P) w
         | inr later ↦ all_given n (run m r).next (run_holds given names actions m r h).0 name later
       ]
 
-  -- THE ROUND of a command
-  round_over : IsPicking m → (r : Running P) (c : Command) → Stands given names actions r.standing → IsOf given names actions c
-      → IsOver m given r c × Stands given names actions (round_of m r c).next.standing
-  unfolding round_of and_then opened
-  round_over picking r c s is = (
-    record {
-      ends = runs_end given names actions m picking (most_runs r) (course_of m (opened r) c).next first.holds (let left = done_left m (opened r) c in
-          let most = eight_each (opened r).round in let long = length-replicate (length r.standing.names) blank in omega arith);
-      each = λ name. let few = each_few (most_runs r) (course_of m (opened r) c).next first.holds name in omega arith;
-      together = few_together given (names_run_in m r c) (all_given (most_runs r) (course_of m (opened r) c).next first.holds)
-          (λ name. let few = each_few (most_runs r) (course_of m (opened r) c).next first.holds name in omega arith);
-    },
-    (runs_hold given names actions m (most_runs r) (course_of m (opened r) c).next first.holds).stands,
-  )
-    where
-      open_holds : Holds given names actions (opened r)
-      open_holds = record {
-        stands = handed_out given names actions r.standing s;
-        counted = length-replicate (length r.standing.names) blank ∙ s.names;
-        nodes = 0;
-        round = round_empty (length r.standing.names) 0 (read_blank (length r.standing.names));
-        due = tt;
-        idle = refl;
-      }
+  -- a round begins
+  open_holds : (r : Running P) → Stands given names actions r.standing → Holds given names actions (opened r)
+  unfolding opened
+  open_holds r s = record {
+    stands = handed_out given names actions r.standing s;
+    counted = length-replicate (length r.standing.names) blank ∙ s.names;
+    nodes = 0;
+    round = round_empty (length r.standing.names) 0 (read_blank (length r.standing.names));
+    due = tt;
+    idle = refl;
+  }
 
-      first : Keeps given names actions (opened r) (course_of m (opened r) c).next
-      first = done_holds given names actions m (opened r) c open_holds is
+  pub first_keeps : (r : Running P) (c : Command) → Stands given names actions r.standing → IsOf given names actions c
+      → Keeps given names actions (opened r) (course_of m (opened r) c).next
+  first_keeps r c s is = done_holds given names actions m (opened r) c (open_holds r s) is
+
+  pub round_ends : IsPicking m → (r : Running P) (c : Command) → Stands given names actions r.standing → IsOf given names actions c
+      → (runs_by m (most_runs r) (course_of m (opened r) c).next).next.round.due ≡ []
+  unfolding opened
+  round_ends picking r c s is =
+      runs_end given names actions m picking (most_runs r) (course_of m (opened r) c).next (first_keeps r c s is).holds (
+      let left = done_left m (opened r) c in
+      let most = eight_each (opened r).round in let long = length-replicate (length r.standing.names) blank in omega arith)
+
+  -- THE ROUND of a command
+  pub round_over : IsPicking m → (r : Running P) (c : Command) → Stands given names actions r.standing → IsOf given names actions c
+      → IsOver m given r c × Stands given names actions (round_of m r c).next.standing
+  unfolding round_of and_then
+  round_over picking r c s is =
+      let first = (first_keeps r c s is).holds in (
+        record {
+          ends = round_ends picking r c s is;
+          each = λ name. let few = each_few (most_runs r) (course_of m (opened r) c).next first name in omega arith;
+          together = few_together given (names_run_in m r c) (all_given (most_runs r) (course_of m (opened r) c).next first)
+              (λ name. let few = each_few (most_runs r) (course_of m (opened r) c).next first name in omega arith);
+        },
+        (runs_hold given names actions m (most_runs r) (course_of m (opened r) c).next first).stands,
+      )
 
   pub all_over : IsPicking m → (commands : List Command) (r : Running P) → Stands given names actions r.standing
       → All (IsOf given names actions) commands → AreOver m given r commands

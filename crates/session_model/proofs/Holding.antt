@@ -74,7 +74,7 @@ module _ (given : List ℕ) (n a : ℕ) where
   commands_at blocks None all = All-nil (IsOf given n a)
   commands_at blocks (Some action) all = block_at blocks action all
 
-  action_at : (p : Standing) (o : Option ℕ) → Stands given n a p → All (IsOf given n a) (action_of p o)
+  pub action_at : (p : Standing) (o : Option ℕ) → Stands given n a p → All (IsOf given n a) (action_of p o)
   action_at p None s = All-nil (IsOf given n a)
   action_at p (Some w) s = commands_at p.actions (slice_index_or p.watching (name_of p w) None) s.blocks
 

@@ -3,9 +3,14 @@ pub mod Afresh
 pub mod Moments
 pub mod Rooms
 pub mod Live
-mod Given
-mod Holding
-mod Names
+pub mod Given
+pub mod Holding
+pub mod Names
 pub mod Ends
 pub mod Shown
 pub mod Quieted
+pub mod Wider
+pub mod WiderRounds
+pub mod WiderSessions
+pub mod Growing
+pub mod Kept

@@ -16,3 +16,4 @@ pub mod Rounds
 pub mod Rows
 pub mod Shows
 pub mod WatchRows
+pub mod Wider

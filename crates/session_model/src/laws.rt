@@ -4,6 +4,7 @@ ghost use Rattle.session_model.specs.Afresh.{AnswersAreOfTheirMoments, PlainSess
 ghost use Rattle.session_model.specs.Ends.{EveryRoundEnds, EightRunsEach, MoreRunsChangeNothing};
 ghost use Rattle.session_model.specs.Moments.{TranscriptsAreOfMoments};
 ghost use Rattle.session_model.specs.Shows.{EverySessionShows};
+ghost use Rattle.session_model.specs.Wider.{LaterChangesNothing};
 
 use watch_rounds::Picker;
 
@@ -38,4 +39,11 @@ pub fn every_round_ends<P: Picker>()
     ensures ends { (calc : Calc) → EveryRoundEnds (record { calc = calc; at = P.at; after = P.after }) }
     ensures eight { EightRunsEach }
     ensures more { (calc : Calc) → MoreRunsChangeNothing (record { calc = calc; at = P.at; after = P.after }) }
+{}
+
+/// What comes later changes nothing, in every session and whoever picks who of the due runs next: of names, a market, actions
+/// and commands, a session writes the same lines and makes the same computations where more names and more actions stand
+/// behind its own.
+pub fn what_comes_later_changes_nothing<P: Picker>()
+    ensures { (calc : Calc) → LaterChangesNothing (record { calc = calc; at = P.at; after = P.after }) }
 {}

@@ -3,7 +3,7 @@
 //!
 //! `Act` with `Change`, `Growth` and `How`, `Place`, `is_quiet`, `MOST_LIVE`, `MOST_NUMBERS`. Words of `specs/`:
 //! `Standing`, `resolve`, `changed`, `pricing_of`, `step`, `Turn`, `turn`, `Running`, `course_of`, `run`, `round_of`, `rounds`, `transcript`,
-//! `calls_of`, `moments`, `names_run`, `IsOver`, `Shows`.
+//! `calls_of`, `moments`, `names_run`, `IsOver`, `Shows`, `learn`, `with_action`, `wider`.
 //! Its functions without a body are laws: their contracts are what is proved.
 #![tactic(auto)]
 
@@ -19,7 +19,7 @@ mod watch_rows;
 pub use act::{Act, Change, Growth, How};
 pub use laws::{
     each_answer_is_of_its_moment, every_round_ends, every_session_shows,
-    without_freezing_and_deferral_all_is_fresh,
+    what_comes_later_changes_nothing, without_freezing_and_deferral_all_is_fresh,
 };
 pub use limits::{MOST_LIVE, MOST_NUMBERS};
 pub use place::Place;

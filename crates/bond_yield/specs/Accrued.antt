@@ -13,7 +13,8 @@ abbrev pub accrued_over : ℤ → ℤ → ℤ → ℤ → ℤ
 accrued_over amount start end settle =
     if int_le start settle && int_lt settle end then share amount start end settle else pos 0
 
--- what has accrued of a flow: only a coupon at a rate has a period (QuantLib's FixedRateCoupon::accruedAmount)
+-- what has accrued of a flow: only a coupon at a rate has a period (this project's profile; QuantLib's
+-- FixedRateCoupon goes by the coupon's day counter, and behind the period counts all of the coupon until it is paid)
 abbrev pub accrued_of : FlowTerm → ℤ → ℤ
 accrued_of (Known paid amount None) settle = pos 0
 accrued_of (Known paid amount (Some (start, end))) settle = accrued_over amount start end settle

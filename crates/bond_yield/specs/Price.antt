@@ -1,5 +1,5 @@
 -- The price of a fixed bond at a yield: simple interest over Act/365 from one payment day to the next, compounded at
--- each (this project's profile; QuantLib's BondFunctions::dirtyPrice with Compounded is near).
+-- each (this project's profile; QuantLib's CashFlows::npv with Simple and Actual365Fixed, but for the rounding).
 use Rattle.std.specs.Prelude.{ℕ, ◌+◌, ◌*◌, ◌/◌, ◌^◌, ℤ, pos, ◌-ℤ◌, unsigned_abs, int_lt, Bool, List, [], ◌∷◌, map}
 use Rattle.std.specs.List.{filter}
 use Rattle.fixed_amount.specs.Rounding.{closest}

@@ -6,7 +6,8 @@
 
 use desk_bench::DeskBench;
 use desk_edge::{Shelf, Sink};
-use grid_run::{GridStatus, NAME, run_grid};
+use grid_run::{NAME, run_grid};
+use script_steps::BlocksStatus;
 use std::alloc::Global;
 use tool_process::{Ended, Program, run_process};
 
@@ -14,18 +15,18 @@ use tool_process::{Ended, Program, run_process};
 struct DeskGrid;
 
 impl Program for DeskGrid {
-    type Status = GridStatus;
+    type Status = BlocksStatus;
 
     fn run<H: Shelf, K: Sink>(
         alloc: Global,
         words: &[String],
         shelf: &mut H,
         out: &mut K,
-    ) -> GridStatus {
+    ) -> BlocksStatus {
         run_grid(alloc, words, shelf, out, &mut DeskBench::new())
     }
 }
 
-fn main(rt: HostRuntime) -> Ended<GridStatus> {
+fn main(rt: HostRuntime) -> Ended<BlocksStatus> {
     run_process::<DeskGrid>(&rt, NAME)
 }

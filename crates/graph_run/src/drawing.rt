@@ -6,13 +6,13 @@ ghost use Rattle.session_model.specs.Rounds.{calls_of};
 ghost use Rattle.grid_model.specs.Scenario.{ordered, after};
 ghost use Rattle.session_graph.specs.Graph.{session_graph};
 ghost use Rattle.desk_plan.specs.Found.{CanRun, run_in};
-ghost use Rattle.scenario_grid.specs.Calls.{Calls};
+ghost use Rattle.script_steps.specs.Calls.{Calls};
 ghost use Rattle.graph_run.specs.Drawing.{output_in, computed_in};
 
 use desk_plan::ScriptRun;
 use desk_terms::Bench;
 use market_session::begun;
-use scenario_grid::play_all;
+use script_steps::play_all;
 use session_commands::Command;
 use session_graph::session_graph;
 use session_rounds::WatchedSession;

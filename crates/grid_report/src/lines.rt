@@ -12,8 +12,8 @@ use grid_shape::{BASE, asked_name};
 use session_commands::Command;
 use std::alloc::{AllocError, Global};
 
-// How many places an amount of money is printed with.
-const MONEY_PLACES: u8 = 6;
+/// How many places an amount of money is printed with.
+pub const MONEY_PLACES: u8 = 6;
 
 /// Appends the heading of a scenario: `scenario`, and the name of its block, or `base` for the one without moves.
 pub fn heading(names: &Names, name: Option<NameId>, out: &mut Vec<u8>) -> Result<(), AllocError>
@@ -79,8 +79,8 @@ fn push_worst(
     }
 }
 
-// The name of a scenario.
-fn label_of(names: &Names, name: Option<NameId>) -> &[u8]
+/// The name of a block, or `base` for what has no moves; no bytes where the number stands for no name.
+pub fn label_of(names: &Names, name: Option<NameId>) -> &[u8]
     ensures { result.now ≡ label_text names.now name }
 {
     match name {
@@ -89,8 +89,8 @@ fn label_of(names: &Names, name: Option<NameId>) -> &[u8]
     }
 }
 
-// The name that is asked for.
-fn asked_of(names: &Names, name: Option<NameId>) -> &[u8]
+/// The name that an ask asks for; no bytes where there is none.
+pub fn asked_of(names: &Names, name: Option<NameId>) -> &[u8]
     ensures { result.now ≡ asked_text names.now name }
 {
     match name {

@@ -1,10 +1,10 @@
 // The scenario in which an ask shows the least money.
-ghost use Rattle.std.specs.Prelude.{◌≡◌, None, option_map, slice_index_or};
+ghost use Rattle.std.specs.Prelude.{◌≡◌, option_map};
 ghost use Rattle.grid_model.specs.Grid.{column};
 ghost use Rattle.grid_model.specs.Worst.{lower, with_value, worst_of};
 ghost use Rattle.grid_report.specs.Shown.{rows_in, worst_in};
 
-use crate::Shown;
+use crate::{Shown, value_at};
 use desk_names::NameId;
 use fixed_amount::Amount;
 
@@ -26,16 +26,6 @@ pub(crate) fn worst_of(rows: &[Shown], at: usize) -> Option<Worst>
         worst = with_value(rows[left].name, value_at(&rows[left], at), worst);
     }
     worst
-}
-
-// What a scenario shows for the ask at a place.
-fn value_at(shown: &Shown, at: usize) -> Option<Amount>
-    ensures { result ≡ slice_index_or shown.now.values at None }
-{
-    match shown.values.items().get(at) {
-        Some(value) => *value,
-        None => None,
-    }
 }
 
 // The worst of what one scenario shows and of those behind it.

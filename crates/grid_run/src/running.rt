@@ -8,20 +8,21 @@ ghost use Rattle.desk_plan.specs.declared.status.Status.{Status};
 ghost use Rattle.desk_plan.specs.Found.{CanRun, run_in};
 ghost use Rattle.desk_plan.specs.Verdict.{ScriptRun as Wanted};
 ghost use Rattle.grid_shape.specs.Laws.{IsTaken};
-ghost use Rattle.scenario_grid.specs.Calls.{Makes, Begins, Calls};
+ghost use Rattle.script_steps.specs.Calls.{Makes, Begins, Calls};
+ghost use Rattle.script_steps.specs.Status.{stage_of};
+ghost use Rattle.script_steps.specs.Verdict.{reading_calls};
 ghost use Rattle.tool_run.specs.Run.{status_of, given_for, IsAccepted};
 ghost use Rattle.tool_run.specs.Stage.{IsOutside, IsEarly, IsQuiet, Writes, Computes, faults_then};
 ghost use Rattle.tool_run.specs.Words.{pair_of};
-ghost use Rattle.grid_run.specs.Status.{stage_of};
-ghost use Rattle.grid_run.specs.Verdict.{verdict_of, output_in, computed_in, reading_calls};
+ghost use Rattle.grid_run.specs.Verdict.{verdict_of, output_in, computed_in};
 
-use crate::GridStatus;
-use crate::wanted::wanted_of;
 use desk_edge::{Shelf, Sink, write_whole};
 use desk_plan::{ScriptRun, Status};
 use desk_terms::Bench;
+use grid_shape::Blocks;
 use market_file::Market;
 use scenario_grid::grid_lines;
+use script_steps::{BlocksStatus, open_blocks};
 use std::alloc::{AllocError, Global};
 use tool_run::OpenMarket;
 
@@ -39,17 +40,17 @@ pub fn run_grid<H: Shelf, K: Sink, B: Bench>(
     shelf: &mut H,
     out: &mut K,
     bench: &mut B,
-) -> GridStatus
+) -> BlocksStatus
     // The status is that of the words and the files, but for a fault outside or want of memory.
     ensures status { IfSome (files_of (H.contents shelf.old)) (λ files.
-        IsOutside (stage_of result) ⊎ (result ≡ status_of (GridStatus.Of Status.Done) (verdict_of files (map string_bytes words.now)))) }
-    ensures usage { (result ≡ GridStatus.Of Status.Usage) ↔ (pair_of (map string_bytes words.now) ≡ None) }
+        IsOutside (stage_of result) ⊎ (result ≡ status_of (BlocksStatus.Of Status.Done) (verdict_of files (map string_bytes words.now)))) }
+    ensures usage { (result ≡ BlocksStatus.Of Status.Usage) ↔ (pair_of (map string_bytes words.now) ≡ None) }
 
     // What is accepted is done, where no fault is counted and memory is found.
     ensures complete { IfSome (files_of (H.contents shelf.old)) (λ files.
         IsAccepted (verdict_of files (map string_bytes words.now))
         → IsQuiet (H.faults shelf.old) (H.faults shelf.new) → IsQuiet (K.faults out.old) (K.faults out.new)
-        → (result ≡ GridStatus.Of Status.Done) ⊎ (result ≡ GridStatus.Of Status.NoMemory)) }
+        → (result ≡ BlocksStatus.Of Status.Done) ⊎ (result ≡ BlocksStatus.Of Status.NoMemory)) }
 
     // At Done the bytes written are the grid; after a fault of writing they are a front of it, and else there are none.
     ensures written { IfSome (files_of (H.contents shelf.old)) (λ files.
@@ -69,27 +70,27 @@ pub fn run_grid<H: Shelf, K: Sink, B: Bench>(
     ensures same { B.calc bench.new ≡ B.calc bench.old }
 
     // Each fault was counted.
-    ensures read { result ≡ GridStatus.Of Status.ReadFault → Rose (H.faults shelf.old) (H.faults shelf.new) }
+    ensures read { result ≡ BlocksStatus.Of Status.ReadFault → Rose (H.faults shelf.old) (H.faults shelf.new) }
     // A call of the shelf that failed is the answer, and was the last: any call may fail, and one more would be counted too.
     ensures counted { H.faults shelf.new ≡ faults_then (stage_of result) (H.faults shelf.old) }
-    ensures write { result ≡ GridStatus.Of Status.WriteFault → Rose (K.faults out.old) (K.faults out.new) }
-    ensures absent { (role : FileRole) → result ≡ GridStatus.Of (Status.Absent role) → Rose (H.misses shelf.old) (H.misses shelf.new) }
+    ensures write { result ≡ BlocksStatus.Of Status.WriteFault → Rose (K.faults out.old) (K.faults out.new) }
+    ensures absent { (role : FileRole) → result ≡ BlocksStatus.Of (Status.Absent role) → Rose (H.misses shelf.old) (H.misses shelf.new) }
     ensures files { files_of (H.contents shelf.new) ≡ files_of (H.contents shelf.old) }
 
     // Each file is read once, in the order above, and none behind the first failure.
     ensures calls { IfSome (files_of (H.contents shelf.old)) (λ files.
         H.calls shelf.new ≤ H.calls shelf.old + reading_calls files (map string_bytes words.now)) }
 {
-    let run = match wanted_of(alloc, words, shelf) {
+    let run = match open_blocks(alloc, Blocks::Scenarios, words, shelf) {
         Ok(run) => run,
         Err(status) => return status,
     };
     match lines_of(alloc, run, bench) {
         Ok(lines) => match write_whole(out, &lines) {
-            Ok(()) => GridStatus::Of(Status::Done),
-            Err(_) => GridStatus::Of(Status::WriteFault),
+            Ok(()) => BlocksStatus::Of(Status::Done),
+            Err(_) => BlocksStatus::Of(Status::WriteFault),
         },
-        Err(_) => GridStatus::Of(Status::NoMemory),
+        Err(_) => BlocksStatus::Of(Status::NoMemory),
     }
 }
 

@@ -9,7 +9,10 @@ use Rattle.session_commands.specs.declared.command.Command.{Command}
 use Rattle.session_commands.specs.declared.script.Script.{Script}
 use Rattle.grid_shape.specs.Kinds.{is_move, is_ask}
 use Rattle.grid_shape.specs.Laws.{IsTaken}
-use Rattle.grid_shape.specs.Shape.{are_moves, is_base_among, is_over, shape_of}
+use Rattle.grid_shape.specs.declared.shape.Blocks.{Blocks}
+use Rattle.grid_shape.specs.declared.shape.Blocks.TheVariants.{Scenarios, Steps}
+use Rattle.grid_shape.specs.declared.shape.TheConstants.{BASE}
+use Rattle.grid_shape.specs.Shape.{are_moves, is_block_name, is_over, scenarios_shape, steps_shape, unless_total, shape_of}
 
 -- none of four faults is there
 record AreNone (a b d : Bool) : Type 0 where
@@ -32,10 +35,10 @@ none_of false asks base over e = absurd (cc)
 few : (a b : ℕ) → (nat_lt 1000 a || nat_lt 1000 b) ≡ false → (a ≤ 1000) × (b ≤ 1000)
 few a b e = (grind (arith, nat_tests), grind (arith, nat_tests))
 
-pub is_taken : (names : List (List ℕ)) (script : Script) → shape_of names script ≡ None → IsTaken script
-unfolding shape_of
-is_taken names script e =
-    let h = none_of (list_all are_moves script.actions) (list_all is_ask script.commands) (is_base_among names script.action_names) (is_over script) e in
+of_scenarios : (names : List (List ℕ)) (script : Script) → scenarios_shape names script ≡ None → IsTaken script
+unfolding scenarios_shape
+of_scenarios names script e =
+    let h = none_of (list_all are_moves script.actions) (list_all is_ask script.commands) (is_block_name names script.action_names BASE.now) (is_over script) e in
     record {
       moves = All-weaker (λ block. are_moves block ≡ true) (λ block. All (λ c. is_move c ≡ true) block)
           (λ block fit. AllPass-from_list_all is_move block fit) script.actions
@@ -44,3 +47,12 @@ is_taken names script e =
       blocks = (few (length script.actions) (length script.commands) h.over).0;
       few = (few (length script.actions) (length script.commands) h.over).1;
     }
+
+unless_none : (is_total : Bool) (fault : Option ℕ) → unless_total is_total fault ≡ None → fault ≡ None
+unless_none is_total (Some n) e = absurd (cc)
+unless_none is_total None e = refl
+
+pub is_taken : (blocks : Blocks) (names : List (List ℕ)) (script : Script) → shape_of blocks names script ≡ None → IsTaken script
+unfolding steps_shape
+is_taken Scenarios names script e = of_scenarios names script e
+is_taken Steps names script e = of_scenarios names script (unless_none _ (scenarios_shape names script) e)

@@ -2,6 +2,7 @@
 use Rattle.std.specs.Prelude.{◌≡◌, ◌≤◌, ℕ, true, List, length, None}
 use Rattle.std.specs.List.{All}
 use Rattle.session_commands.specs.declared.script.Script.{Script}
+use Rattle.grid_shape.specs.declared.shape.Blocks.{Blocks}
 use Rattle.grid_shape.specs.Kinds.{is_move, is_ask}
 use Rattle.grid_shape.specs.Shape.{shape_of}
 
@@ -13,4 +14,4 @@ pub record IsTaken (script : Script) : Type 0 where
   pub few : length script.commands ≤ 1000
 
 abbrev pub ShapesAreTaken : Type 0
-ShapesAreTaken = (names : List (List ℕ)) (script : Script) → shape_of names script ≡ None → IsTaken script
+ShapesAreTaken = (blocks : Blocks) (names : List (List ℕ)) (script : Script) → shape_of blocks names script ≡ None → IsTaken script

@@ -1,7 +1,7 @@
-//! The shape of a script of scenarios: each action block holds moves of the market alone, the commands outside of blocks
-//! are asks, and no block takes the name of the scenario without moves.
+//! The shape of a script of blocks: each action block holds moves of the market alone, the commands outside of blocks are
+//! asks, and no block takes the name of what has no moves. Blocks are scenarios beside each other, or steps one after the other.
 //!
-//! `check_shape`, `is_move`, `asked_name`, `BASE`, `MOST_EACH`.
+//! `Blocks`, `check_shape`, `is_move`, `asked_name`, `BASE`, `TOTAL`, `MOST_EACH`.
 #![tactic(auto)]
 
 mod kinds;
@@ -11,4 +11,4 @@ mod shape;
 
 pub use kinds::{asked_name, is_move};
 pub use laws::a_shape_says_what_it_takes;
-pub use shape::{BASE, MOST_EACH, check_shape};
+pub use shape::{BASE, Blocks, MOST_EACH, TOTAL, check_shape};

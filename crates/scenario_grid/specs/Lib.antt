@@ -1,5 +1,1 @@
-pub mod Basis
-pub mod Calls
-pub mod Course
-pub mod Going
-pub mod Kept
+pub mod Scenario

@@ -7,16 +7,18 @@ ghost use Rattle.grid_shape.specs.Laws.{IsTaken};
 ghost use Rattle.grid_model.specs.Grid.{grid, grid_calls, scenarios_of, scenario_texts, rows_of, scenario_text};
 ghost use Rattle.grid_model.specs.Scenario.{scenario_lines, scenario_calls, scenario_values};
 ghost use Rattle.grid_report.specs.Shown.{rows_in};
-ghost use Rattle.scenario_grid.specs.Basis.{basis_in};
-ghost use Rattle.scenario_grid.specs.Calls.{Calls};
-ghost use Rattle.scenario_grid.specs.Course.{named_scenario, row_of, scenario_of};
+ghost use Rattle.script_steps.specs.Basis.{basis_in};
+ghost use Rattle.script_steps.specs.Block.{block_of};
+ghost use Rattle.script_steps.specs.Calls.{Calls};
+ghost use Rattle.scenario_grid.specs.Scenario.{row_of, scenario_of};
 
-use crate::scenario::{MoneyList, one_scenario};
+use crate::one_scenario;
 use desk_names::{NameId, Names};
 use desk_terms::Bench;
 use grid_report::{Shown, heading, worst_lines};
 use item_lists::Items;
 use market_file::Market;
+use script_steps::MoneyList;
 use session_commands::{CommandList, Script};
 use std::alloc::{AllocError, Global};
 
@@ -111,10 +113,10 @@ fn add_scenario<B: Bench>(
     requires named { All (IsCommand (length names.now) 0) asks.now }
     ensures same { B.calc bench.new ≡ B.calc bench.old }
     ensures lines { OnOk result (lines.new.items ≡ lines.old.items
-        ++ scenario_text (B.calc bench.old) (basis_in market.now names.now) asks.now (named_scenario name.now moves.now)) }
+        ++ scenario_text (B.calc bench.old) (basis_in market.now names.now) asks.now (block_of name.now moves.now)) }
     ensures rows { OnOk result (rows_in rows.new ≡ rows_in rows.old
-        ++ row_of (B.calc bench.old) (basis_in market.now names.now) asks.now (named_scenario name.now moves.now) ∷ []) }
-    ensures calls { Calls (scenario_calls (B.calc bench.old) (basis_in market.now names.now) asks.now (named_scenario name.now moves.now))
+        ++ row_of (B.calc bench.old) (basis_in market.now names.now) asks.now (block_of name.now moves.now) ∷ []) }
+    ensures calls { Calls (scenario_calls (B.calc bench.old) (basis_in market.now names.now) asks.now (block_of name.now moves.now))
         result (B.count bench.old) (B.count bench.new) (B.log bench.old) (B.log bench.new) }
 {
     heading(names, *name, lines)?;

@@ -3,32 +3,22 @@ ghost use Rattle.std.specs.Prelude.{◌≡◌, ◌++◌, true, length, All, OnOk
 ghost use Rattle.desk_terms.specs.Bench.{counted, logged};
 ghost use Rattle.market_file.specs.Standing.{IsReady};
 ghost use Rattle.session_commands.specs.Whole.{IsCommand};
-ghost use Rattle.session_model.specs.Standing.{IsKnown};
-ghost use Rattle.session_model.specs.Rounds.{transcript, calls_of};
 ghost use Rattle.session_rounds.specs.Goes.{Halts, with_more};
 ghost use Rattle.watch_rounds.specs.declared.picker.Order.{Order as OfOrder};
 ghost use Rattle.grid_shape.specs.Kinds.{is_move, is_ask};
-ghost use Rattle.grid_model.specs.Scenario.{ordered, first_of, after, values_of, scenario_lines, scenario_calls, scenario_values};
-ghost use Rattle.scenario_grid.specs.Basis.{basis_in};
-ghost use Rattle.scenario_grid.specs.Course.{course_of, output, scenario_of};
-ghost use Rattle.scenario_grid.specs.Calls.{Begins};
-ghost use Rattle.scenario_grid.specs.Going.{IsGoing, Extends};
+ghost use Rattle.grid_model.specs.Scenario.{first_of, scenario_lines, scenario_calls, scenario_values};
+ghost use Rattle.script_steps.specs.Basis.{basis_in};
+ghost use Rattle.script_steps.specs.Calls.{Begins};
+ghost use Rattle.script_steps.specs.Course.{course_of, output};
+ghost use Rattle.script_steps.specs.Going.{Extends};
+ghost use Rattle.scenario_grid.specs.Scenario.{scenario_of};
 
-use crate::asking::ask_all;
-use crate::moving::move_all;
-use crate::opening::begun;
 use desk_names::Names;
 use desk_terms::Bench;
-use fixed_amount::Amount;
-use item_lists::Items;
 use market_file::Market;
+use script_steps::{MoneyList, begun, move_and_ask};
 use session_commands::{Command, CommandList};
-use session_rounds::WatchedSession;
 use std::alloc::{AllocError, Global};
-use watch_rounds::Order;
-
-/// The money that each ask of a scenario shows, in order; none where an ask shows none. A clause sees the list.
-pub type MoneyList = Items<Option<Amount>>;
 
 /// Does a scenario in a session of its own, of a copy of the market's objects under these names: the moves, and then the
 /// asks. The lines are appended to `lines`, and to `values` for each ask the money that it shows. The market, the names and
@@ -122,35 +112,4 @@ fn played<B: Bench>(
 {
     let mut session = begun(alloc, market, names)?;
     move_and_ask(&mut session, moves, asks, bench, lines, values)
-}
-
-// The moves of a scenario and then its asks, over a session that is lent: who owns one lets it go at each exit, which is much
-// to prove where there are many.
-fn move_and_ask<B: Bench>(
-    session: &mut WatchedSession<Order>,
-    moves: &[Command],
-    asks: &[Command],
-    bench: &mut B,
-    lines: &mut Vec<u8>,
-    values: &mut MoneyList,
-) -> Result<(), AllocError>
-    requires going { IsGoing (B.calc bench.old) session.old }
-    requires known { All (IsKnown session.old.standing) moves.now }
-    requires named { All (IsKnown session.old.standing) asks.now }
-    requires moves { All (λ c. is_move c ≡ true) moves.now }
-    requires asks { All (λ c. is_ask c ≡ true) asks.now }
-    ensures same { B.calc bench.new ≡ B.calc bench.old }
-    ensures out { OnOk result (output lines.new.items (B.count bench.new) (B.log bench.new)
-        ≡ with_more (transcript (ordered (B.calc bench.old)) session.old (moves.now ++ asks.now))
-        (calls_of (ordered (B.calc bench.old)) session.old (moves.now ++ asks.now))
-        (output lines.old.items (B.count bench.old) (B.log bench.old))) }
-    ensures values { OnOk result (values.new ≡ values.old ++ values_of (B.calc bench.old) asks.now (after (B.calc bench.old) moves.now session.old)) }
-    ensures halts { OnErr result (Halts OfOrder (course_of (B.calc bench.old) (moves.now ++ asks.now) session.old)
-        (output lines.old.items (B.count bench.old) (B.log bench.old))
-        (output lines.new.items (B.count bench.new) (B.log bench.new))) }
-    ensures kept { Extends values.old values.new }
-{
-    move_all(session, moves, bench, lines)?;
-    ask_all(session, asks, bench, lines, values)?;
-    Ok(())
 }

@@ -1,10 +1,10 @@
 use Rattle.std.proofs.Common.{inr, refl, [], pos}
 use Rattle.desk_plan.specs.Found.{run_in}
 use Rattle.desk_plan.specs.Verdict.{ScriptRun}
-use Rattle.scenario_grid.specs.Calls.{Makes, Begins}
-use Rattle.scenario_grid.proofs.Calling.{begins_none}
+use Rattle.script_steps.specs.Calls.{Makes, Begins}
+use Rattle.script_steps.proofs.Calling.{begins_none}
 use Rattle.tool_run.proofs.Early.{early_or_none}
-use Rattle.grid_run.specs.Status.{stage_of}
+use Rattle.script_steps.specs.Status.{stage_of}
 use Rattle.grid_run.specs.Verdict.{output_in, computed_in}
 use Rattle.grid_run.proofs.running.run_grid.Goals as goal
 

@@ -1,10 +1,10 @@
 use Rattle.std.proofs.Common.{refl}
 use Rattle.desk_names.specs.Names.{has_text, place_of}
-use Rattle.grid_shape.specs.Shape.{shape_of}
+use Rattle.grid_shape.specs.Shape.{scenarios_shape, steps_shape}
 use Rattle.grid_shape.proofs.rows.shapes_are_worked_through.Goals as goal
 
 pub returns : goal.returns
-unfolding has_text place_of shape_of
+unfolding has_text place_of scenarios_shape steps_shape
 returns c = record {
   nothing = refl;
   moved = refl;
@@ -17,4 +17,9 @@ returns c = record {
   second = refl;
   many = refl;
   most = refl;
+  total = refl;
+  step = refl;
+  base_step = refl;
+  many_steps = refl;
+  moved_steps = refl;
 }

@@ -3,9 +3,10 @@ use Rattle.std.proofs.lemmas.Result.{err_from_is_err_and}
 use Rattle.grid_model.specs.Grid.{Row, label_text}
 use Rattle.grid_report.specs.Shown.{row_in, rows_in}
 use Rattle.grid_report.specs.declared.shown.Shown.{Shown}
-use Rattle.scenario_grid.proofs.Calling.{begins_none, calls_any}
-use Rattle.scenario_grid.proofs.Grids.{rows_push, heading_text}
-use Rattle.scenario_grid.proofs.Steps.{on_ok, ok_more}
+use Rattle.script_steps.proofs.Calling.{begins_none, calls_any}
+use Rattle.grid_report.proofs.Rows.{rows_push}
+use Rattle.scenario_grid.proofs.Grids.{heading_text}
+use Rattle.script_steps.proofs.Steps.{on_ok, ok_more}
 use Rattle.scenario_grid.proofs.grid.add_scenario.Goals as goal
 
 pub returns-in_err-heading-clause-calls : goal.returns-in_err-heading-clause-calls

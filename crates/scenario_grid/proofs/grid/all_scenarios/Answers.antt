@@ -1,15 +1,15 @@
-use Rattle.std.proofs.Common.{◌≡◌, ◌<◌, ◌≤◌, true, [], length, List, sym, ◌∙◌, subst, arith, All}
+use Rattle.std.proofs.Common.{◌≡◌, ◌<◌, ◌≤◌, true, length, List, sym, ◌∙◌, subst, arith, All}
 use Rattle.std.proofs.lemmas.Result.{err_from_is_err_and}
 use Rattle.std.proofs.lemmas.List.Elements.{All-nil}
 use Rattle.session_commands.specs.declared.command.Command.{Command}
 use Rattle.session_commands.specs.Whole.{IsCommand}
 use Rattle.grid_shape.specs.Kinds.{is_move}
-use Rattle.grid_model.specs.Grid.{scenarios_of}
 use Rattle.grid_report.specs.Shown.{rows_in}
-use Rattle.scenario_grid.specs.Basis.{basis_in}
-use Rattle.scenario_grid.proofs.Grids.{first_past, first_begins, next_past, next_begins, last_past, past_lines, past_rows, past_makes}
-use Rattle.scenario_grid.proofs.Steps.{item_of}
-use Rattle.scenario_grid.proofs.Named.{all_moves_named, all_asks_named}
+use Rattle.script_steps.specs.Basis.{basis_in}
+use Rattle.script_steps.proofs.Named.{all_moves_named, all_asks_named}
+use Rattle.script_steps.proofs.Past.{past_lines, past_rows, past_makes}
+use Rattle.script_steps.proofs.Steps.{item_of}
+use Rattle.scenario_grid.proofs.Grids.{first_past, first_begins, next_past, next_begins, last_past}
 use Rattle.scenario_grid.proofs.grid.all_scenarios.Goals as goal
 
 pub add_scenario-requires : goal.add_scenario-requires
@@ -102,9 +102,8 @@ returns-clause-lines g c =
     let basis = basis_in c.args.market.now c.args.names.now in
     let script = c.args.script.now in
     let past : length script.actions ≤ c.loop-at.at = omega (arith, c.loop-at-test.false, c.len.ensures) in
-    past_lines calc basis script.commands (scenarios_of script) c.args.lines.now.items [] (g.B.Bench.count c.args.bench.now)
-    (g.B.Bench.log c.args.bench.now) c.loop-at.lines.items (rows_in c.loop-at.rows) (g.B.Bench.count c.loop-at.bench)
-    (g.B.Bench.log c.loop-at.bench)
+    past_lines _ _ _ (g.B.Bench.count c.args.bench.now) (g.B.Bench.log c.args.bench.now) c.loop-at.lines.items (rows_in c.loop-at.rows)
+    (g.B.Bench.count c.loop-at.bench) (g.B.Bench.log c.loop-at.bench)
     (last_past calc basis script c.args.lines.now.items (g.B.Bench.count c.args.bench.now) (g.B.Bench.log c.args.bench.now)
     c.loop-at.at c.loop-at.lines.items (rows_in c.loop-at.rows) (g.B.Bench.count c.loop-at.bench) (g.B.Bench.log c.loop-at.bench)
     past c.loop-at.invariant.past)
@@ -115,9 +114,8 @@ returns-clause-rows g c =
     let basis = basis_in c.args.market.now c.args.names.now in
     let script = c.args.script.now in
     let past : length script.actions ≤ c.loop-at.at = omega (arith, c.loop-at-test.false, c.len.ensures) in
-    past_rows calc basis script.commands (scenarios_of script) c.args.lines.now.items [] (g.B.Bench.count c.args.bench.now)
-    (g.B.Bench.log c.args.bench.now) c.loop-at.lines.items (rows_in c.loop-at.rows) (g.B.Bench.count c.loop-at.bench)
-    (g.B.Bench.log c.loop-at.bench)
+    past_rows _ _ _ (g.B.Bench.count c.args.bench.now) (g.B.Bench.log c.args.bench.now) c.loop-at.lines.items (rows_in c.loop-at.rows)
+    (g.B.Bench.count c.loop-at.bench) (g.B.Bench.log c.loop-at.bench)
     (last_past calc basis script c.args.lines.now.items (g.B.Bench.count c.args.bench.now) (g.B.Bench.log c.args.bench.now)
     c.loop-at.at c.loop-at.lines.items (rows_in c.loop-at.rows) (g.B.Bench.count c.loop-at.bench) (g.B.Bench.log c.loop-at.bench)
     past c.loop-at.invariant.past)
@@ -128,9 +126,8 @@ returns-clause-calls g c =
     let basis = basis_in c.args.market.now c.args.names.now in
     let script = c.args.script.now in
     let past : length script.actions ≤ c.loop-at.at = omega (arith, c.loop-at-test.false, c.len.ensures) in
-    past_makes calc basis script.commands (scenarios_of script) c.args.lines.now.items [] (g.B.Bench.count c.args.bench.now)
-    (g.B.Bench.log c.args.bench.now) c.loop-at.lines.items (rows_in c.loop-at.rows) (g.B.Bench.count c.loop-at.bench)
-    (g.B.Bench.log c.loop-at.bench)
+    past_makes _ _ _ (g.B.Bench.count c.args.bench.now) (g.B.Bench.log c.args.bench.now) c.loop-at.lines.items (rows_in c.loop-at.rows)
+    (g.B.Bench.count c.loop-at.bench) (g.B.Bench.log c.loop-at.bench)
     (last_past calc basis script c.args.lines.now.items (g.B.Bench.count c.args.bench.now) (g.B.Bench.log c.args.bench.now)
     c.loop-at.at c.loop-at.lines.items (rows_in c.loop-at.rows) (g.B.Bench.count c.loop-at.bench) (g.B.Bench.log c.loop-at.bench)
     past c.loop-at.invariant.past)

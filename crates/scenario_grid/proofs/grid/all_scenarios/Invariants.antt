@@ -1,16 +1,16 @@
-use Rattle.std.proofs.Common.{◌≡◌, [], length, ◌-◌}
-use Rattle.grid_model.specs.Grid.{scenarios_of}
+use Rattle.std.proofs.Common.{◌≡◌, length, ◌-◌}
 use Rattle.grid_report.specs.Shown.{rows_in}
-use Rattle.scenario_grid.specs.Basis.{basis_in}
-use Rattle.scenario_grid.proofs.Grids.{Past, blocks_from}
+use Rattle.script_steps.specs.Basis.{basis_in}
+use Rattle.script_steps.proofs.Blocks.{blocks_from}
+use Rattle.scenario_grid.proofs.Grids.{PastOf}
 use Rattle.scenario_grid.proofs.grid.all_scenarios.Given as goal
 
 abbrev pub invariant-loop-at : goal.invariant-loop-at
 invariant-loop-at g l = record {
   same : g.B.Bench.calc l.bench ≡ g.B.Bench.calc l.fn.bench;
-  past : Past (g.B.Bench.calc l.fn.bench) (basis_in l.market l.names) l.script.commands (scenarios_of l.script)
-      l.fn.lines.items [] (g.B.Bench.count l.fn.bench) (g.B.Bench.log l.fn.bench)
-      (blocks_from l.script l.at) l.lines.items (rows_in l.rows) (g.B.Bench.count l.bench) (g.B.Bench.log l.bench);
+  past : PastOf (g.B.Bench.calc l.fn.bench) (basis_in l.market l.names) l.script l.fn.lines.items (g.B.Bench.count l.fn.bench)
+      (g.B.Bench.log l.fn.bench) (blocks_from l.script l.at) l.lines.items (rows_in l.rows) (g.B.Bench.count l.bench)
+      (g.B.Bench.log l.bench);
 }
 
 abbrev pub decreases-loop-at : goal.decreases-loop-at

@@ -1,8 +1,9 @@
 use Rattle.std.proofs.lemmas.Result.{err_from_is_err_and}
 use Rattle.grid_model.specs.Scenario.{first_of}
-use Rattle.scenario_grid.specs.Basis.{basis_in}
-use Rattle.scenario_grid.specs.Course.{output}
-use Rattle.scenario_grid.proofs.Scenarios.{halts_begun, first_known}
+use Rattle.script_steps.specs.Basis.{basis_in}
+use Rattle.script_steps.specs.Course.{output}
+use Rattle.script_steps.proofs.Plays.{first_known}
+use Rattle.scenario_grid.proofs.Scenarios.{halts_begun}
 use Rattle.scenario_grid.proofs.scenario.played.Goals as goal
 
 pub move_and_ask-requires : goal.move_and_ask-requires

@@ -1,0 +1,9 @@
+pub mod Basis
+pub mod Block
+pub mod Calls
+pub mod Course
+pub mod Going
+pub mod Kept
+pub mod Rows
+pub mod Status
+pub mod Verdict

@@ -1,0 +1,63 @@
+// How a run over a script of blocks ended.
+use desk_plan::{Status, StatusWords};
+use std::fmt;
+use tool_process::Ending;
+
+/// How a run over a script of blocks ended.
+#[derive(Clone, Copy, PartialEq, Eq)]
+pub enum BlocksStatus {
+    /// As a run of `desk` ends.
+    Of(Status),
+    /// The script is not one of blocks: 1 for a command of a block, 2 for a command outside of blocks, 3 for a block that is
+    /// named `base`, 4 for more than 1,000 blocks or asks; the first of these. Of steps, and then, 3 for a block that is named
+    /// `total`.
+    Shape(u32),
+}
+
+impl Ending for BlocksStatus {
+    ghost use Rattle.script_steps.specs.Status.{code_of};
+
+    type Words = BlocksWords;
+
+    ghost code = { code_of };
+
+    fn code(&self) -> u8 {
+        match self {
+            BlocksStatus::Of(status) => status.code(),
+            BlocksStatus::Shape(_) => 9,
+        }
+    }
+
+    fn usage() -> Self {
+        BlocksStatus::Of(Status::Usage)
+    }
+
+    fn no_memory() -> Self {
+        BlocksStatus::Of(Status::NoMemory)
+    }
+
+    fn words(&self) -> Option<BlocksWords> {
+        if *self == BlocksStatus::Of(Status::Done) {
+            return None;
+        }
+        Some(BlocksWords(*self))
+    }
+}
+
+/// What the line of a status on standard error says behind the program's name.
+#[derive(Clone, Copy)]
+pub struct BlocksWords(pub BlocksStatus);
+
+impl fmt::Display for BlocksWords {
+    ghost use Rattle.std.specs.Prelude.{Some};
+    ghost use Rattle.script_steps.specs.Status.{words_of};
+
+    ghost output = { λ words. Some (words_of words.0) };
+
+    fn fmt<W: fmt::Write>(&self, f: &mut fmt::Formatter<W>) -> fmt::Result {
+        match self.0 {
+            BlocksStatus::Of(status) => write!(f, "{}", StatusWords(status)),
+            BlocksStatus::Shape(fault) => write!(f, "shape {fault}"),
+        }
+    }
+}

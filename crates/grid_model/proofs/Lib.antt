@@ -1,3 +1,4 @@
 mod Alone
 mod Least
 pub mod Moved
+mod Names

@@ -1,10 +1,16 @@
 // What is proved of the definitions, for every bench and every market.
-ghost use Rattle.grid_model.specs.Laws.{ScenariosStandAlone, ScenariosAreAfresh, WorstIsLeast};
+ghost use Rattle.grid_model.specs.Laws.{OtherNamesChangeNothing, ScenariosStandAlone, ScenariosAreAfresh, WorstIsLeast};
 
 /// The lines of a scenario, its computations and the values that it shows are those of its own block and of the asks,
 /// whatever other blocks a script has.
 pub fn scenarios_stand_alone()
     ensures { ScenariosStandAlone }
+{}
+
+/// The lines of a scenario, its computations and the values that it shows are the same whatever names two scripts have
+/// behind those of which the scenario and the asks speak.
+pub fn other_names_change_no_scenario()
+    ensures { OtherNamesChangeNothing }
 {}
 
 /// Each ask of a scenario is answered by the price afresh from the market after the moves.

@@ -7,4 +7,7 @@
 mod laws;
 mod rows;
 
-pub use laws::{a_worst_value_is_the_least, scenarios_are_priced_afresh, scenarios_stand_alone};
+pub use laws::{
+    a_worst_value_is_the_least, other_names_change_no_scenario, scenarios_are_priced_afresh,
+    scenarios_stand_alone,
+};

@@ -2,45 +2,34 @@
 use Rattle.std.specs.Prelude.{ℕ, List, Result}
 use Rattle.desk_terms.specs.Reading.{Outcome, Calc}
 use Rattle.market_desk.specs.Standing.{standing_of}
-use Rattle.market_file.specs.Market.{Market}
 use Rattle.market_loader.specs.Files.{Files}
-use Rattle.market_loader.specs.Market.{market_calls}
 use Rattle.tool_run.specs.declared.status.MarketStatus.{MarketStatus}
 use Rattle.tool_run.specs.declared.status.MarketStatus.TheVariants.{Usage}
-use Rattle.tool_run.specs.Market.{market_in, wanted_from}
+use Rattle.tool_run.specs.Market.{wanted_from, calls_from}
+use Rattle.tool_run.specs.Market as tool
 use Rattle.tool_run.specs.Run.{asked, calls_for}
 use Rattle.tool_run.specs.Words.{Pair, pair_of}
-use Rattle.bump_run.specs.declared.wanted.Wanted as found
 use Rattle.bump_run.specs.Lines.{bump_text, bump_calls, IsNamed}
 
--- a market, and the name of the instrument that is wanted
-pub record Wanted : Type 0 where
-  pub market : Market
-  pub name : List ℕ
-
--- what the words `MARKET NAME` ask for
-abbrev pub wanted : Pair → Market → Wanted
-wanted pair market = record { market = market; name = pair.other }
-
--- what is wanted in the code, as the definition sees it
-abbrev pub wanted_in : found.Wanted → Wanted
-wanted_in found = record { market = market_in found.market; name = found.name.now }
+-- a market, and the words `MARKET NAME`, the second of which is the name of the instrument that is wanted
+abbrev pub Wanted : Type 0
+Wanted = tool.Wanted Pair
 
 -- what is to be done for words, or the status with which it is refused
-unfoldable pub verdict_of : Files → List (List ℕ) → Result Wanted MarketStatus
-verdict_of files words = asked Usage (wanted_from (λ pair. pair.market) wanted) (pair_of words) files
+abbrev pub verdict_of : Files → List (List ℕ) → Result Wanted MarketStatus
+verdict_of files words = asked Usage (wanted_from (λ (pair : Pair). pair.market)) (pair_of words) files
 
 -- the most calls of a shelf for them
-unfoldable pub reading_calls : Files → List (List ℕ) → ℕ
-reading_calls files words = calls_for (λ pair. market_calls pair.market) (pair_of words) files
+abbrev pub reading_calls : Files → List (List ℕ) → ℕ
+reading_calls files words = calls_for (calls_from (λ (pair : Pair). pair.market)) (pair_of words) files
 
 -- the bytes that are written, and the computations that are made
 abbrev pub output_in : Calc → Wanted → List ℕ
-output_in calc wanted = bump_text calc (standing_of wanted.market) wanted.name
+output_in calc wanted = bump_text calc (standing_of wanted.market) wanted.request.other
 
 abbrev pub computed_in : Calc → Wanted → List (ℕ × Outcome)
-computed_in calc wanted = bump_calls calc (standing_of wanted.market) wanted.name
+computed_in calc wanted = bump_calls calc (standing_of wanted.market) wanted.request.other
 
 -- the name is an instrument's, so that a line tells how many computations were made
 abbrev pub HasInstrument : Wanted → Type 0
-HasInstrument wanted = IsNamed (standing_of wanted.market) wanted.name
+HasInstrument wanted = IsNamed (standing_of wanted.market) wanted.request.other

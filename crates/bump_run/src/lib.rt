@@ -8,7 +8,6 @@ mod lines;
 mod named;
 mod rows;
 mod running;
-mod wanted;
 
 pub use running::run_bump;
 pub use tool_run::MarketStatus as BumpStatus;

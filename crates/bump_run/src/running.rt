@@ -8,23 +8,23 @@ ghost use Rattle.market_loader.specs.declared.faults.MarketRole.{MarketRole};
 ghost use Rattle.desk_model.specs.Sound.{IsSound};
 ghost use Rattle.desk_model.specs.Unheld.{HoldsNothing};
 ghost use Rattle.bump_model.specs.Asking.{Calls, Made, MadeFront};
-ghost use Rattle.market_desk.specs.Standing.{standing, standing_of};
+ghost use Rattle.market_desk.specs.Standing.{standing};
+ghost use Rattle.tool_run.specs.Market.{wanted_in};
 ghost use Rattle.tool_run.specs.Run.{status_of, given_for, IsAccepted, IsAcceptedAs};
 ghost use Rattle.tool_run.specs.Stage.{IsOutside, IsEarly, IsQuiet, Writes, Computes, faults_then};
 ghost use Rattle.tool_run.specs.Status.{stage_of};
-ghost use Rattle.tool_run.specs.Words.{pair_of};
+ghost use Rattle.tool_run.specs.Words.{pair_in, pair_of};
 ghost use Rattle.bump_run.specs.Lines.{bump_text, bump_calls, IsNamed};
-ghost use Rattle.bump_run.specs.Verdict.{Wanted as Asked, wanted_in, verdict_of, output_in, computed_in, reading_calls, HasInstrument};
+ghost use Rattle.bump_run.specs.Verdict.{Wanted as Asked, verdict_of, output_in, computed_in, reading_calls, HasInstrument};
 
 use crate::lines::bump_lines;
-use crate::wanted::{Wanted, wanted_of};
 use desk_edge::{Shelf, Sink, write_whole};
 use desk_terms::Bench;
 use lazy_objects::Desk;
-use market_desk::{desk_of, names_of};
+use market_desk::{NamedDesk, named_desk};
 use price_report::Namer;
 use std::alloc::{AllocError, Global};
-use tool_run::{MarketStatus, OpenMarket};
+use tool_run::{Found, MarketStatus, OpenMarket, Pair, find};
 
 /// Does what the words ask for over the files of the shelf, writes the lines to `out`, and answers how that went. The
 /// words are those behind the program's name: the path of a market, and the name of an instrument. The prices are those
@@ -82,11 +82,11 @@ pub fn run_bump<H: Shelf, K: Sink, B: Bench>(
     ensures calls { IfSome (files_of (H.contents shelf.old)) (λ files.
         H.calls shelf.new ≤ H.calls shelf.old + reading_calls files (map string_bytes words.now)) }
 {
-    let wanted = match wanted_of(alloc, words, shelf) {
-        Ok(wanted) => wanted,
+    let found = match find(alloc, words, shelf) {
+        Ok(found) => found,
         Err(status) => return status,
     };
-    match lines_of(alloc, wanted, bench) {
+    match lines_of(alloc, found, bench) {
         Ok(lines) => match write_whole(out, &lines) {
             Ok(()) => MarketStatus::Done,
             Err(_) => MarketStatus::WriteFault,
@@ -98,25 +98,28 @@ pub fn run_bump<H: Shelf, K: Sink, B: Bench>(
 // The lines of what is wanted.
 fn lines_of<B: Bench>(
     alloc: Global,
-    wanted: Wanted<'_>,
+    found: Found<Pair<'_>>,
     bench: &mut B,
 ) -> Result<Vec<u8>, AllocError>
-    requires ready { IsReady wanted.market.names wanted.market.made.items }
-    ensures lines { IfOk result (λ lines. lines.items ≡ output_in (B.calc bench.old) (wanted_in wanted.entry)) }
-    ensures calls { Calls (computed_in (B.calc bench.old) (wanted_in wanted.entry)) result
+    requires ready { IsReady found.market.names found.market.made.items }
+    ensures lines { IfOk result (λ lines. lines.items ≡ output_in (B.calc bench.old) (wanted_in pair_in found.entry)) }
+    ensures calls { Calls (computed_in (B.calc bench.old) (wanted_in pair_in found.entry)) result
         (B.count bench.old) (B.count bench.new) (B.log bench.old) (B.log bench.new) }
-    ensures unnamed { HasInstrument (wanted_in wanted.entry) ⊎ (bench.new ≡ bench.old) }
+    ensures unnamed { HasInstrument (wanted_in pair_in found.entry) ⊎ (bench.new ≡ bench.old) }
     ensures same { B.calc bench.new ≡ B.calc bench.old }
 {
-    let Wanted { market, name } = wanted;
+    let Found { market, request } = found;
     let OpenMarket { names, today, made } = market;
-    let of_object = names_of(alloc, &made)?;
-    let mut desk = desk_of(alloc, today, made)?;
+    let named = named_desk(alloc, today, made)?;
+    let NamedDesk {
+        mut desk,
+        of_object,
+    } = named;
     let namer = Namer {
         names: &names,
         of_object: &of_object,
     };
-    lines_on(alloc, &mut desk, name.as_bytes(), &namer, bench)
+    lines_on(alloc, &mut desk, request.other.as_bytes(), &namer, bench)
 }
 
 // The lines of a name. It has the desk lent: a function that owns one lets it go at each exit.

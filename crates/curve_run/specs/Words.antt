@@ -1,8 +1,10 @@
 -- The words of the command line (this project's profile).
-use Rattle.std.specs.Prelude.{ℕ, Bool, true, false, ◌&&◌, nat_le, if◌then◌else◌, List, [], ◌∷◌, length, codes, Option, None, Some}
+use Rattle.std.specs.Prelude.{ℕ, Bool, true, false, ◌&&◌, nat_le, if◌then◌else◌, List, [], ◌∷◌, length, map, codes, Option, None, Some}
 use Rattle.std.specs.List.{list_all}
 use Rattle.std.specs.Str.{bytes_eq}
+use Rattle.std.specs.String.{string_bytes}
 use Rattle.tool_run.specs.Words.{is_word}
+use Rattle.curve_run.specs.declared.words.Request as given
 use Rattle.curve_run.specs.declared.words.TheConstants.{MOST_CURVES}
 
 -- a table or a picture, the path of a market, and the names of curves
@@ -10,6 +12,14 @@ pub record Request : Type 0 where
   pub as_table : Bool
   pub market : List ℕ
   pub curves : List (List ℕ)
+
+-- words of the code, as the definition sees them
+abbrev pub request_in : given.Request → Request
+request_in request = record {
+  as_table = request.as_table;
+  market = request.market.now;
+  curves = map string_bytes request.curves.now;
+}
 
 -- the one option
 abbrev pub is_flag : List ℕ → Bool

@@ -9,7 +9,6 @@ mod lines;
 mod pricing;
 mod rows;
 mod running;
-mod wanted;
 mod words;
 
 pub use running::run_curve;

@@ -1,13 +1,12 @@
 // The words of the command line.
-ghost use Rattle.std.specs.Prelude.{◌≡◌, ◌∷◌, [], map, option_map, codes};
+ghost use Rattle.std.specs.Prelude.{◌≡◌, map, option_map, codes};
 ghost use Rattle.std.specs.String.{string_bytes};
 ghost use Rattle.std.specs.Str.{bytes_eq};
 ghost use Rattle.std.specs.List.{list_all};
 ghost use Rattle.tool_run.specs.Words.{is_word};
-ghost use Rattle.curve_run.specs.Words.{is_flag, request_with, request_of};
-ghost use Rattle.curve_run.specs.Found.{request_in};
+ghost use Rattle.curve_run.specs.Words.{is_flag, request_in, request_with};
 
-use tool_run::is_word;
+use tool_run::{MarketRequest, is_word};
 
 /// How many curves are drawn at most: as many as there are colours.
 pub(crate) const MOST_CURVES: usize = 8;
@@ -20,19 +19,32 @@ pub(crate) struct Request<'a> {
     pub(crate) curves: &'a [String],
 }
 
-// What the words ask for, if they are some that are taken.
-pub(crate) fn request_of(words: &[String]) -> Option<Request<'_>>
-    ensures { option_map request_in result ≡ request_of (map string_bytes words.now) }
-{
-    match words {
-        [] => None,
-        [first, rest @ ..] => {
-            if is_flag(first) {
-                request_with(true, rest)
-            } else {
-                request_with(false, words)
+impl<'a> MarketRequest<'a> for Request<'a> {
+    ghost use Rattle.curve_run.specs.Words.{Request, request_in, request_of};
+
+    ghost Meaning = { Request };
+
+    ghost meaning = { request_in };
+
+    ghost path = { λ request. request.market };
+
+    ghost request_of = { request_of };
+
+    fn from_words(words: &'a [String]) -> Option<Self> {
+        match words {
+            [] => None,
+            [first, rest @ ..] => {
+                if is_flag(first) {
+                    request_with(true, rest)
+                } else {
+                    request_with(false, words)
+                }
             }
         }
+    }
+
+    fn market(self) -> &'a str {
+        self.market
     }
 }
 

@@ -1,13 +1,12 @@
 //! A desk of a market's objects: those that its files gave, made in their order; the names that they have, and the object
 //! that a name stands for.
 //!
-//! `desk_of`, `names_of`, `object_named`, `Unnamed`, `unnamed_line`.
+//! `desk_of`, `NamedDesk`, `named_desk`, `object_named`, `Unnamed`, `unnamed_line`.
 #![tactic(auto)]
 
 mod making;
 mod named;
 mod naming;
 
-pub use making::desk_of;
+pub use making::{NamedDesk, desk_of, named_desk};
 pub use named::{Unnamed, object_named, unnamed_line};
-pub use naming::names_of;

@@ -6,9 +6,9 @@ use desk_names::{NameId, NameList};
 use market_file::MadeList;
 use std::alloc::{AllocError, Global};
 
-/// The names of the objects on the desk of a market, by the objects' numbers: that of `today`, the first of the market,
-/// and then that of each object.
-pub fn names_of(alloc: Global, made: &MadeList) -> Result<NameList, AllocError>
+// The names of the objects on the desk of a market, by the objects' numbers: that of `today`, the first of the market,
+// and then that of each object.
+pub(crate) fn names_of(alloc: Global, made: &MadeList) -> Result<NameList, AllocError>
     ensures { IfOk result (λ names. names ≡ names_with made.now.items) }
 {
     let mut names = NameList::new(alloc);

@@ -4,7 +4,8 @@ use Rattle.market_file.specs.Market.{Market}
 use Rattle.market_tables.specs.Given.{◌>>=◌}
 use Rattle.market_loader.specs.Ends.{End, with_fault}
 use Rattle.market_loader.specs.Files.{Files}
-use Rattle.market_loader.specs.Market.{market_of}
+use Rattle.market_loader.specs.Market.{market_of, market_calls}
+use Rattle.tool_run.specs.declared.finding.Found.{Found}
 use Rattle.tool_run.specs.declared.market.OpenMarket.{OpenMarket}
 use Rattle.tool_run.specs.declared.status.MarketStatus.{MarketStatus}
 use Rattle.tool_run.specs.declared.status.MarketStatus.TheVariants as status
@@ -19,9 +20,22 @@ market_in market = record { today = market.today; made = market.made.items; name
 abbrev pub market_at : List ℕ → Files → Result Market MarketStatus
 market_at path files = with_fault load_status (market_of path files)
 
--- what a request asks for of a tool that reads a market: of the market at its path
-abbrev pub wanted_from : {Request Wanted : Type 0} → (Request → List ℕ) → (Request → Market → Wanted) → Request → Files → Result Wanted MarketStatus
-wanted_from path wanted request files = market_at (path request) files >>= (λ market. Ok (wanted request market))
+-- what is wanted of a tool that reads a market: a market, and what is asked of it
+pub record Wanted (Request : Type 0) : Type 0 where
+  pub market : Market
+  pub request : Request
+
+-- what was found in the code, as the definition sees it
+abbrev pub wanted_in : {Given Request : Type 0} → (Given → Request) → Found Given → Wanted Request
+wanted_in view found = record { market = market_in found.market; request = view found.request }
+
+-- what a request asks for: of the market at its path
+abbrev pub wanted_from : {Request : Type 0} → (Request → List ℕ) → Request → Files → Result (Wanted Request) MarketStatus
+wanted_from path request files = market_at (path request) files >>= (λ market. Ok (record { market = market; request = request }))
+
+-- the most calls of a shelf for it
+abbrev pub calls_from : {Request : Type 0} → (Request → List ℕ) → Request → Files → ℕ
+calls_from path request files = market_calls (path request) files
 
 -- how a reading ended that has this status
 abbrev pub status_end : MarketStatus → End

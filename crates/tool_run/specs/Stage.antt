@@ -24,7 +24,7 @@ IsOutside Failed = Unit {0}
 IsOutside Cut = Unit {0}
 IsOutside Halted = Unit {0}
 
--- one that comes before the files are read
+-- one that comes before anything is computed or written: before the first command of a run
 abbrev pub IsEarly : Stage → Type 0
 IsEarly Done = ⊥
 IsEarly Refused = Unit {0}
@@ -33,7 +33,7 @@ IsEarly Failed = Unit {0}
 IsEarly Cut = ⊥
 IsEarly Halted = ⊥
 
--- one that may come while they are read
+-- one that may end a run before its text is made
 abbrev pub IsBefore : Stage → Type 0
 IsBefore Done = ⊥
 IsBefore Refused = Unit {0}
@@ -41,15 +41,6 @@ IsBefore Missing = Unit {0}
 IsBefore Failed = Unit {0}
 IsBefore Cut = ⊥
 IsBefore Halted = Unit {0}
-
--- one that may come once they are read
-abbrev pub IsLate : Stage → Type 0
-IsLate Done = Unit {0}
-IsLate Refused = ⊥
-IsLate Missing = ⊥
-IsLate Failed = ⊥
-IsLate Cut = Unit {0}
-IsLate Halted = Unit {0}
 
 -- WHAT WAS WRITTEN, where it is told: all at Done; after a fault of writing a front, and not all; else nothing
 abbrev pub Writes : Option (List ℕ) → Option (List ℕ) → List ℕ → Stage → Type 0

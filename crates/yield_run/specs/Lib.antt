@@ -1,4 +1,3 @@
-pub mod Found
 pub mod Lines
 pub mod Named
 pub mod Rows

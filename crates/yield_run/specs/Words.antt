@@ -4,6 +4,7 @@ use Rattle.day_number.specs.Text.{day_of_text}
 use Rattle.fixed_amount.specs.Decimal.{decimal_value}
 use Rattle.fixed_amount.specs.declared.decimal.DecimalFault.{DecimalFault}
 use Rattle.tool_run.specs.Words.{is_word}
+use Rattle.yield_run.specs.declared.words.Request as given
 
 -- the path of a market, the name of a bond, a settlement day, and a clean price in units of 10^-6
 pub record Request : Type 0 where
@@ -11,6 +12,15 @@ pub record Request : Type 0 where
   pub name : List ℕ
   pub settle : ℤ
   pub clean : ℤ
+
+-- words of the code, as the definition sees them
+abbrev pub request_in : given.Request → Request
+request_in request = record {
+  market = request.market.now;
+  name = request.name.now;
+  settle = request.settle;
+  clean = request.clean;
+}
 
 -- the greatest price either way: 10^12
 abbrev pub most_price : ℕ

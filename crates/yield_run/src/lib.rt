@@ -8,7 +8,6 @@ mod lines;
 mod named;
 mod rows;
 mod running;
-mod wanted;
 mod words;
 
 pub use running::run_yield;

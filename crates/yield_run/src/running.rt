@@ -4,19 +4,19 @@ ghost use Rattle.std.specs.String.{string_bytes};
 ghost use Rattle.desk_edge.specs.Count.{Rose};
 ghost use Rattle.desk_edge.specs.Shelf.{files_of};
 ghost use Rattle.market_loader.specs.declared.faults.MarketRole.{MarketRole};
+ghost use Rattle.tool_run.specs.Market.{wanted_in};
 ghost use Rattle.tool_run.specs.Run.{status_of, given_for, IsAccepted};
 ghost use Rattle.tool_run.specs.Stage.{IsOutside, IsEarly, IsQuiet, Writes, faults_then};
 ghost use Rattle.tool_run.specs.Status.{stage_of};
-ghost use Rattle.yield_run.specs.Found.{wanted_in};
 ghost use Rattle.yield_run.specs.Named.{IsTaken};
 ghost use Rattle.yield_run.specs.Verdict.{Wanted as Asked, verdict_of, output_in, reading_calls};
-ghost use Rattle.yield_run.specs.Words.{request_of};
+ghost use Rattle.yield_run.specs.Words.{request_in, request_of};
 
 use crate::lines::name_lines;
-use crate::wanted::{Wanted, wanted_of};
+use crate::words::Request;
 use desk_edge::{Shelf, Sink, write_whole};
 use std::alloc::{AllocError, Global};
-use tool_run::MarketStatus;
+use tool_run::{Found, MarketStatus, find};
 
 /// Does what the words ask for over the files of the shelf, writes the lines to `out`, and answers how that went. The
 /// words are those behind the program's name: the path of a market, the name of a bond, a settlement day and a clean
@@ -62,11 +62,11 @@ pub fn run_yield<H: Shelf, K: Sink>(
     ensures calls { IfSome (files_of (H.contents shelf.old)) (λ files.
         H.calls shelf.new ≤ H.calls shelf.old + reading_calls files (map string_bytes words.now)) }
 {
-    let wanted = match wanted_of(alloc, words, shelf) {
-        Ok(wanted) => wanted,
+    let found = match find(alloc, words, shelf) {
+        Ok(found) => found,
         Err(status) => return status,
     };
-    match lines_of(alloc, &wanted) {
+    match lines_of(alloc, &found) {
         Ok(lines) => match write_whole(out, &lines) {
             Ok(()) => MarketStatus::Done,
             Err(_) => MarketStatus::WriteFault,
@@ -76,11 +76,11 @@ pub fn run_yield<H: Shelf, K: Sink>(
 }
 
 // The lines of what is wanted.
-fn lines_of(alloc: Global, wanted: &Wanted<'_>) -> Result<Vec<u8>, AllocError>
-    requires taken { IsTaken wanted.now.market.made.items wanted.now.request.clean }
-    ensures { IfOk result (λ lines. lines.items ≡ output_in (wanted_in wanted.now)) }
+fn lines_of(alloc: Global, found: &Found<Request<'_>>) -> Result<Vec<u8>, AllocError>
+    requires taken { IsTaken found.now.market.made.items found.now.request.clean }
+    ensures { IfOk result (λ lines. lines.items ≡ output_in (wanted_in request_in found.now)) }
 {
-    let Wanted { market, request } = wanted;
+    let Found { market, request } = found;
     name_lines(
         alloc,
         &market.names,

@@ -1,13 +1,11 @@
 // The words of the command line.
-ghost use Rattle.std.specs.Prelude.{◌≡◌, ◌∷◌, [], map, option_map, IfSome};
-ghost use Rattle.std.specs.String.{string_bytes};
+ghost use Rattle.std.specs.Prelude.{◌≡◌, ◌∷◌, [], option_map, IfSome};
 ghost use Rattle.jiff_core.specs.Calendar.{IsWithin};
-ghost use Rattle.yield_run.specs.Words.{most_price, price_of, price_in, request_of};
-ghost use Rattle.yield_run.specs.Found.{request_in};
+ghost use Rattle.yield_run.specs.Words.{most_price, price_of, price_in, request_in, request_of};
 
 use day_number::{Day, read_day};
 use fixed_amount::{Amount, read_decimal};
-use tool_run::is_word;
+use tool_run::{MarketRequest, is_word};
 
 // The greatest price either way, in units of 10^-6: 10^12.
 const MOST_PRICE: u64 = 1_000_000_000_000_000_000;
@@ -24,14 +22,29 @@ pub(crate) struct Request<'a> {
     pub(crate) clean: Amount,
 }
 
-// What the words ask for, if they are four that are taken.
-pub(crate) fn request_of(words: &[String]) -> Option<Request<'_>>
-    ensures request { option_map request_in result ≡ request_of (map string_bytes words.now) }
-    ensures price { IfSome result (λ request. IsWithin most_price request.clean) }
-{
-    match words {
-        [market, name, day, price] => request_with(market, name, day, price),
-        _ => None,
+impl<'a> MarketRequest<'a> for Request<'a> {
+    ghost use Rattle.jiff_core.specs.Calendar.{IsWithin};
+    ghost use Rattle.yield_run.specs.Words.{Request, most_price, request_in, request_of};
+
+    ghost Meaning = { Request };
+
+    ghost meaning = { request_in };
+
+    ghost path = { λ request. request.market };
+
+    ghost request_of = { request_of };
+
+    ghost IsTaken = { λ request. IsWithin most_price request.clean };
+
+    fn from_words(words: &'a [String]) -> Option<Self> {
+        match words {
+            [market, name, day, price] => request_with(market, name, day, price),
+            _ => None,
+        }
+    }
+
+    fn market(self) -> &'a str {
+        self.market
     }
 }
 

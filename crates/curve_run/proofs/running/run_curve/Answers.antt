@@ -1,15 +1,19 @@
 use Rattle.std.proofs.Common.{inr, refl, [], pos, true}
 use Rattle.bump_model.specs.Asking.{Made, MadeFront}
 use Rattle.bump_model.proofs.Calls.{front_none}
+use Rattle.tool_run.specs.Market.{wanted_in}
 use Rattle.tool_run.specs.Status.{stage_of}
 use Rattle.tool_run.proofs.Early.{early_or_none}
-use Rattle.curve_run.specs.Found.{wanted_in}
 use Rattle.curve_run.specs.Verdict.{Wanted, output_in, computed_in}
+use Rattle.curve_run.specs.Words.{request_in}
 use Rattle.curve_run.proofs.running.run_curve.Goals as goal
 
 -- some wanted thing: memory ran out before anything was known of it
 any_wanted : Wanted
-any_wanted = record { market = record { today = pos 0; made = []; names = [] }; as_table = true; curves = [] }
+any_wanted = record {
+  market = record { today = pos 0; made = []; names = [] };
+  request = record { as_table = true; market = []; curves = [] };
+}
 
 pub returns-in-Err-clause-carried : goal.returns-in-Err-clause-carried
 returns-in-Err-clause-carried g c =
@@ -21,7 +25,7 @@ returns-in-Err-clause-carried g c =
 pub returns-in-Ok-write_whole-clause-carried : goal.returns-in-Ok-write_whole-clause-carried
 returns-in-Ok-write_whole-clause-carried g c =
     inr (
-      wanted_in c.in-Ok.wanted,
+      wanted_in request_in c.in-Ok.found,
       rw (c.deref.ensures.value, c.in-Ok-lines_of.ensures.lines) at c.in-Ok-write_whole.ensures.written,
       c.in-Ok-lines_of.ensures.calls,
     )
@@ -29,10 +33,10 @@ returns-in-Ok-write_whole-clause-carried g c =
 pub returns-in-Ok-lines_of-clause-carried : goal.returns-in-Ok-lines_of-clause-carried
 returns-in-Ok-lines_of-clause-carried g c =
     inr (
-      wanted_in c.in-Ok.wanted,
+      wanted_in request_in c.in-Ok.found,
       rw (c.deref.ensures.value, c.in-Ok-lines_of.ensures.lines) at c.in-Err-write_whole.ensures.front,
       c.in-Ok-lines_of.ensures.calls,
     )
 
 pub returns-clause-carried : goal.returns-clause-carried
-returns-clause-carried g c = inr (wanted_in c.in-Ok.wanted, refl, c.in-Err-lines_of.ensures.calls)
+returns-clause-carried g c = inr (wanted_in request_in c.in-Ok.found, refl, c.in-Err-lines_of.ensures.calls)

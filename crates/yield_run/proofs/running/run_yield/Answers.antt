@@ -1,13 +1,17 @@
 use Rattle.std.proofs.Common.{inr, refl, [], pos}
+use Rattle.tool_run.specs.Market.{wanted_in}
 use Rattle.tool_run.specs.Status.{stage_of}
 use Rattle.tool_run.proofs.Early.{early_or_nothing}
-use Rattle.yield_run.specs.Found.{wanted_in}
 use Rattle.yield_run.specs.Verdict.{Wanted, output_in}
+use Rattle.yield_run.specs.Words.{request_in}
 use Rattle.yield_run.proofs.running.run_yield.Goals as goal
 
 -- some wanted thing: memory ran out before anything was known of it
 any_wanted : Wanted
-any_wanted = record { market = record { today = pos 0; made = []; names = [] }; name = []; settle = pos 0; clean = pos 0 }
+any_wanted = record {
+  market = record { today = pos 0; made = []; names = [] };
+  request = record { market = []; name = []; settle = pos 0; clean = pos 0 };
+}
 
 pub returns-in-Err-clause-carried : goal.returns-in-Err-clause-carried
 returns-in-Err-clause-carried g c =
@@ -15,11 +19,11 @@ returns-in-Err-clause-carried g c =
 
 pub returns-in-Ok-write_whole-clause-carried : goal.returns-in-Ok-write_whole-clause-carried
 returns-in-Ok-write_whole-clause-carried g c =
-    inr (wanted_in c.in-Ok.wanted, rw (c.deref.ensures.value, c.in-Ok-lines_of.ensures) at c.in-Ok-write_whole.ensures.written)
+    inr (wanted_in request_in c.in-Ok.found, rw (c.deref.ensures.value, c.in-Ok-lines_of.ensures) at c.in-Ok-write_whole.ensures.written)
 
 pub returns-in-Ok-lines_of-clause-carried : goal.returns-in-Ok-lines_of-clause-carried
 returns-in-Ok-lines_of-clause-carried g c =
-    inr (wanted_in c.in-Ok.wanted, rw (c.deref.ensures.value, c.in-Ok-lines_of.ensures) at c.in-Err-write_whole.ensures.front)
+    inr (wanted_in request_in c.in-Ok.found, rw (c.deref.ensures.value, c.in-Ok-lines_of.ensures) at c.in-Err-write_whole.ensures.front)
 
 pub returns-clause-carried : goal.returns-clause-carried
-returns-clause-carried g c = inr (wanted_in c.in-Ok.wanted, refl)
+returns-clause-carried g c = inr (wanted_in request_in c.in-Ok.found, refl)

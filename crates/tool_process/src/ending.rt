@@ -9,7 +9,7 @@ use std::process::{ExitCode, Termination};
 
 /// How a run ended: a status.
 pub trait Ending: Copy {
-    ghost use Rattle.std.specs.Prelude.{◌≡◌, ℕ};
+    ghost use Rattle.std.specs.Prelude.{◌≡◌, ◌↔◌, ℕ, List, None, Some, IfSome};
 
     /// What its line on standard error says behind the program's name.
     type Words: fmt::Display + Drop;
@@ -17,18 +17,25 @@ pub trait Ending: Copy {
     /// The exit status of the program.
     ghost code: { Self → ℕ };
 
+    /// The bytes that its line says behind the program's name.
+    ghost line: { Self → List ℕ };
+
     /// The exit status of the program.
     fn code(&self) -> u8
         ensures { result ≡ code self.now };
 
     /// The status of words that are none that are taken.
-    fn usage() -> Self;
+    fn usage() -> Self
+        ensures { code result ≡ 2 };
 
     /// The status where memory ran out.
-    fn no_memory() -> Self;
+    fn no_memory() -> Self
+        ensures { code result ≡ 7 };
 
     /// What its line says behind the program's name; none where it is done, and has no line.
-    fn words(&self) -> Option<Self::Words>;
+    fn words(&self) -> Option<Self::Words>
+        ensures none { (result ≡ None) ↔ (code self.now ≡ 0) }
+        ensures said { IfSome result (λ words. Self.Words.output words ≡ Some (line self.now)) };
 }
 
 /// How a program ended. A `main` that returns it ends with the exit status of its status, and writes the line of a status

@@ -18,10 +18,14 @@ use session_commands::{Command, Kind, Parts, ScriptKind, Verb};
 /// What a line says: nothing, that a block begins or ends, or a command. A watch names its action by the number of
 /// the action's name until the whole script is read.
 #[derive(Clone, Copy)]
-pub(crate) enum Statement {
+pub enum Statement {
+    /// Nothing.
     Blank,
+    /// A block of this name begins.
     Begin(NameId),
+    /// A block ends.
     End,
+    /// A command.
     Run(Command),
 }
 

@@ -15,9 +15,11 @@ use std::alloc::{AllocError, Global};
 
 /// A statement with the number of its line.
 #[derive(Clone, Copy)]
-pub(crate) struct Step {
-    pub(crate) line: u32,
-    pub(crate) what: Statement,
+pub struct Step {
+    /// The line, counted from 1.
+    pub line: u32,
+    /// What it says.
+    pub what: Statement,
 }
 
 /// The line of the block that stands open after a statement.

@@ -1,0 +1,6 @@
+mod Both
+mod Following
+mod Lines
+mod Logs
+mod Meanings
+mod Reading

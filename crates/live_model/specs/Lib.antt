@@ -1,0 +1,4 @@
+pub mod Laws
+pub mod Live
+pub mod Log
+pub mod Rows

@@ -30,4 +30,5 @@ FaultsChangeNothing P = (m : Meaning P) (s : Live P) (line : List ℕ) (kind : S
 
 -- A LONG LINE is a fault, whatever it says
 abbrev pub LongLinesAreFaults : Type 0
-LongLinesAreFaults = (known : Known) (inside : Bool) (line : List ℕ) → MOST_LINE < length line → meaning known inside line ≡ Err TooLong
+LongLinesAreFaults = (known : Known) (inside : Bool) (line : List ℕ) → MOST_LINE < length line
+    → meaning known inside line ≡ Err TooLong

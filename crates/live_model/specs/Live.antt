@@ -20,7 +20,8 @@ pub record Block : Type 0 where
   pub line : ℕ
   pub commands : List Command
 
--- a live session: the session, the names of its actions in order, the block that stands open, and how many lines were said
+-- a live session: the session, the names of its actions in order, the block that stands open, and how many lines were
+-- said
 pub record Live (P : Type 0) : Type 0 where
   pub running : Running P
   pub begun : List (List ℕ)
@@ -39,8 +40,8 @@ live_from r begun = record { running = r; begun = begun; block = None; line = 0 
 abbrev pub unless_lacking : Statement × Known → Result (Statement × Known) ScriptKind
 unless_lacking read = if lacks read.1 read.0 then Err fault.NoAction else Ok read
 
--- WHAT A LINE SAYS, inside a block or not: what a line of a script says, where it is not too long and each action that it
--- names was begun
+-- WHAT A LINE SAYS, inside a block or not: what a line of a script says, where it is not too long and each action that
+-- it names was begun
 unfoldable pub meaning : Known → Bool → List ℕ → Result (Statement × Known) ScriptKind
 meaning known inside line =
     if nat_lt MOST_LINE (length line) then Err fault.TooLong else line_meaning known inside line >>= unless_lacking
@@ -120,7 +121,8 @@ ready_text ready line = if ready then codes "ready " ++ decimal line ++ codes "\
 unfoldable pub spoken : {P : Type 0} → Meaning P → Bool → Live P → List (List ℕ) → Saying P
 spoken m ready s [] = silent s
 spoken m ready s (line ∷ lines) = record {
-  lines = ((said m s line).lines ++ ready_text ready (said m s line).next.line) ++ (spoken m ready (said m s line).next lines).lines;
+  lines = ((said m s line).lines ++ ready_text ready (said m s line).next.line)
+      ++ (spoken m ready (said m s line).next lines).lines;
   calls = (said m s line).calls ++ (spoken m ready (said m s line).next lines).calls;
   next = (spoken m ready (said m s line).next lines).next;
 }

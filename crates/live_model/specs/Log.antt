@@ -47,8 +47,8 @@ abbrev pub AreShort : List (List ℕ) → Type 0
 AreShort lines = All (λ line. length line ≤ MOST_LINE) lines
 
 -- what a script of both texts writes and computes is what the first script does, and then the lines of the second text
-pub record IsReplayed {P : Type 0} (m : Meaning P) (picker : P) (today : ℤ) (made : List (ℕ × Terms)) (first whole : Script × List (List ℕ))
-    (input : List (List ℕ)) : Type 0 where
+pub record IsReplayed {P : Type 0} (m : Meaning P) (picker : P) (today : ℤ) (made : List (ℕ × Terms))
+    (first whole : Script × List (List ℕ)) (input : List (List ℕ)) : Type 0 where
   pub lines : transcript m (scripted picker today made first) first.0.commands
       ++ conversation m false (live_behind m picker today made first) input
       ≡ transcript m (scripted picker today made whole) whole.0.commands
@@ -56,9 +56,9 @@ pub record IsReplayed {P : Type 0} (m : Meaning P) (picker : P) (today : ℤ) (m
       ++ (spoken m false (live_behind m picker today made first) input).calls
       ≡ calls_of m (scripted picker today made whole) whole.0.commands
 
--- A LOG IS A SCRIPT: where a text, and this text with the input behind it, are scripts over a market's names, `today` among
--- them, the lines of both are those of the one and then of the other, none of the input is too long, and each action begins
--- before the first line that names it
+-- A LOG IS A SCRIPT: where a text, and this text with the input behind it, are scripts over a market's names, `today`
+-- among them, the lines of both are those of the one and then of the other, none of the input is too long, and each
+-- action begins before the first line of the input that names it
 abbrev pub LogsAreScripts : {P : Type 0} → Meaning P → Type 0
 LogsAreScripts {P} m = (picker : P) (today : ℤ) (names : List (List ℕ)) (made : List (ℕ × Terms)) (text input : List ℕ)
     (first whole : Script × List (List ℕ))

@@ -1,5 +1,5 @@
-//! A session that is spoken to line by line, as definitions: what a line does, what it writes and which computations it makes,
-//! and that a log of such lines is a script.
+//! A session that is spoken to line by line, as definitions: what a line does, what it writes and which computations it
+//! makes, and that a log of such lines is a script.
 //!
 //! `MOST_LINE`. Words of `specs/`: `Live`, `meaning`, `said`, `spoken`, `conversation`, `LogsAreScripts`.
 //! Functions without a body are laws: their contracts are what is proved of the definitions.

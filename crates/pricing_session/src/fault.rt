@@ -1,4 +1,4 @@
-// Why a session did not take a command.
+// Why a session did not take a command, or an action.
 use thiserror::Error;
 
 /// Why a step ended early.
@@ -27,4 +27,17 @@ pub enum ChangeFault {
     /// The command is not quiet: a step takes it.
     #[error("not quiet")]
     NotQuiet,
+}
+
+/// Why no action was added. Nothing is changed.
+#[derive(Clone, Copy, Debug, Error, PartialEq, Eq)]
+pub enum BlockFault {
+    /// The session has 65,536 actions or more.
+    #[error("too many actions")]
+    Full,
+    /// A command names what the session has no text or no action of, or has a number beyond its limit.
+    #[error("not of this session")]
+    Unknown,
+    #[error("out of memory")]
+    NoMemory,
 }

@@ -33,9 +33,9 @@ use watch_rounds::Picker;
 
 /// A session with the bench by which it prices. What is stored in it was computed by that bench.
 pub struct PricingSession<P: Picker + Drop, B: Bench + Drop> {
-    session: WatchedSession<P>,
+    pub(crate) session: WatchedSession<P>,
     bench: B,
-    actions: usize,
+    pub(crate) actions: usize,
 }
 
 // Who lets a session go calls this at each exit, and does not let its parts go one by one.

@@ -1,0 +1,76 @@
+// A session that grows while it runs.
+ghost use Rattle.std.specs.Prelude.{◌≡◌, ◌≤◌, ◌↔◌, true, false, length, All, IfOk, OnOk, OnErr, IsOk, IsErrOf, IsTrue};
+ghost use Rattle.desk_names.specs.Name.{is_name, IsName};
+ghost use Rattle.desk_names.specs.Names.{has_text, place_of, most_names};
+ghost use Rattle.session_core.specs.declared.growing.TheConstants.{MOST_ACTIONS};
+ghost use Rattle.session_commands.specs.Whole.{IsCommand};
+ghost use Rattle.session_model.specs.Growing.{with_action};
+ghost use Rattle.session_model.specs.Grown.{interned_in};
+ghost use Rattle.pricing_session.specs.Taking.{LacksBlock};
+
+use crate::known::is_known;
+use crate::{BlockFault, PricingSession};
+use desk_names::{NameFault, NameId};
+use desk_terms::Bench;
+use session_commands::{ActionId, Command, CommandList};
+use session_core::{ActionFault, MOST_ACTIONS};
+use watch_rounds::Picker;
+
+impl<P: Picker + Drop, B: Bench + Drop> PricingSession<P, B> {
+    /// The number of a name, which is added behind the others where it is new: no object has it then, no watcher of it has
+    /// an action. A name that is known keeps its number, and takes no memory.
+    ///
+    /// `Form` where the text is no name, `Full` where it is new and the session has as many names as may be. A session that
+    /// is stopped takes names still.
+    pub fn intern(&mut self, text: &[u8]) -> Result<NameId, NameFault>
+        ensures place { IfOk result (λ name. name ≡ place_of self.old.running.standing.names text.now) }
+        ensures kept { OnOk result (self.new ≡ record self.old { running = interned_in text.now self.old.running }) }
+        ensures same { OnErr result (self.new ≡ self.old) }
+        ensures known { has_text self.old.running.standing.names text.now ≡ true → IsOk result }
+        ensures form { IsErrOf result NameFault.Form ↔ (is_name text.now ≡ false) }
+        ensures full { IsErrOf result NameFault.Full ↔ (IsName text.now
+            × (length self.old.running.standing.names ≡ most_names)
+            × (has_text self.old.running.standing.names text.now ≡ false)) }
+    {
+        self.session.intern(text)
+    }
+
+    /// Adds an action of these commands behind the others, and answers its number. The commands may name the action itself.
+    /// A session that is stopped takes actions still.
+    pub fn add_action(&mut self, block: CommandList) -> Result<ActionId, BlockFault>
+        ensures number { IfOk result (λ action. action ≡ length self.old.running.standing.actions) }
+        ensures added { OnOk result (self.new ≡ record self.old {
+          running = record self.old.running { standing = with_action block self.old.running.standing };
+        }) }
+        ensures same { OnErr result (self.new ≡ self.old) }
+        // It is not tried in these cases exactly.
+        ensures full { IsErrOf result BlockFault.Full ↔ (MOST_ACTIONS ≤ length self.old.running.standing.actions) }
+        ensures unknown { IsErrOf result BlockFault.Unknown ↔ LacksBlock self.old.running.standing block }
+    {
+        let actions = self.actions;
+        if actions >= MOST_ACTIONS {
+            return Err(BlockFault::Full);
+        }
+        if !are_known(self.names().len(), actions + 1, block.items()) {
+            return Err(BlockFault::Unknown);
+        }
+        match self.session.add_action(block) {
+            Ok(action) => {
+                self.actions = actions + 1;
+                Ok(action)
+            }
+            Err(ActionFault::NoMemory) => Err(BlockFault::NoMemory),
+            // There is room.
+            Err(ActionFault::Full) => unreachable!(),
+        }
+    }
+}
+
+// Whether each command speaks of so many names and actions, and its numbers are within their limits.
+fn are_known(names: u32, actions: usize, commands: &[Command]) -> bool
+    ensures { IsTrue result ↔ All (IsCommand names actions) commands.now }
+{
+    commands
+        .iter()
+        .all(|command| is_known(names, actions, command))
+}

@@ -1,7 +1,7 @@
 //! A session with the bench by which it prices, ready for the commands of a script. `open` wants a market as `read_market`
 //! gives it; no other call has a premise, so a program that uses it has nothing else to prove.
-//! Offers `PricingSession`, `StepFault`, `ChangeFault`, `BlockFault`, and `session_for`, which makes a session without a
-//! bench.
+//! Offers `PricingSession`, `NamedMarket`, `StepFault`, `ChangeFault`, `BlockFault`, and `session_for`, which makes a session
+//! without a bench.
 #![tactic(auto)]
 
 mod fault;
@@ -11,5 +11,5 @@ mod opening;
 mod session;
 
 pub use fault::{BlockFault, ChangeFault, StepFault};
-pub use opening::session_for;
+pub use opening::{NamedMarket, session_for};
 pub use session::PricingSession;

@@ -20,6 +20,14 @@ use session_rounds::WatchedSession;
 use std::alloc::Global;
 use watch_rounds::Picker;
 
+/// A market as it was read: the names of its objects, its evaluation date, and the objects in order of creation.
+#[derive(Drop)]
+pub struct NamedMarket {
+    pub names: Names,
+    pub today: Day,
+    pub made: MadeList,
+}
+
 /// The session of a market's objects that is ready for a script, and the commands of the script outside of its blocks,
 /// none of which is done yet. The names are those of the market and of the script, the actions those of the script's
 /// blocks. A text that is no script gives its first fault.
@@ -28,18 +36,22 @@ use watch_rounds::Picker;
 /// these commands, and it is sound for every bench.
 pub fn session_for<P: Picker + Drop>(
     alloc: Global,
-    mut names: Names,
-    today: Day,
-    made: MadeList,
+    market: NamedMarket,
     text: &[u8],
     picker: P,
 ) -> Result<(WatchedSession<P>, CommandList), ScriptFault>
-    requires ready { IsReady names made.items }
-    ensures opens { GivesAt (λ begun. (begun.0, begun.1)) result (opened picker names today made.items text.now) }
+    requires ready { IsReady market.names market.made.items }
+    ensures opens { GivesAt (λ begun. (begun.0, begun.1)) result
+        (opened picker market.names market.today market.made.items text.now) }
     ensures running { IfOk result (λ begun. begun.0.standing.stopped ≡ false) }
     ensures known { IfOk result (λ begun. All (IsKnown begun.0.standing) begun.1) }
     ensures sound { IfOk result (λ begun. (calc : Calc) → IsSound calc begun.0.standing.state) }
 {
+    let NamedMarket {
+        mut names,
+        today,
+        made,
+    } = market;
     let script = read(alloc, text, &mut names)?;
     let begun = begun(alloc, names, today, made, script, picker)?;
     Ok(begun)

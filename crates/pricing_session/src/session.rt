@@ -16,12 +16,10 @@ ghost use Rattle.pricing_session.specs.Opening.{opened};
 ghost use Rattle.pricing_session.specs.Taking.{Takes, Misses, LeavesToAStep};
 
 use crate::known::is_known;
-use crate::opening::read;
+use crate::opening::{NamedMarket, read};
 use crate::{ChangeFault, StepFault};
-use day_number::Day;
 use desk_names::{NameId, Names};
 use desk_terms::{Asked, Bench, Value};
-use market_file::MadeList;
 use market_session::watched_session;
 use session_commands::{Command, CommandList, Refusal};
 use session_lang::ScriptFault;
@@ -68,17 +66,21 @@ impl<P: Picker + Drop, B: Bench + Drop> PricingSession<P, B> {
     /// actions those of the script's blocks. A text that is no script gives its first fault.
     pub fn open(
         alloc: Global,
-        mut names: Names,
-        today: Day,
-        made: MadeList,
+        market: NamedMarket,
         script: &[u8],
         picker: P,
         bench: B,
     ) -> Result<(PricingSession<P, B>, CommandList), ScriptFault>
-        requires ready { IsReady names made.items }
-        ensures opens { GivesAt (λ begun. (begun.0.running, begun.1)) result (opened picker names today made.items script.now) }
+        requires ready { IsReady market.names market.made.items }
+        ensures opens { GivesAt (λ begun. (begun.0.running, begun.1)) result
+            (opened picker market.names market.today market.made.items script.now) }
         ensures bench { IfOk result (λ begun. begun.0.bench ≡ bench) }
     {
+        let NamedMarket {
+            mut names,
+            today,
+            made,
+        } = market;
         let script = read(alloc, script, &mut names)?;
         let actions = script.actions.len();
         let session = watched_session(alloc, names, today, made, script.actions, picker)?;

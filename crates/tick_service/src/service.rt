@@ -3,7 +3,7 @@ use crate::market::load;
 use desk_bench::DeskBench;
 use desk_names::Names;
 use desk_terms::Bench;
-use pricing_session::{ChangeFault, PricingSession};
+use pricing_session::{ChangeFault, NamedMarket, PricingSession};
 use session_commands::{Command, CommandList};
 use std::io::{Error, ErrorKind, Write};
 use std::{fs, io};
@@ -26,9 +26,11 @@ fn opened(
     let text = fs::read(rt, script)?;
     let opened = PricingSession::open(
         rt.alloc(),
-        names,
-        market.today,
-        market.made,
+        NamedMarket {
+            names,
+            today: market.today,
+            made: market.made,
+        },
         &text,
         Order::First,
         DeskBench::new(),

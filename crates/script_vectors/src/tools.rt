@@ -1,9 +1,10 @@
-// The tools: runs `desk_bump`, `desk_curve`, `desk_graph`, `desk_grid` and `desk_yield` over whole cases, and compares the
+// The tools: runs `desk_bump`, `desk_curve`, `desk_explain`, `desk_graph`, `desk_grid` and `desk_yield` over whole cases, and compares the
 // bytes with those that an independent model writes.
 use bump_run::run_bump;
 use curve_run::run_curve;
 use desk_bench::DeskBench;
 use desk_edge::{CallList, MemoryShelf, MemorySink};
+use explain_run::run_explain;
 use graph_run::run_graph;
 use grid_run::run_grid;
 use std::alloc::{AllocError, Global};
@@ -20,6 +21,7 @@ const ROOM: usize = 100_000;
 enum Tool {
     Bump,
     Curve,
+    Explain,
     Graph,
     Grid,
     Yield,
@@ -37,6 +39,11 @@ pub(crate) fn compare(rt: &HostRuntime) -> io::Result<()> {
     compare_file(rt, Tool::Curve, "curve_markets")?;
     compare_file(rt, Tool::Curve, "curve_version_two")?;
     compare_file(rt, Tool::Curve, "curve_faults")?;
+    // Steps that are refused, a day that moves, a fixing that is missing and then told, values that vanish and come back, twenty
+    // steps, no step and no ask.
+    compare_file(rt, Tool::Explain, "explain_by_hand")?;
+    compare_file(rt, Tool::Explain, "explain_markets")?;
+    compare_file(rt, Tool::Explain, "explain_faults")?;
     // Sessions of which each shows one thing, and scripts cut off at some command, with what is frozen, late or held then.
     compare_file(rt, Tool::Graph, "graph_by_hand")?;
     compare_file(rt, Tool::Graph, "graph_sessions")?;
@@ -111,6 +118,11 @@ fn ended(
             alloc,
             curve_run::NAME,
             run_curve(alloc, words, shelf, out, &mut bench),
+        ),
+        Tool::Explain => line(
+            alloc,
+            explain_run::NAME,
+            run_explain(alloc, words, shelf, out, &mut bench),
         ),
         Tool::Graph => line(
             alloc,

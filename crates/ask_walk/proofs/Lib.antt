@@ -1,6 +1,5 @@
 pub mod Announced
 pub mod Answered
-pub mod Empty
 pub mod Extends
 pub mod Fronted
 pub mod Inputs

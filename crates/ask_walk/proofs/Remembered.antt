@@ -1,7 +1,7 @@
 -- Reading by an explicit stack.
-use Rattle.std.proofs.Common.{◌≡◌, ◌≢◌, ◌⊎◌, inl, inr, ℕ, zero, suc, ◌+◌, ◌<◌, ◌≤◌, Bool, List, [], ◌∷◌, ◌++◌, length, reverse, replicate, Option, Some, None, refl, sym, ◌∙◌, ap, subst, arith}
+use Rattle.std.proofs.Common.{◌≡◌, ◌≢◌, ◌⊎◌, inl, inr, ℕ, zero, suc, ◌+◌, ◌<◌, ◌≤◌, Bool, List, [], ◌∷◌, ◌++◌, length, reverse, Option, Some, None, refl, sym, ◌∙◌, ap, subst, arith}
 use Rattle.std.specs.Prelude.{slice_set}
-use Rattle.std.proofs.lemmas.List.{length-reverse, length-set, get_or-set_same, get_or-set_other, length-replicate}
+use Rattle.std.proofs.lemmas.List.{length-reverse, length-set, get_or-set_same, get_or-set_other}
 use Rattle.std.proofs.lemmas.Bool.{cases_eq}
 use Rattle.walks.specs.Walk.{Among}
 use Rattle.desk_terms.specs.declared.terms.Terms.{Terms}
@@ -64,10 +64,6 @@ passed_within m links o low = elim (passed_edge o (terms_at m o)) [
   | inl same ↦ subst (λ (x : ℕ). x < length m.objects) (sym same) low
   | inr among ↦ links.within o (passed_to o (terms_at m o)) among
 ]
-
--- one look gives what the definition gives
-Knows : (ℕ → Option Entry) → (ℕ → Entry) → Type 0
-Knows memo read = (x : ℕ) (entry : Entry) → memo x ≡ Some entry → entry ≡ read x
 
 passed_is : (e : Option Entry) (x : ℕ) (entry wanted : Entry) → ((entry : Entry) → e ≡ Some entry → entry ≡ wanted) → and_is e x ≡ Is entry → entry ≡ wanted
 passed_is None x entry wanted knows is = absurd (cc)
@@ -259,20 +255,3 @@ module _ (m : Market) (object : ℕ) (stack : List ℕ) (top : ℕ) (memo : List
           split : Among object (top ∷ reverse stack) → Among object (reverse stack) ⊎ ((e : Entry) × (recalled (slice_set memo top (Some entry)) object ≡ Some e))
           split (inl same) = inr (entry, ap (recalled (slice_set memo top (Some entry))) same ∙ here)
           split (inr more) = inl more
-
-pub works_done : (m : Market) (object : ℕ) (memo : List (Option Entry)) → Works m object [] memo → (entry : Entry) × (recalled memo object ≡ Some entry)
-works_done m object memo w = elim w.root [ inl none ↦ absurd none | inr done ↦ done ]
-
-none_read : (n x : ℕ) → recalled (replicate n None) x ≡ None
-none_read zero x = refl
-none_read (suc n) zero = refl
-none_read (suc n) (suc x) = none_read n x
-
-pub remembers_none : (m : Market) (memo : List (Option Entry)) → memo ≡ replicate (length m.objects) None → Remembers m memo
-remembers_none m memo is = record {
-  same = ap length is ∙ length-replicate (length m.objects) None;
-  entries = λ x entry there. absurd (some_none entry (sym there ∙ (ap (λ (l : List (Option Entry)). recalled l x) is ∙ none_read (length m.objects) x)));
-}
-  where
-    some_none : (entry : Entry) → Some entry ≡ None → ⊥
-    some_none entry e = absurd (cc)

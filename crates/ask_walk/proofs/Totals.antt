@@ -33,9 +33,6 @@ use Rattle.ask_walk.proofs.Summing.{read_within}
 same_terms : (a b : Terms) → Some a ≡ Some b → a ≡ b
 same_terms a b e = cc
 
-same_parts : (a b : List Part) → Some (Composite a) ≡ Some (Composite b) → a ≡ b
-same_parts a b e = cc
-
 -- the sum of what was read of a composite is within 128 bits
 pub sum_fits : (kept : List Kept) (parts : List Part) (read : ℕ) (sum : ℤ) → ArePartsInRange parts → HasRead kept parts read sum → FitsSigned w128 sum
 sum_fits kept parts read sum range has =

@@ -1,7 +1,7 @@
 -- Lemmas on factors, and on what flows are worth by them.
 use Rattle.std.proofs.Common.{◌≡◌, ℕ, zero, suc, ◌+◌, ◌*◌, ◌/◌, ◌-◌, ◌<◌, ◌≤◌, arith, refl, subst, true, false, ℤ, pos, ◌≤ℤ◌, List, [], ◌∷◌, length, get_or, drop, drop_of_length-le, map}
 use Rattle.std.proofs.lemmas.Nat.{le-div}
-use Rattle.std.proofs.Math.Nat.{div-mul-le_self, div-le_of_le-mul, mul-le-mul_left, mul-le-mul_right}
+use Rattle.std.proofs.Math.Nat.{div-mul-le_self, mul-le-mul_left, mul-le-mul_right}
 use Rattle.fixed_amount.specs.Rounding.{closest}
 use Rattle.fixed_amount.proofs.Steps.{closest_rises}
 use Rattle.year_parts.specs.declared.bases.Basis.TheVariants.{D365}
@@ -17,12 +17,6 @@ growth yield days = whole + yield * (days * parts_in_day D365)
 
 growth_rises : (y z days : ℕ) → y ≤ z → growth y days ≤ growth z days
 growth_rises y z days h = omega (arith, mul-le-mul_right (days * parts_in_day D365) h)
-
--- no factor is above the one before it
-pub no_more : (y factor days : ℕ) → factor_after y factor days ≤ factor
-unfolding factor_after
-no_more y factor days =
-    div-le_of_le-mul (growth y days) {m = factor * whole} {n = factor} (omega (arith, mul-le-mul_right {m = whole} {n = growth y days} factor (omega arith)))
 
 -- a greater yield, behind a factor that is not greater, gives no greater factor
 pub falls : (y z v w days : ℕ) → y ≤ z → w ≤ v → factor_after z w days ≤ factor_after y v days

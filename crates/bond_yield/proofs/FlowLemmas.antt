@@ -5,10 +5,9 @@ use Rattle.std.proofs.lemmas.Int.{ints}
 use Rattle.flow_terms.specs.declared.flows.FlowTerm.{FlowTerm}
 use Rattle.flow_terms.specs.Flows.{paid_on}
 use Rattle.fixed_amount.specs.Rounding.{closest}
-use Rattle.fixed_amount.proofs.Digits.{list_all-read}
 use Rattle.fixed_amount.proofs.Steps.{closest_to}
 use Rattle.flow_terms.specs.declared.limits.TheConstants.{MOST_AMOUNT}
-use Rattle.bond_yield.specs.Fixed.{is_payment, is_known, are_known, rise_from, are_in_order}
+use Rattle.bond_yield.specs.Fixed.{is_payment, rise_from, are_in_order}
 use Rattle.bond_yield.specs.Accrued.{accrued_of, accrued}
 
 -- the flows from a place on
@@ -16,10 +15,6 @@ pub here : (flows : List FlowTerm) (at : ℕ) (flow : FlowTerm) → at < length 
 here flows at flow h is =
     let next : suc at ≡ at + 1 = omega arith in
     rw (← next) (drop-cons flows at flow h ∙ ap (λ (f : FlowTerm). f ∷ drop (suc at) flows) (sym is))
-
--- of known flows each is known
-pub known_at : (flows : List FlowTerm) (at : ℕ) (flow : FlowTerm) → are_known flows ≡ true → at < length flows → flow ≡ get_or flows at flow → is_known flow ≡ true
-known_at flows at flow known h is = ap (λ (f : FlowTerm). is_known f) is ∙ list_all-read is_known flows at flow known h
 
 int_le_self : (d : ℤ) → int_le d d ≡ true
 int_le_self d = grind (arith, ints)

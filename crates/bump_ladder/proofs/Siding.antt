@@ -138,10 +138,6 @@ rung_asks calc o group s t u (Ok x) count now log log_now is does =
     (is ∙ ap (all_set (λ value. value) group) does.0, does.1)
 rung_asks calc o group s t u (Err e) count now log log_now is does = does
 
-pub rung_calls : (calc : Calc) (o : ℕ) (group : List Quoted) (s : State) → (sides_asking calc o group s).calls ≡ (rung_asking calc o group s).calls
-unfolding rung_asking
-rung_calls calc o group s = refl
-
 -- ---- the value of a quote
 
 pub quoted_value : (m : Market) (q : ℕ) (value : Option ℤ) → terms_at m q ≡ Some (terms.Quote value) → value_at m q ≡ value

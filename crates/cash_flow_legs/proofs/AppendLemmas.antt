@@ -1,13 +1,11 @@
 -- Lemmas on flows that are appended to others.
-use Rattle.std.proofs.Common.{◌≡◌, true, false, refl, sym, ap, ◌∙◌, List, [], ◌∷◌, ◌++◌, length, take, Option, Some, None, is_some, IfNone, Result, Ok, Err}
-use Rattle.std.proofs.lemmas.List.{take_at}
+use Rattle.std.proofs.Common.{◌≡◌, false, refl, sym, ap, ◌∙◌, List, [], ◌∷◌, ◌++◌, Option, Some, None, Result, Ok, Err}
 use Rattle.std.proofs.lemmas.List.{append_assoc, append-nil}
 use Rattle.std.specs.Result.{is_err}
 use Rattle.flow_terms.specs.declared.flows.FlowTerm.{FlowTerm}
 use Rattle.cash_flow_legs.specs.Legs.{flow_and}
 use Rattle.cash_flow_legs.specs.Appended.{Appends, Begins}
 use Rattle.cash_flow_legs.specs.declared.faults.LegFault.{LegFault}
-use Rattle.cash_flow_legs.specs.declared.faults.LegFault.TheVariants.{DateRange, NoMemory}
 
 -- flows that are there, behind others
 abbrev pub behind : List FlowTerm → Option (List FlowTerm) → Option (List FlowTerm)
@@ -29,21 +27,3 @@ behind_none (Some flows) = refl
 pub kept : (due : Option (List FlowTerm)) (old new : List FlowTerm) (r : Result (Unit {0}) LegFault) → is_err r ≡ false → Begins due old new r → Appends due old new r
 kept due old new (Ok done) is begun = begun
 kept due old new (Err fault) is begun = absurd cc
-
-pub taken_back : (due : Option (List FlowTerm)) (old new last : List FlowTerm) (r : Result (Unit {0}) LegFault) → is_err r ≡ true → last ≡ take (length old) new → Begins due old new r → Appends due old last r
-taken_back due old new last (Ok done) is cut begun = absurd cc
-taken_back due old new last (Err DateRange) is cut (none, (flows, more)) = (none, cut ∙ (ap (take (length old)) more ∙ take_at old flows (length old) refl))
-taken_back due old new last (Err NoMemory) is cut (flows, more) = cut ∙ (ap (take (length old)) more ∙ take_at old flows (length old) refl)
-
--- flows that are there, or not
-pub not_there : (due : Option (List FlowTerm)) → false ≡ is_some due → due ≡ None
-not_there None is = refl
-not_there (Some flows) is = absurd cc
-
-pub where_there : (due : Option (List FlowTerm)) (P : Type 0) → true ≡ is_some due → IfNone due P
-where_there None P is = absurd cc
-where_there (Some flows) P is = tt
-
-pub where_not : (due : Option (List FlowTerm)) (r : Result (Unit {0}) LegFault) → r ≡ Err DateRange → IfNone due (r ≡ Err DateRange)
-where_not None r is = is
-where_not (Some flows) r is = tt

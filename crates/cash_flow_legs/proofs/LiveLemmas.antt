@@ -1,15 +1,13 @@
 -- Lemmas on the flows that are still to be paid.
-use Rattle.std.proofs.Common.{◌≡◌, ℕ, suc, ◌+◌, ◌<◌, ◌≤◌, arith, refl, sym, ap, subst, ◌∙◌, Bool, true, false, not, ◌&&◌, int_le, ℤ, List, [], ◌∷◌, ◌++◌, length, get_or, drop, drop_of_length-le, Option, Some, None, Result, Ok, Err, IsErrAnd}
+use Rattle.std.proofs.Common.{◌≡◌, ℕ, suc, ◌+◌, ◌<◌, ◌≤◌, arith, refl, sym, ap, ◌∙◌, Bool, true, false, ◌&&◌, ℤ, List, [], ◌∷◌, ◌++◌, length, get_or, drop, drop_of_length-le, Result, Ok, Err, IsErrAnd}
 use Rattle.std.proofs.Math.Seq.{drop-cons}
 use Rattle.std.proofs.lemmas.List.{append_assoc, append-nil}
-use Rattle.std.proofs.lemmas.List.Folds.{list_any_at}
 use Rattle.std.specs.List.{filter}
 use Rattle.desk_terms.specs.declared.cause.Cause.{Cause}
 use Rattle.flow_terms.specs.declared.flows.FlowTerm.{FlowTerm}
-use Rattle.flow_terms.specs.Flows.{paid_on, fixed_on, is_forecast}
+use Rattle.flow_terms.specs.Flows.{paid_on}
 use Rattle.cash_flow_legs.specs.declared.live_flows.Flow.{Flow}
-use Rattle.cash_flow_legs.specs.Amount.{IndexView, is_forecast_of}
-use Rattle.cash_flow_legs.specs.Live.{needs_curve, is_live, flow_or_cause, with_amounts, Gives}
+use Rattle.cash_flow_legs.specs.Live.{flow_or_cause, with_amounts, Gives}
 use Rattle.cash_flow_legs.specs.declared.faults.FlowFault.{FlowFault}
 use Rattle.cash_flow_legs.specs.declared.faults.FlowFault.TheVariants.{Refused}
 
@@ -68,15 +66,6 @@ both a b ia ib = rw (ia, ib) refl
 first : (a b : Bool) → (a && b) ≡ true → a ≡ true
 first true b is = refl
 first false b is = is
-
--- a live flow whose rate has to be forecast needs the curve
-pub curve_needed : (index : Option IndexView) (terms : List FlowTerm) (at : ℕ) (flow : FlowTerm) (today after : ℤ) → at < length terms → flow ≡ get_or terms at flow → is_live today after flow ≡ true → is_forecast_of index today flow ≡ true
-    → needs_curve index terms today ≡ true
-curve_needed None terms at flow today after h is alive ahead = ahead
-curve_needed (Some index) terms at flow today after h is alive ahead =
-    let P : FlowTerm → Bool = λ f. not (int_le (paid_on f) today) && is_forecast index.fixings today (fixed_on f) in
-    let holds : P flow ≡ true = both _ _ (first _ _ alive) ahead in
-    list_any_at P terms at flow h (subst (λ (f : FlowTerm). P f ≡ true) is holds)
 
 -- what is refused by a cause gives it
 pub gives_refused : (due : Result (List Flow) Cause) (r : Result (List Flow) FlowFault) (cause : Cause) → due ≡ Err cause → IsErrAnd r (λ (e : FlowFault). e ≡ Refused cause) → Gives due r

@@ -9,7 +9,7 @@ use Rattle.curve_bootstrap.specs.declared.faults.HelperFault.TheVariants.{DateRa
 use Rattle.curve_bootstrap.specs.declared.faults.BuildFault.{BuildFault}
 use Rattle.curve_bootstrap.specs.Built.{nodes_of, node_by, go_on, numbered, coupons_of, curve_of, curve_from, reference_day, built_curve, GivesHelper, Gives}
 use Rattle.curve_bootstrap.specs.declared.faults.BuildFault.TheVariants as build
-use Rattle.curve_points.specs.Curve.{Curve, origin}
+use Rattle.curve_points.specs.Curve.{origin}
 use Rattle.curve_terms.specs.declared.terms.CurveTerms.{CurveTerms}
 use Rattle.day_shift.specs.declared.faults.ShiftFault.{ShiftFault}
 use Rattle.day_shift.specs.Adjusted.{day_or_fault}
@@ -75,16 +75,6 @@ built_nowhere owner terms today rates is = ap (curve_from owner terms rates) is
 -- what gives one curve gives another that it equals
 pub gives_same : {X : Type 0} (a b : Result X BuildFault) (r : Result X BuildFault) → a ≡ b → Gives a r → Gives b r
 gives_same {X} a b r same given = subst (λ (d : Result X BuildFault). Gives d r) same given
-
--- a fault of the nodes is one of the curve
-pub curve_fault : (owner : ℕ) (reference : ℤ) (nodes : Result (List CurveNode) BuildFault) (fault : BuildFault) → Gives {X = List CurveNode} nodes (Err fault)
-    → Gives {X = Curve} (curve_of owner reference nodes) (Err fault)
-curve_fault owner reference nodes (build.Pillar k) is = ap (curve_of owner reference) is
-curve_fault owner reference nodes (build.Discount k) is = ap (curve_of owner reference) is
-curve_fault owner reference nodes (build.Negative k) is = ap (curve_of owner reference) is
-curve_fault owner reference nodes build.RateRange is = ap (curve_of owner reference) is
-curve_fault owner reference nodes build.DateRange is = ap (curve_of owner reference) is
-curve_fault owner reference nodes build.NoMemory is = tt
 
 -- a fault of an advance is no day
 pub no_day : (o : Option ℤ) (fault : ShiftFault) → Err fault ≡ day_or_fault o → o ≡ None

@@ -8,21 +8,6 @@ use Rattle.curve_bootstrap.specs.declared.faults.BuildFault.{BuildFault}
 use Rattle.curve_bootstrap.specs.declared.faults.BuildFault.TheVariants as build
 use Rattle.curve_bootstrap.specs.Built.{led_to, first_led, numbered}
 
--- what holds anyway
-pub led_anyway : (P : Type 0) (o : Option ℤ) → P → IfNone o P
-led_anyway P (Some day) p = tt
-led_anyway P None p = p
-
--- what has a value is led to a day
-pub led_there : (X E P : Type 0) (o : Option ℤ) (x : X) (e : E) → IfNone o (◌≡◌ {A = Result X E} (Ok x) (Err e)) → IfNone o P
-led_there X E P (Some day) x e is = tt
-led_there X E P None x e is = absurd cc
-
--- a fault stays
-pub led_away : (X Y E : Type 0) (o : Option ℤ) (fault e : E) → IfNone o (◌≡◌ {A = Result X E} (Err fault) (Err e)) → IfNone o (◌≡◌ {A = Result Y E} (Err fault) (Err e))
-led_away X Y E (Some day) fault e is = tt
-led_away X Y E None fault e is = let same : fault ≡ e = cc in ap (λ (f : E). Err f) same
-
 first_is : (first helper : Helper) (helpers : List Helper) (at : ℕ) → helper ≡ get_or (first ∷ helpers) at helper → at ≡ 0 → helper ≡ first
 first_is first helper helpers at is none = subst (λ (n : ℕ). helper ≡ get_or (first ∷ helpers) n helper) none is
 

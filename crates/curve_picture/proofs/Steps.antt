@@ -1,7 +1,6 @@
 -- The step that is chosen is a step.
 use Rattle.std.proofs.Common.{◌≡◌, ℕ, ◌+◌, ◌<◌, ◌≤◌, Bool, true, false, ◌&&◌, List, [], ◌∷◌, length, get_or, drop, refl, sym, ◌∙◌, ap}
 use Rattle.std.specs.Prelude.{nat_le, if◌then◌else◌}
-use Rattle.std.specs.List.{list_all}
 use Rattle.std.proofs.lemmas.List.{drop_more, drop_all}
 use Rattle.curve_picture.specs.Scale.{is_step, first_from}
 
@@ -12,14 +11,6 @@ both false b e = absurd (let none : false ≡ true = e in cc)
 chosen : (step other : ℕ) (found : Bool) → is_step step ≡ true → is_step other ≡ true → is_step (if found then step else other) ≡ true
 chosen step other true fits others = fits
 chosen step other false fits others = others
-
-pub first_fits : (need : ℕ) (steps : List ℕ) (last : ℕ) → list_all is_step steps ≡ true → is_step last ≡ true
-    → is_step (first_from need steps last) ≡ true
-unfolding first_from
-first_fits need [] last all fits = fits
-first_fits need (step ∷ steps) last all fits =
-    let parts = both (is_step step) (list_all is_step steps) all in
-    chosen step (first_from need steps last) (nat_le need step) parts.0 (first_fits need steps last parts.1 fits)
 
 -- one step more that is too short
 pub first_next : (need : ℕ) (steps : List ℕ) (at step last : ℕ) → at < length steps → step ≡ get_or steps at 0

@@ -124,6 +124,3 @@ discount_there curve day h k = let same = rw h at k in rw (h, same) refl
 pub discount_beyond : (curve : Curve) (day : ℤ) (found : Option ℤ) → int_lt day curve.reference ≡ false → int_eq day curve.reference ≡ false → found ≡ beyond (origin curve.reference) curve.nodes day → or_past found ≡ discount_at curve day
 unfolding discount_at
 discount_beyond curve day found h k is = let same = rw h at k in rw (h, same) (ap or_past is)
-
-pub after_both : (a b : ℤ) → int_lt a b ≡ false → int_eq a b ≡ false → b <ℤ a
-after_both a b h k = grind (arith, ints)

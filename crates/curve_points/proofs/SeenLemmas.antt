@@ -204,10 +204,3 @@ fault_kept X Y owner reference (Err f) fault is = let same : fault ≡ f = cc in
 pub no_fault : {X : Type 0} (due : Result Curve ImpliedFault) (curve : Curve) (r : Result X ImpliedFault) → due ≡ Ok curve → IfErr due (λ f. r ≡ Err f)
 no_fault {X} (Ok c) curve r is = tt
 no_fault {X} (Err f) curve r is = absurd cc
-
--- nodes of which one is outside, and nodes of which none is
-pub outside_is : (X : Type 0) (nodes : List CurveNode) (number : ℕ) → Some number ≡ position_from is_outside 1 nodes → IfErr (within_range nodes) (λ f. ◌≡◌ {A = Result X ImpliedFault} (Err (Node number)) (Err f))
-outside_is X nodes number is = rw (← is) refl
-
-pub inside_is : {X : Type 0} (nodes : List CurveNode) (r : Result X ImpliedFault) → None ≡ position_from is_outside 1 nodes → IfErr (within_range nodes) (λ f. r ≡ Err f)
-inside_is {X} nodes r is = rw (← is) tt

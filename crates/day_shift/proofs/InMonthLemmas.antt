@@ -54,11 +54,6 @@ same-last day other h k e =
     let whole = sym (last-date other k) ∙ ap date_of (sym e) ∙ last-date day h in
     (ap (λ (d : CivilDate). d.year) whole, ap (λ (d : CivilDate). d.month) whole)
 
-pub last-in_month : (day : ℤ) → IsDayNumber day → IsInMonth day (last_of_month day)
-last-in_month day h =
-    let whole = last-date day h in
-    (ap (λ (d : CivilDate). d.year) whole, ap (λ (d : CivilDate). d.month) whole)
-
 -- what lies between a day and the last of its month is of that month
 pub month-between : (day x : ℤ) → IsDayNumber day → day ≤ℤ x → x ≤ℤ last_of_month day → IsInMonth day x
 month-between day x h low high =

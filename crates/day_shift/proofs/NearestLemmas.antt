@@ -8,13 +8,6 @@ use Rattle.day_shift.specs.Adjusted.{nearer, adjusted, IsNearest}
 use Rattle.day_shift.proofs.SearchLemmas.{le_z-true, le_z-false}
 use Rattle.day_shift.proofs.SetLemmas.{by_option, next-is, next-no, previous-is, previous-no}
 
--- how a day lies to the next and the previous business day
-later_than : (business : ℤ → Bool) (day later x : ℤ) → IsNext business day later → IsBusinessDay business x → day ≤ℤ x → unsigned_abs (later -ℤ day) ≤ unsigned_abs (x -ℤ day)
-later_than business day later x is open_day le =
-    let least = is.2 x open_day le in
-    let from = is.1 in
-    omega (arith, ints)
-
 nearest-of_two : (business : ℤ → Bool) (day later earlier : ℤ) → IsNext business day later → IsPrevious business day earlier → (later -ℤ day) ≤ℤ (day -ℤ earlier) → IsNearest business day later
 nearest-of_two business day later earlier next previous le = (
   next.0,

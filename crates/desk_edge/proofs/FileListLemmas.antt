@@ -1,6 +1,6 @@
 -- A look through the files of a list, place by place.
-use Rattle.std.proofs.Common.{◌≡◌, ◌∙◌, ap, sym, refl, ℕ, ◌+◌, ◌<◌, ◌≤◌, true, false, List, ◌∷◌, length, get_or, drop, None, Some}
-use Rattle.std.proofs.lemmas.List.{at_drop_more, at_drop_all}
+use Rattle.std.proofs.Common.{◌≡◌, ◌∙◌, ap, sym, refl, ℕ, ◌+◌, ◌<◌, ◌≤◌, true, false, List, ◌∷◌, length, get_or, drop, Some}
+use Rattle.std.proofs.lemmas.List.{at_drop_more}
 use Rattle.std.specs.Str.{bytes_eq}
 use Rattle.desk_edge.specs.Shelf.{file_at}
 
@@ -15,7 +15,3 @@ module _ (files : List (List ℕ × List ℕ)) (at : ℕ) (path : List ℕ) (fil
   -- it has another one
   pub file_later : bytes_eq file.0 path ≡ false → file_at (drop at files) path ≡ file_at (drop (at + 1) files) path
   file_later other = split ∙ rw other refl
-
--- no file is left to look at
-pub file_nowhere : (files : List (List ℕ × List ℕ)) (at : ℕ) (path : List ℕ) → length files ≤ at → file_at (drop at files) path ≡ None
-file_nowhere files at path end = at_drop_all (λ (l : List (List ℕ × List ℕ)). file_at l path) files at end

@@ -1,4 +1,3 @@
-pub mod CountLemmas
 pub mod FileListLemmas
 pub mod Rows
 pub mod ShelfLemmas

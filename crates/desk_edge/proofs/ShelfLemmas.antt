@@ -68,11 +68,6 @@ leaves_fault TooLong path (Some c) mid (Some d) is files long =
     let same : d ≡ passed (most_bytes + 1) (begun path c) = cc in
     subst (Leaves path (Err TooLong)) (sym same) refl
 
--- no byte was taken
-pub passed_none : (told : Option Contents) → told ≡ option_map (passed 0) told
-passed_none None = refl
-passed_none (Some c) = refl
-
 -- so many bytes were taken after those of out
 pub passed_back : (out : List ℕ) (count : ℕ) (mid start new : Option Contents) → put_back out mid ≡ start → new ≡ option_map (passed count) mid
     → new ≡ option_map (passed (length out + count)) start

@@ -21,13 +21,6 @@ least_first passes (suc n) x none here low = elim (cases_eq x n) [
   | inr other ↦ ap (λ (r : Option ℕ). or_number r (if passes n then Some n else None)) (least_first passes n x none here (omega arith))
 ]
 
--- one more that does not pass
-pub none_more : (passes : ℕ → Bool) (n : ℕ) → least_where passes n ≡ None → passes n ≡ false → least_where passes (n + 1) ≡ None
-none_more passes n none not =
-    let on : n + 1 ≡ suc n = omega arith in
-    ap (least_where passes) on ∙ ap (λ (r : Option ℕ). or_number r (if passes n then Some n else None)) none
-    ∙ ap (λ (b : Bool). if b then Some n else None) not
-
 -- WHERE NO OBJECT IS THE LEAST USER, no edge leads to x
 pub none_uses : (m : Market) (x : ℕ) → least_user m x ≡ None → (o : ℕ) → Among x (edges m o) → ⊥
 none_uses m x none o among = elim (cases_lt o (length m.objects)) [

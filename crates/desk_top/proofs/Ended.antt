@@ -1,15 +1,14 @@
 -- What a run leaves, by the status with which it ends.
-use Rattle.std.proofs.Common.{◌≡◌, ℕ, List, Option, Ok, refl, sym, subst}
+use Rattle.std.proofs.Common.{◌≡◌, ℕ, List, Option, Ok, sym, subst}
 use Rattle.std.specs.Prelude.{IfSome}
 use Rattle.desk_terms.specs.Reading.{Calc}
 use Rattle.market_loader.specs.Files.{Files}
 use Rattle.market_loader.proofs.Steps.{told_map}
 use Rattle.desk_plan.specs.declared.status.Status.{Status}
 use Rattle.desk_plan.specs.declared.status.Status.TheVariants as status
-use Rattle.desk_plan.specs.Found.{faults_then}
 use Rattle.desk_plan.specs.Verdict.{Plan, verdict_of}
 use Rattle.session_play.specs.Output.{output_in, output_of}
-use Rattle.session_play.specs.Written.{IsLate, Writes}
+use Rattle.session_play.specs.Written.{Writes}
 
 -- what was written of a plan was written of the verdict
 pub told_written : (told : Option Files) (words : List (List ℕ)) (calc : Calc) (plan : Plan) (old new : Option (List ℕ)) (s : Status)
@@ -17,14 +16,3 @@ pub told_written : (told : Option Files) (words : List (List ℕ)) (calc : Calc)
     → IfSome told (λ files. Writes old new (output_of calc (verdict_of files words)) s)
 told_written told words calc plan old new s is writes =
     told_map told (λ files e. subst (λ v. Writes old new (output_of calc v) s) (sym e) writes) is
-
--- what comes behind the reading counts no fault of the shelf
-pub late_counted : (s : Status) (faults : ℕ) → IsLate s → faults ≡ faults_then s faults
-late_counted status.WriteFault faults late = refl
-late_counted status.NoMemory faults late = refl
-late_counted status.Done faults late = absurd late
-late_counted status.Usage faults late = absurd late
-late_counted (status.Market section entry why) faults late = absurd late
-late_counted (status.Script line why) faults late = absurd late
-late_counted status.ReadFault faults late = absurd late
-late_counted (status.Absent role) faults late = absurd late

@@ -142,11 +142,6 @@ same_live side x f None nodes y = elim (cases_eq y x) [
   | inr other ↦ ap is_some (fw_other side x f nodes None y other)
 ]
 
-pub held_slot : (side : Side) (slot : Option Edge) → IsSome slot → (x : ℕ) × (node_of side slot ≡ Some x)
-held_slot side None held = absurd (cc)
-held_slot Subject (Some edge) held = (edge.subject.node, refl)
-held_slot Observer (Some edge) held = (edge.observer.node, refl)
-
 pub linked_out_at : (side : Side) (edge x : ℕ) (slots slots2 slots3 : List (Option Edge))
     (nodes nodes2 : List (Option Heads)) (before after : Option ℕ)
     → AreChained (chains_of side slots nodes) → node_of side (slot_at slots edge) ≡ Some x → IsSome (heads_at nodes x)

@@ -228,8 +228,3 @@ pub observers_short : (v : EdgesView) (found : Option ℕ) → length (observers
 observers_short v found =
     let s = steps_short (λ k. after_of Subject (slot_at v.slots k)) (length v.slots) found in
     let m = length-map (slots_from Subject v.slots found) (node_at Observer v.slots) in omega arith
-
-pub subjects_short : (v : EdgesView) (found : Option ℕ) → length (subjects_from v found) ≤ length v.slots
-subjects_short v found =
-    let s = steps_short (λ k. after_of Observer (slot_at v.slots k)) (length v.slots) found in
-    let m = length-map (slots_from Observer v.slots found) (node_at Subject v.slots) in omega arith

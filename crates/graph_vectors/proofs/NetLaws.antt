@@ -1,17 +1,15 @@
 -- Graphs of which no node was removed stay so.
 use Rattle.std.proofs.Common.{◌≡◌, inl, inr, ℕ, zero, suc, ◌<◌, List, [], ◌∷◌, ◌++◌, length, refl, sym, ◌∙◌, subst, arith, Option, Some, None}
 use Rattle.std.specs.Prelude.{slice_index_or, IsSome}
-use Rattle.std.proofs.lemmas.List.{get_or_past, get_or-set_same, get_or-set_other, length-set}
+use Rattle.std.proofs.lemmas.List.{get_or-set_same, get_or-set_other, length-set}
 use Rattle.std.proofs.lemmas.Bool.{cases_eq}
-use Rattle.walks.specs.Walk.{Among}
 use Rattle.observer_graph.specs.declared.node.Role.{Role}
 use Rattle.observer_graph.specs.declared.node.Role.TheVariants.{Lazy}
 use Rattle.observer_graph.specs.declared.node.Flags.{Flags}
 use Rattle.observer_graph.specs.declared.node.Node.{Node}
-use Rattle.observer_graph.specs.GraphView.{GraphView, IsLive, IsLazy, IsPair, IsWhole, node_at, no_flags}
-use Rattle.observer_graph.specs.Notice.{Tells}
+use Rattle.observer_graph.specs.GraphView.{GraphView, IsLive, IsLazy, node_at, no_flags}
 use Rattle.observer_graph.specs.Change.{flagged, with_node, with_flags}
-use Rattle.observer_graph.proofs.Wholes.{list_grown, live_within, some_unsettled, whole_flagged}
+use Rattle.observer_graph.proofs.Wholes.{live_within, whole_flagged}
 use Rattle.graph_vectors.specs.Nets.{AreLive, IsNet}
 
 grown_live : (nodes : List (Option Node)) (node : Node)
@@ -34,23 +32,10 @@ live_added graph role live = grown_live graph.nodes (record { role = role; flags
 pub lazy_added : (graph : GraphView) → IsLazy (node_at (with_node Lazy graph) (length graph.nodes))
 lazy_added graph = subst IsLazy (sym (last_is graph.nodes (Some (record { role = Lazy; flags = no_flags })))) refl
 
--- it observes nothing
-pub none_added : (graph : GraphView) (role : Role) → IsWhole graph → (x : ℕ)
-    → IsPair (with_node role graph) x (length graph.nodes) → ⊥
-none_added graph role w x a = subst (Among x) (list_grown graph.subjects (length graph.nodes)
-    ∙ get_or_past graph.subjects (length graph.nodes) [] (let l = w.lists in omega arith)) a
-
 -- other pairs
 pub live_nodes : (old new : GraphView) → new.nodes ≡ old.nodes → AreLive old → AreLive new
 live_nodes old new same live o low = subst (λ (n : List (Option Node)). IsSome (slice_index_or n o None)) (sym same)
     (live o (subst (λ (n : List (Option Node)). o < length n) same low))
-
--- a notice
-pub live_told : (old new : GraphView) → Tells old new → AreLive old → AreLive new
-live_told old new tells live o low = elim (tells.settles.node o) [
-  | inl h ↦ subst IsSome (sym h.1) (some_unsettled (node_at old o) (live o (subst (λ (n : ℕ). o < n) tells.settles.len low)))
-  | inr h ↦ subst IsSome (sym h.1) (live o (subst (λ (n : ℕ). o < n) tells.settles.len low))
-]
 
 -- other flags
 live_flagged : (graph : GraphView) (o : ℕ) (flags : Flags) (p : ℕ) → IsLive graph p

@@ -1,5 +1,5 @@
 -- What stands after a fixing.
-use Rattle.std.proofs.Common.{◌≡◌, ◌<◌, ℕ, true, length, Option, Some, refl, sym, ◌∙◌, ap, subst, arith}
+use Rattle.std.proofs.Common.{◌≡◌, ◌<◌, ℕ, length, Option, Some, refl, sym, ◌∙◌, ap, subst, arith}
 use Rattle.std.specs.Prelude.{ℤ, List, Result, Err, ◌↔◌, slice_index_or, slice_set}
 use Rattle.walks.specs.Walk.{Among}
 use Rattle.flow_terms.specs.declared.indexes.IndexTerms.{IndexTerms}
@@ -23,7 +23,7 @@ use Rattle.desk_model.specs.Effect.{notified, revised, fixing_stored, fixing_add
 use Rattle.desk_model.proofs.Commands.{fixing_keeps}
 use Rattle.desk_model.proofs.KindsKept.{fixing_kinded}
 use Rattle.observer_graph.specs.declared.node.Role.TheVariants.{Forwarder}
-use Rattle.object_store.specs.Slots.{Registry, market_of, state_of, outdated, has_fixings}
+use Rattle.object_store.specs.Slots.{Registry, market_of, state_of, outdated}
 use Rattle.object_store.specs.Shape.{Shape, IsJoined, slot_role}
 use Rattle.object_store.specs.Store.{registry_of, StoreView}
 use Rattle.object_store.specs.Scratch.{ScratchView}
@@ -54,9 +54,6 @@ index_there m x is = by_slot (slot_at m x) is
     by_slot (Live (terms_of.Stock quote)) is = absurd (cc)
     by_slot (Live (terms_of.Composite parts)) is = absurd (cc)
     by_slot (Live (terms_of.Flows flows engine)) is = absurd (cc)
-
-pub stores_fixings : (t : Option Terms) (terms : IndexTerms) (fixings : Stored) → t ≡ Some (terms_of.Index terms fixings) → has_fixings (changeable t) ≡ true
-stores_fixings t terms fixings is = ap (λ (u : Option Terms). has_fixings (changeable u)) is
 
 pub fixings_are : (m : Market) (x : ℕ) (terms : IndexTerms) (fixings : Stored) → terms_at m x ≡ Some (terms_of.Index terms fixings) → fixings_in (index_at m (Some x)) ≡ fixings
 fixings_are m x terms fixings is = ap (λ (t : Option Terms). fixings_in (index_in x t)) is

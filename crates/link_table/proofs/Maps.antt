@@ -1,17 +1,10 @@
 -- The map of links, after a change at one number.
-use Rattle.std.proofs.Common.{◌≡◌, ◌≢◌, inl, inr, ℕ, zero, suc, ◌<◌, Bool, List, [], ◌∷◌, ◌++◌, length, refl, sym, ◌∙◌, ap, arith, Option, Some, None}
-use Rattle.std.specs.Prelude.{if◌then◌else◌, slice_set, IsSome}
+use Rattle.std.proofs.Common.{◌≡◌, ◌≢◌, inl, inr, ℕ, zero, suc, ◌<◌, Bool, List, [], ◌∷◌, ◌++◌, length, refl, sym, ◌∙◌, ap, arith, Option, None}
+use Rattle.std.specs.Prelude.{if◌then◌else◌, slice_set}
 use Rattle.std.proofs.lemmas.Bool.{cases_eq, eq-eqb, ne_eqb, false≢true}
 use Rattle.std.proofs.lemmas.List.{get_or-set_same, get_or-set_other}
 use Rattle.link_table.specs.declared.links.Link.{Link}
-use Rattle.link_table.specs.Links.{ChangesAt, IsHolder, link_at, target_at, target_of}
-
--- a free place more changes nothing
-pub link_grown : (links : List (Option Link)) (h : ℕ) → link_at (links ++ None ∷ []) h ≡ link_at links h
-link_grown [] zero = refl
-link_grown [] (suc h) = refl
-link_grown (l ∷ links) zero = refl
-link_grown (l ∷ links) (suc h) = link_grown links h
+use Rattle.link_table.specs.Links.{ChangesAt, IsHolder, link_at}
 
 -- a holder's place is there
 pub holder_within : (links : List (Option Link)) (holder : ℕ) → IsHolder links holder → holder < length links
@@ -47,13 +40,3 @@ changes_set old grown place holder link at low same = changes_by old (slice_set 
     (ap (λ (i : ℕ). link_at (slice_set grown i link) holder) at ∙ get_or-set_same grown holder link None low)
     (λ h other. ap (λ (i : ℕ). link_at (slice_set grown i link) h) at
     ∙ get_or-set_other grown holder h link None other ∙ same h)
-
--- a holder whose target is the one wanted keeps what it has
-pub changes_nothing : (links : List (Option Link)) (holder : ℕ) (target : Option ℕ) → IsHolder links holder
-    → target_at links holder ≡ target → ChangesAt links links holder (Some (record { target = target }))
-changes_nothing links holder target is same = changes_by links links holder (Some (record { target = target }))
-    (held (link_at links holder) is same) (λ h other. refl)
-  where
-    held : (link : Option Link) → IsSome link → target_of link ≡ target → link ≡ Some (record { target = target })
-    held None is same = absurd (false≢true is)
-    held (Some link) is same = ap (λ (t : Option ℕ). Some (record { target = t })) same

@@ -1,5 +1,4 @@
 mod PlanLemmas
 mod AppendLemmas
 mod KnownLemmas
-mod LimitLemmas
 mod KeyRows

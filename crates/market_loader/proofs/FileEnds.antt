@@ -6,12 +6,10 @@ use Rattle.desk_edge.specs.Count.{Rose}
 use Rattle.desk_edge.specs.Shelf.{Contents, most_bytes, file_at, files_of, Reads as ReadsFile, faults_after as read_after}
 use Rattle.desk_edge.specs.declared.reading.ReadFault.{ReadFault}
 use Rattle.desk_edge.specs.declared.reading.ReadFault.TheVariants as read_fault
-use Rattle.market_loader.specs.declared.faults.FileFault.{FileFault}
 use Rattle.market_loader.specs.declared.faults.FileFault.TheVariants as file
-use Rattle.market_loader.specs.declared.faults.MarketRole.{MarketRole}
 use Rattle.market_loader.specs.declared.faults.MarketRole.TheVariants as role
-use Rattle.market_loader.specs.Ends.{Missing, Failed, file_end, load_end}
-use Rattle.market_loader.specs.Faults.{file_fault, role_fault}
+use Rattle.market_loader.specs.Ends.{Missing, Failed, file_end}
+use Rattle.market_loader.specs.Faults.{file_fault}
 use Rattle.market_loader.specs.Files.{Files, file_in, file_of, file_calls}
 use Rattle.market_loader.specs.Reads.{seen, Tells, faults_at, Reads}
 use Rattle.market_loader.proofs.Calls.{read_calls}
@@ -62,12 +60,3 @@ file_failed view path fault told now bytes faults faults2 misses misses2 calls c
   faults = more;
   misses = missed;
 }
-
--- a file of a market ends as the file does
-pub role_end : (role : MarketRole) (fault : FileFault) → load_end (role_fault role fault) ≡ file_end fault
-role_end role file.Absent = refl
-role_end role.Market file.TooLong = refl
-role_end role.Quotes file.TooLong = refl
-role_end role.Fixings file.TooLong = refl
-role_end role file.Read = refl
-role_end role file.NoMemory = refl

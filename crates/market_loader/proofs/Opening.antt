@@ -15,7 +15,7 @@ use Rattle.market_loader.specs.Files.{file_calls}
 use Rattle.market_loader.specs.Market.{Texts, texts, texts_in, part_of, table_of, table_calls, or_fault, and_then, with_fixings, with_quotes, tables_calls, with_text, text_calls, texts_of, market_said, market_of, market_calls}
 use Rattle.market_loader.specs.declared.texts.MarketTexts.{MarketTexts}
 use Rattle.market_loader.specs.Reads.{Seen, Says, IsRefusedAs, Reads}
-use Rattle.market_loader.proofs.Steps.{reads_on, reads_off, reads_text, reads_within}
+use Rattle.market_loader.proofs.Steps.{reads_on, reads_text, reads_within}
 
 abbrev Text : Type 0
 Text = Vec ℕ Global
@@ -94,13 +94,3 @@ texts_found view path kept {result = result} {old = old} {new = new} r says =
     (reads_on load_end texts_in view (texts_of path) (λ files texts. market_said texts) (market_calls path)
     (λ files texts. 0) old new new kept result r
     (reads_text load_end view (market_said (texts_in kept)) new result says))
-
--- the texts are not there
-pub texts_lost : {X : Type 0} (view : X → Market) (path : List ℕ) (e : LoadFault) {old new : Seen}
-    → Reads {X = MarketTexts} load_end texts_in (texts_of path) (market_calls path) old new (Err e)
-    → Reads {X = X} load_end view (market_of path) (market_calls path) old new (Err e)
-texts_lost view path e {old = old} {new = new} r =
-    reads_within load_end view (market_of path) _ (market_calls path) old new (Err e)
-    (λ files. no_more (market_calls path files) (texts_of path files))
-    (reads_off load_end texts_in view (texts_of path) (λ files texts. market_said texts) (market_calls path)
-    (λ files texts. 0) old new e r)

@@ -13,16 +13,14 @@ use Rattle.desk_model.specs.Changeable.{changeable}
 use Rattle.flow_terms.specs.declared.flows.FlowTerms.{FlowTerms}
 use Rattle.flow_terms.specs.declared.indexes.IndexTerms.{IndexTerms}
 use Rattle.flow_terms.specs.Fixings.{Stored}
-use Rattle.desk_model.specs.Uses.{index_in}
-use Rattle.object_store.specs.Parts.{parts_held}
-use Rattle.object_store.specs.Slots.{is_handle, holds_value, engine_in, has_fixings}
+use Rattle.object_store.specs.Slots.{holds_value, has_fixings}
 use Rattle.desk_terms.specs.declared.terms.Part.{Part}
 use Rattle.desk_terms.specs.declared.terms.Terms.{Terms}
 use Rattle.desk_terms.specs.declared.terms.Terms.TheVariants.{Quote, Derived, Handle, Curve, Implied, Index, Engine, Stock, Composite, Flows}
 use Rattle.desk_model.specs.declared.slot.Slot.{Slot}
 use Rattle.desk_model.specs.declared.slot.Slot.TheVariants.{Free, Today, Watcher, Live}
-use Rattle.desk_model.specs.Market.{terms_in, kind_in, role_of, is_lazy}
-use Rattle.object_store.specs.Objects.{quoted, with_quote, bare, has_quote, has_own_terms, valued, joined, joined_from, objects_of, IsBoarded}
+use Rattle.desk_model.specs.Market.{terms_in, kind_in}
+use Rattle.object_store.specs.Objects.{quoted, with_quote, bare, has_quote, valued, joined, joined_from, objects_of, IsBoarded}
 use Rattle.object_store.proofs.Kept.{same_lists}
 
 length_from : (board : Board) (at : ℕ) (slots : List Slot) → length (joined_from board at slots) ≡ length slots
@@ -366,94 +364,6 @@ value_is board slots x value boarded is = by_entry (entry board x) refl
     by_entry : (e : Option (Option ℤ)) → entry board x ≡ e → is_equal e (Some value) ≡ holds_value value (slice_index_or (objects_of board slots) x Free)
     by_entry None has = absurd (quote_there board slots x boarded is has)
     by_entry (Some held) has = sym (ap (holds_value value) (quote_terms board slots x held is has))
-
--- what is no quote has the terms of its slot
-pub own_is : (s : Slot) (terms : Terms) → has_own_terms s ≡ true → bare (terms_in s) ≡ Some terms → terms_in s ≡ Some terms
-own_is Free terms own is = absurd (false≢true own)
-own_is Today terms own is = absurd (false≢true own)
-own_is Watcher terms own is = absurd (false≢true own)
-own_is (Live t) terms own is = ap Some (sym (plain_terms None t (by_test (quoted t) own))) ∙ is
-  where
-    by_test : (q : Option (Option ℤ)) → not (is_some q) ≡ true → q ≡ None
-    by_test None own = refl
-    by_test (Some v) own = absurd (false≢true own)
-
-pub own_there : (s : Slot) → has_own_terms s ≡ true → bare (terms_in s) ≡ None → ⊥
-own_there Free own is = false≢true own
-own_there Today own is = false≢true own
-own_there Watcher own is = false≢true own
-own_there (Live t) own is = absurd (cc)
-
--- handles and lazy objects are no quotes
-pub handle_own : (s : Slot) → is_handle (terms_in s) ≡ true → has_own_terms s ≡ true
-handle_own Free is = is
-handle_own Today is = is
-handle_own Watcher is = is
-handle_own (Live (Quote held)) is = is
-handle_own (Live (Derived minus first second)) is = refl
-handle_own (Live (Handle kind target)) is = refl
-handle_own (Live (Curve terms)) is = refl
-handle_own (Live (Implied curve reference)) is = refl
-handle_own (Live (Index terms fixings)) is = refl
-handle_own (Live (Engine curve)) is = refl
-handle_own (Live (Stock quote)) is = refl
-handle_own (Live (Composite parts)) is = refl
-handle_own (Live (Flows flows engine)) is = refl
-
-pub lazy_own : (s : Slot) → is_lazy (role_of (terms_in s)) ≡ true → has_own_terms s ≡ true
-lazy_own Free is = is
-lazy_own Today is = is
-lazy_own Watcher is = is
-lazy_own (Live (Quote held)) is = is
-lazy_own (Live (Derived minus first second)) is = refl
-lazy_own (Live (Handle kind target)) is = refl
-lazy_own (Live (Curve terms)) is = refl
-lazy_own (Live (Implied curve reference)) is = refl
-lazy_own (Live (Index terms fixings)) is = refl
-lazy_own (Live (Engine curve)) is = refl
-lazy_own (Live (Stock quote)) is = refl
-lazy_own (Live (Composite parts)) is = refl
-lazy_own (Live (Flows flows engine)) is = refl
-
--- the value of a quote is no part of a composite, no engine and no index
-pub bare_held : (t : Option Terms) → parts_held (changeable (bare t)) ≡ parts_held (changeable t)
-bare_held None = refl
-bare_held (Some (Quote held)) = refl
-bare_held (Some (Derived minus first second)) = refl
-bare_held (Some (Handle kind target)) = refl
-bare_held (Some (Curve terms)) = refl
-bare_held (Some (Implied curve reference)) = refl
-bare_held (Some (Index terms fixings)) = refl
-bare_held (Some (Engine curve)) = refl
-bare_held (Some (Stock quote)) = refl
-bare_held (Some (Composite parts)) = refl
-bare_held (Some (Flows flows engine)) = refl
-
-pub bare_engine : (t : Option Terms) → engine_in (changeable (bare t)) ≡ engine_in (changeable t)
-bare_engine None = refl
-bare_engine (Some (Quote held)) = refl
-bare_engine (Some (Derived minus first second)) = refl
-bare_engine (Some (Handle kind target)) = refl
-bare_engine (Some (Curve terms)) = refl
-bare_engine (Some (Implied curve reference)) = refl
-bare_engine (Some (Index terms fixings)) = refl
-bare_engine (Some (Engine curve)) = refl
-bare_engine (Some (Stock quote)) = refl
-bare_engine (Some (Composite parts)) = refl
-bare_engine (Some (Flows flows engine)) = refl
-
-pub bare_index : (x : ℕ) (t : Option Terms) → index_in x (bare t) ≡ index_in x t
-bare_index x None = refl
-bare_index x (Some (Quote held)) = refl
-bare_index x (Some (Derived minus first second)) = refl
-bare_index x (Some (Handle kind target)) = refl
-bare_index x (Some (Curve terms)) = refl
-bare_index x (Some (Implied curve reference)) = refl
-bare_index x (Some (Index terms fixings)) = refl
-bare_index x (Some (Engine curve)) = refl
-bare_index x (Some (Stock quote)) = refl
-bare_index x (Some (Composite parts)) = refl
-bare_index x (Some (Flows flows engine)) = refl
 
 same_value : (held value : Option ℤ) → option_eq int_eq held value ≡ true → held ≡ value
 same_value None None is = refl

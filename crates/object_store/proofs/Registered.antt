@@ -141,18 +141,6 @@ pub same_registry : (old new : StoreView) → new.deferring ≡ old.deferring �
     → registry_of new ≡ registry_of old
 same_registry old new switch pairs told = λ i. record { deferring = switch i; registrations = pairs i; noticed = told i }
 
-pub joins_plain : (old new : StoreView) (s o : ℕ) → (role_at old.shape o ≡ Some Watcher → ⊥) → Joins old new s o → registry_of new ≡ registry_of old
-joins_plain old new s o plain joins = same_registry old new joins.switch (same_but old.shape new.shape o joins.roles plain (λ p x other. (
-  λ a. elim ((joins.pairs x p).0 a) [ inl was ↦ was | inr new ↦ absurd (other new.1) ],
-  λ a. (joins.pairs x p).1 (inl a),
-))) joins.told
-
-pub leaves_plain : (old new : StoreView) (s o : ℕ) → (role_at old.shape o ≡ Some Watcher → ⊥) → Leaves old new s o → registry_of new ≡ registry_of old
-leaves_plain old new s o plain leaves = same_registry old new leaves.switch (same_but old.shape new.shape o leaves.roles plain (λ p x other. (
-  λ a. ((leaves.pairs x p).0 a).0,
-  λ a. (leaves.pairs x p).1 (a, λ q. other q.1),
-))) leaves.told
-
 pub moves_plain : (held target : Option ℕ) (o : ℕ) (old new : StoreView) → (role_at old.shape o ≡ Some Watcher → ⊥) → Moves held target o old new → registry_of new ≡ registry_of old
 moves_plain held target o old new plain moves = same_registry old new moves.switch (same_but old.shape new.shape o moves.roles plain moves.others) moves.told
 

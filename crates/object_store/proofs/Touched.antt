@@ -49,19 +49,6 @@ cleared e rest o a = record {
   within = λ x among. subst (λ (n : ℕ). x < n) (sym (length-set e o None)) (a.within x (inr among));
 }
 
-none_from : (entry : Option Entry) → (entry ≢ None → ⊥) → entry ≡ None
-none_from None not = refl
-none_from (Some entry) not = absurd (not (λ e. absurd (cc)))
-
-pub nothing_left : (e : List (Option Entry)) → AreTouched e [] → (x : ℕ) → slice_index_or e x None ≡ None
-nothing_left e a x = none_from (slice_index_or e x None) (λ there. a.entry x there)
-
-pub touched_none : (e : List (Option Entry)) → ((x : ℕ) → slice_index_or e x None ≡ None) → AreTouched e []
-touched_none e entries = record {
-  entry = λ x there. absurd (there (entries x));
-  within = λ x among. absurd among;
-}
-
 -- a list with the default at its end
 pub pushed_default : {X : Type 0} (xs : List X) (d : X) (i : ℕ) → slice_index_or (xs ++ d ∷ []) i d ≡ slice_index_or xs i d
 pushed_default [] d zero = refl

@@ -98,9 +98,6 @@ set_grown marks items s = record {
   room = let e = open_last marks in let n = length-append marks (false ∷ []) in let r = s.room in omega arith;
 }
 
-pub set_none : IsSet [] []
-set_none = record { listed = λ o e. absurd (false≢true e); marked = λ o a. absurd a; once = tt; room = refl }
-
 open_all : (marks : List Bool) → ((o : ℕ) → is_marked marks o ≡ false) → open_count marks ≡ length marks
 open_all [] none = refl
 open_all (mark ∷ marks) none = let e = open_all marks (λ o. none (suc o)) in step mark (none 0) e

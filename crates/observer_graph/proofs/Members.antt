@@ -37,12 +37,6 @@ among_at [] i d low = absurd (omega arith)
 among_at (x ∷ xs) zero d low = inl refl
 among_at (x ∷ xs) (suc i) d low = inr (among_at xs i d (omega arith))
 
--- and is the node at some place
-pub place_among : (xs : List ℕ) (o d : ℕ) → Among o xs → (i : ℕ) × (i < length xs) × (slice_index_or xs i d ≡ o)
-place_among [] o d a = absurd a
-place_among (x ∷ xs) o d (inl same) = (0, omega arith, sym same)
-place_among (x ∷ xs) o d (inr a) = let p = place_among xs o d a in let low = p.1 in (suc p.0, omega arith, p.2)
-
 -- a list with one node less
 pub once_last : (xs : List ℕ) (y : ℕ) → IsOnce xs → (Among y xs → ⊥) → IsOnce (xs ++ y ∷ [])
 once_last [] y once apart = (λ a. a, tt)

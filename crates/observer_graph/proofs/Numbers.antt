@@ -4,7 +4,7 @@ use Rattle.std.specs.Prelude.{◌==◌, if◌then◌else◌}
 use Rattle.std.specs.List.{insert, remove}
 use Rattle.std.proofs.lemmas.Bool.{cond_both, ltb-true, ltb-false, eqb-true, eqb-false, lt-ltb, le-ltb, ne_eqb}
 use Rattle.observer_graph.specs.Noticed.{with_number, without, AreAll, AreInOrder, IsRising, IsPlace, AreNoticed, is_at}
-use Rattle.std.specs.Prelude.{◌↔◌, slice_set, slice_get, IsTrue, not, Some}
+use Rattle.std.specs.Prelude.{◌↔◌, slice_set}
 use Rattle.std.proofs.lemmas.List.{length-set}
 use Rattle.walks.specs.Walk.{Among}
 
@@ -41,12 +41,6 @@ all_without P number (first ∷ rest) all =
     cond_both (first == number) (without number rest) (first ∷ without number rest) (AreAll P)
     (λ e. all_without P number rest all.1) (λ e. (all.0, all_without P number rest all.1))
 
-pub all_removed : (P : ℕ → Type 0) (numbers : List ℕ) (at : ℕ) → at < length numbers → AreAll P numbers
-    → AreAll P (remove numbers at)
-all_removed P [] at low all = absurd (omega arith)
-all_removed P (first ∷ rest) zero low all = all.1
-all_removed P (first ∷ rest) (suc at) low all = (all.0, all_removed P rest at (omega arith) all.1)
-
 pub order_without : (R : ℕ → ℕ → Type 0) (number : ℕ) (numbers : List ℕ) → AreInOrder R numbers
     → AreInOrder R (without number numbers)
 order_without R number [] all = tt
@@ -54,13 +48,6 @@ order_without R number (first ∷ rest) all =
     cond_both (first == number) (without number rest) (first ∷ without number rest) (AreInOrder R)
     (λ e. order_without R number rest all.1)
     (λ e. (all_without (R first) number rest all.0, order_without R number rest all.1))
-
-pub order_removed : (R : ℕ → ℕ → Type 0) (numbers : List ℕ) (at : ℕ) → at < length numbers
-    → AreInOrder R numbers → AreInOrder R (remove numbers at)
-order_removed R [] at low all = absurd (omega arith)
-order_removed R (first ∷ rest) zero low all = all.1
-order_removed R (first ∷ rest) (suc at) low all =
-    (all_removed (R first) rest at (omega arith) all.0, order_removed R rest at (omega arith) all.1)
 
 later_than : (a b : ℕ) → (a == b) ≡ false → nat_lt b a ≡ false → a < b
 later_than a b other ge = let ne = eqb-false a b other in let le = ltb-false b a ge in omega arith
@@ -195,10 +182,6 @@ noticed_without numbers w n noticed = (
   all_without (λ one. one < n) w numbers noticed.1,
 )
 
-pub noticed_rest : (w : ℕ) (numbers rest : List ℕ) (n : ℕ) → numbers ≡ w ∷ rest → AreNoticed numbers n → AreNoticed rest n
-noticed_rest w numbers rest n is noticed =
-    let first = subst (λ (l : List ℕ). AreNoticed l n) is noticed in (first.0.1, first.1.1)
-
 pub room_with : (numbers : List ℕ) (w n : ℕ) → w < n → AreNoticed numbers n → length (with_number w numbers) ≤ n
 room_with numbers w n low noticed =
     let more = noticed_with numbers w n low noticed in rising_room n (with_number w numbers) more.1 more.0
@@ -235,21 +218,6 @@ among_with v w (first ∷ rest) = by_place (first == w) refl (nat_lt w first) (a
         | inr is ↦ inr (more.1 (inr is))
       ],
     )
-
-pub among_some : (items : List ℕ) (i x : ℕ) → slice_get items i ≡ Some x → Among x items
-among_some [] zero x is = absurd (cc)
-among_some [] (suc i) x is = absurd (cc)
-among_some (first ∷ rest) zero x is = inl (some_is x first (sym is))
-  where
-    some_is : (a b : ℕ) → Some a ≡ Some b → a ≡ b
-    some_is a b e = cc
-among_some (first ∷ rest) (suc i) x is = inr (among_some rest i x is)
-
-pub any_of : (numbers : List ℕ) (b : Bool) → b ≡ (length numbers == 0) → IsTrue (not b) ↔ ((x : ℕ) × Among x numbers)
-any_of [] true is = (λ never. absurd (cc), λ some. absurd some.1)
-any_of [] false is = absurd (cc)
-any_of (first ∷ rest) true is = let none = eqb-true (length (first ∷ rest)) 0 (sym is) in absurd (omega arith)
-any_of (first ∷ rest) false is = (λ yes. (first, inl refl), λ some. refl)
 
 pub noticed_step : (W : Type 0) (numbers numbers2 : List ℕ) (w n : ℕ) → w < n
     → (W × (numbers2 ≡ with_number w numbers)) ⊎ ((W → ⊥) × (numbers2 ≡ numbers)) → AreNoticed numbers n → AreNoticed numbers2 n

@@ -6,7 +6,7 @@ use Rattle.schedule_rules.specs.declared.plans.Plan.{Plan}
 use Rattle.schedule_rules.specs.declared.faults.PlanFault.{PlanFault}
 use Rattle.schedule_rules.specs.declared.faults.PlanFault.TheVariants.{Order, Tenor as TenorFault, Stub, TooMany, DateRange, Collapsed, NoMemory}
 use Rattle.schedule_rules.specs.Raw.{put_into}
-use Rattle.schedule_rules.specs.Schedule.{day_and, each_of, rising_or_fault, unless, dated, schedule, Gives, IsMemory}
+use Rattle.schedule_rules.specs.Schedule.{day_and, each_of, unless, dated, schedule, Gives, IsMemory}
 use Rattle.schedule_rules.specs.Terms.{fault_of_terms}
 use Rattle.schedule_rules.proofs.RawLemmas.{put_into-one, put_into-none}
 
@@ -14,10 +14,6 @@ use Rattle.schedule_rules.proofs.RawLemmas.{put_into-one, put_into-none}
 abbrev pub put_each : List ℤ → Option (List ℤ) → Result (List ℤ) PlanFault
 put_each days (Some more) = Ok (put_into days more)
 put_each days None = Err DateRange
-
-pub put_each-all : (o : Option (List ℤ)) → put_each [] o ≡ rising_or_fault o
-put_each-all (Some days) = refl
-put_each-all None = refl
 
 put_each-one : (days : List ℤ) (day : ℤ) (o : Option (List ℤ)) → put_each days (day_and (Some day) o) ≡ put_each (insert_key int_cmp days day) o
 put_each-one days day (Some more) = ap Ok (put_into-one days more day)

@@ -70,14 +70,6 @@ begins_second calls more count mid now log log_mid log_now first b = record {
       ∙ ap (logged log) (sym (take-append-add calls more b.ended));
 }
 
--- however it ended
-pub calls_second : {A E : Type 0} (calls more : List (ℕ × Bool)) (result : Result A E) (count mid now : ℕ) (log log_mid log_now : Log)
-    → Makes calls count mid log log_mid → Calls more result mid now log_mid log_now → Calls (calls ++ more) result count now log log_now
-calls_second calls more (Ok x) count mid now log log_mid log_now first second =
-    makes_both calls more count mid now log log_mid log_now first second
-calls_second calls more (Err e) count mid now log log_mid log_now first second =
-    begins_second calls more count mid now log log_mid log_now first second
-
 -- all of it was made, however it ended then
 pub calls_any : {A E : Type 0} (calls : List (ℕ × Bool)) (result : Result A E) (count now : ℕ) (log log_now : Log)
     → Makes calls count now log log_now → Calls calls result count now log log_now

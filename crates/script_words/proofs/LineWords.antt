@@ -201,10 +201,6 @@ module _ (line : List ℕ) (words more : List (List ℕ)) (text word behind : Li
       × ((get_or behind 0 0 == 35 && list_all is_good (take (length behind - 1) (drop 1 behind))) ≡ true → more ≡ words_of line)
   cut_last some h = cut_last_at (get_or behind 0 0) (take (length behind - 1) (drop 1 behind)) (first_and_rest behind some) h
 
--- before the first word nothing is said
-pub cut_begun : (line : List ℕ) → Cut line [] line
-cut_begun line = record { good = refl; whole = refl }
-
 -- nothing is left to say of no byte
 pub cut_done : (line : List ℕ) (words : List (List ℕ)) (rest : List ℕ) → length rest < 1 → Cut line words rest → (true ≡ list_all is_good line) × (words ≡ words_of line)
 unfolding words_of

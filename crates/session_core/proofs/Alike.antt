@@ -324,19 +324,5 @@ unfolding recalced stored
 recalced_alike calc s t o is = to s t (recalced calc o s) is
     (alike_same s.market _ (notified_market o (recalced_bare calc o s (stored s (inputs_walk calc s o).calls))))
 
--- what stays as it was keeps all that is current
-pub keeps_same : (s t : State) → t ≡ s → KeepsCurrent s t
-keeps_same s t same = subst (λ (u : State). KeepsCurrent s u) (sym same) (record {
-  sources = λ sources. sources;
-  each = λ o current source. record {
-    current = current;
-    source = source;
-    reading = refl;
-    last = refl;
-    ready =
-        λ ready. ready;
-  };
-})
-
 pub keeps_as : (p q : Standing) (t : State) → p ≡ q → KeepsCurrent p.state t → KeepsCurrent q.state t
 keeps_as p q t same keeps = subst (λ (r : Standing). KeepsCurrent r.state t) same keeps

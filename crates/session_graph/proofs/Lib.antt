@@ -1,4 +1,3 @@
 pub mod Below
 pub mod Edged
 pub mod Once
-pub mod Unquoted

@@ -2,7 +2,7 @@
 use Rattle.std.proofs.Common.{◌≡◌, ℕ, ◌+◌, ◌<◌, ◌≤◌, Bool, true, false, List, [], ◌∷◌, ◌++◌, length, get_or, take, refl, sym, ◌∙◌, ap}
 use Rattle.std.specs.Prelude.{◌==◌, ◌||◌, if◌then◌else◌}
 use Rattle.std.specs.List.{list_any}
-use Rattle.std.proofs.lemmas.List.{append-nil, take_more, take_all}
+use Rattle.std.proofs.lemmas.List.{append-nil, take_more}
 use Rattle.desk_model.specs.Market.{without, each_once}
 
 -- an object, unless it is there
@@ -48,6 +48,3 @@ module _ (xs : List ℕ) (at : ℕ) (x : ℕ) (within : at < length xs) (is : x 
   once_next once new so_far more =
       more ∙ ap (λ (l : List ℕ). l ++ unless (list_any (λ other. other == x) (take at xs)) x) so_far
       ∙ sym (ap each_once next ∙ once_push (take at xs) x)
-
-pub once_all : (xs : List ℕ) (at : ℕ) (once : List ℕ) → length xs ≤ at → once ≡ each_once (take at xs) → once ≡ each_once xs
-once_all xs at once past so_far = so_far ∙ ap each_once (take_all at xs past)

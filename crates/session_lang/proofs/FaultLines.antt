@@ -210,10 +210,6 @@ found_by : (b : Bool) (step : Step) (rest : Option Step) → line_of (cond b (So
 found_by true step rest = refl
 found_by false step rest = refl
 
-blank_by : (b : Bool) (number : ℕ) (o : Option ℕ) → false ≡ b → o ≡ cond b (Some number) o
-blank_by false number o h = refl
-blank_by true number o h = absurd (cc)
-
 found_kept : (K : Known) (number : ℕ) (st : Statement) (steps : List Step) → line_of (find (λ step. lacks K step.what) (kept number st steps)) ≡ cond (lacks K st) (Some number) (line_of (find (λ step. lacks K step.what) steps))
 found_kept K number Blank steps = refl
 found_kept K number (Begin name) steps = found_by (lacks K (Begin name)) (record { line = number; what = Begin name }) (find (λ step. lacks K step.what) steps)

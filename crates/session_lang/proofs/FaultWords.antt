@@ -193,9 +193,6 @@ lacks_is : (full : Bool) (names : List (List ℕ)) (r : Result (Field × List (L
 lacks_is full names (Ok x) h many = absurd (let e : true ≡ false = sym many ∙ h.0 in cc)
 lacks_is full names (Err e) h many = ap (λ k. Err k) h.1
 
-few_is : (names : List (List ℕ)) → over names ≡ false → length names ≤ most_names
-few_is names h = ltb-false most_names (length names) h
-
 more_over : (k : Kind) (w : List ℕ) (N : List (List ℕ)) → over N ≡ true → over (with_name k w N) ≡ true
 more_over k w N h = lt-ltb most_names (length (with_name k w N)) (omega (arith, ltb-true most_names (length N) h, longer k w N))
 

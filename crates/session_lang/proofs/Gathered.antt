@@ -14,7 +14,7 @@ use Rattle.session_lang.specs.declared.statement.Statement.{Statement}
 use Rattle.session_lang.specs.declared.statement.Statement.TheVariants.{Blank, Begin, End, Run}
 use Rattle.session_lang.specs.declared.steps.Step.{Step}
 use Rattle.script_words.specs.Given.{◌>>=◌}
-use Rattle.session_lang.specs.Given.{FailsAt, GivesAt}
+use Rattle.session_lang.specs.Given.{GivesAt}
 use Rattle.session_lang.specs.Statement.{Known}
 use Rattle.session_lang.specs.Reading.{Said, kept, opened, action_of, lacks, lacks_action, line_of, linked, block_with, block_of, action_with, actions_of, name_with, action_names_of, inside_after, command_with, commands_of, script_of, unless_lacking, together_of, lines_meaning, most_bytes, script_meaning}
 use Rattle.session_lang.specs.Gathered.{is_later, later_with, later, outside_with, outside, Gathered, gathered_behind, script_of_gathered, together_gathered}
@@ -165,24 +165,12 @@ lines_told (Ok said) h e =
     sym (together_same said.known said.steps said.open_at) ∙ ap (λ x. together_gathered x.known x.steps x.commands x.open_at) (told_same all h e)
 lines_told (Err f) h e = absurd (cc)
 
-lines_lost : (r : Result Said (ℕ × ScriptKind)) (f : ℕ × ScriptKind) → gathered_behind [] [] false r ≡ Err f → (r >>= (λ said. together_of said.known said.steps said.open_at)) ≡ Err f
-lines_lost (Ok said) f e = absurd (cc)
-lines_lost (Err g) f e = let same : g ≡ f = cc in ap (λ x. Err x) same
-
 -- a text no longer than a script may be says what is gathered of its lines
 pub text_told : (names begun : List (List ℕ)) (text : List ℕ) (h : Gathered) → begun ≡ [] → nat_lt most_bytes (length text) ≡ false → gathered_behind [] [] false (lines_meaning (record { names = names; begun = begun }) None 1 (lines text)) ≡ Ok h → script_meaning names text ≡ together_gathered h.known h.steps h.commands h.open_at
 unfolding script_meaning
 text_told names begun text h none short e =
     ap (λ b. cond b (Err (0, fault.TooLong)) (lines_meaning (record { names = names; begun = [] }) None 1 (lines text) >>= (λ said. together_of said.known said.steps said.open_at))) short
     ∙ lines_told (lines_meaning (record { names = names; begun = [] }) None 1 (lines text)) h (ap (λ b. gathered_behind [] [] false (lines_meaning (record { names = names; begun = b }) None 1 (lines text))) (sym none) ∙ e)
-
--- the same of its first fault
-pub text_lost : (names begun : List (List ℕ)) (text : List ℕ) (f : ScriptFault) → begun ≡ [] → nat_lt most_bytes (length text) ≡ false → FailsAt f (gathered_behind [] [] false (lines_meaning (record { names = names; begun = begun }) None 1 (lines text))) → FailsAt f (script_meaning names text)
-unfolding script_meaning
-text_lost names begun text script.NoMemory none short e = tt
-text_lost names begun text (script.At line k) none short e =
-    ap (λ b. cond b (Err (0, fault.TooLong)) (lines_meaning (record { names = names; begun = [] }) None 1 (lines text) >>= (λ said. together_of said.known said.steps said.open_at))) short
-    ∙ lines_lost (lines_meaning (record { names = names; begun = [] }) None 1 (lines text)) (line, k) (ap (λ b. gathered_behind [] [] false (lines_meaning (record { names = names; begun = b }) None 1 (lines text))) (sym none) ∙ e)
 
 -- the same of an answer
 pub text_given : (view : Script → Script × List (List ℕ)) (r : Result Script ScriptFault) (names begun : List (List ℕ)) (text : List ℕ) (h : Gathered) → begun ≡ [] → nat_lt most_bytes (length text) ≡ false → gathered_behind [] [] false (lines_meaning (record { names = names; begun = begun }) None 1 (lines text)) ≡ Ok h → GivesAt view r (together_gathered h.known h.steps h.commands h.open_at) → GivesAt view r (script_meaning names text)

@@ -1,30 +1,19 @@
 -- What holds of a session with watchers stays while they are told and run.
-use Rattle.std.proofs.Common.{◌≡◌, ℕ, zero, suc, ◌-◌, Option, Some, None, ◌<◌, ◌≤◌, ◌+◌, true, false, List, [], ◌∷◌, ◌++◌, length, replicate, refl, sym, ap, subst, ◌∙◌, arith}
+use Rattle.std.proofs.Common.{◌≡◌, ℕ, zero, suc, ◌-◌, Option, Some, None, ◌<◌, ◌≤◌, ◌+◌, false, List, [], ◌∷◌, ◌++◌, length, replicate, refl, sym, ap, subst, ◌∙◌, arith}
 use Rattle.std.specs.Prelude.{slice_get, IfSome, IfNone, max}
-use Rattle.std.proofs.lemmas.List.{length-replicate, append-nil}
+use Rattle.std.proofs.lemmas.List.{length-replicate}
 use Rattle.std.proofs.lemmas.Option.{slice_get-get_or}
 use Rattle.watch_rounds.specs.declared.due.DueWatcher.{DueWatcher}
 use Rattle.watch_rounds.specs.declared.tally.Tally.{Tally}
-use Rattle.watch_rounds.specs.Due.{AreAll, IsOnly}
+use Rattle.watch_rounds.specs.Due.{AreAll}
 use Rattle.watch_rounds.specs.Round.{Round, RoundsView, IsRound, blank, no_round, grown, with_notice, with_run, watcher_of}
 use Rattle.watch_rounds.proofs.Stays.{nobody_ran, notice_long, notice_all, ran_long, ran_all}
-use Rattle.watch_rounds.proofs.Places.{all_map}
 use Rattle.session_model.specs.Standing.{Standing, name_of}
 use Rattle.session_model.specs.Course.{Running, running}
 use Rattle.session_core.specs.Watchers.{IsAWatcher, AreWatchers}
 use Rattle.session_rounds.specs.Fits.{Fits, IsDueOf, AreKnown}
 use Rattle.session_rounds.specs.Goes.{HasEnded}
 use Rattle.session_rounds.proofs.Hearing.{with_noticed}
-
--- of the due, a watcher that is told is the only one with its name
-pub only_of : (p : Standing) (w name : ℕ) (due : List DueWatcher) → AreAll (IsDueOf p) due → IsAWatcher p w → name ≡ name_of p w
-    → IsOnly w name due
-only_of p w name due all watcher named = all_map (IsDueOf p)
-    (λ one. (one.watcher ≡ w → one.name ≡ name) × (one.name ≡ name → one.watcher ≡ w))
-    (λ one is. (
-      (λ same. is.1 ∙ ap (name_of p) same ∙ sym named),
-      (λ same. watcher.alone one.watcher is.0 (sym is.1 ∙ same ∙ named)),
-    )) due all
 
 -- a watcher was told
 pub fits_notice : {P : Type 0} → (r : Running P) (nodes w name : ℕ) → Fits P r nodes → IsAWatcher r.standing w → name ≡ name_of r.standing w
@@ -124,16 +113,6 @@ begins names nodes new is = (
   ap (λ (v : RoundsView). v.round) is ∙ ap (λ (l : List Tally). let r : Round = record { due = []; tallies = l } in r) (grown_blank names),
   ap (λ (v : RoundsView). v.nodes) is,
 )
-
-pub fits_new : {P : Type 0} → (p : Standing) (picker : P) (nodes : ℕ) → length p.of_object + 1 ≤ nodes → AreKnown p
-    → Fits P (running picker p) nodes
-fits_new p picker nodes room known = record {
-  counted = length-replicate (length p.names) blank;
-  room = omega arith;
-  spare = λ running. room;
-  due = tt;
-  known = known;
-}
 
 -- where nobody is due the round has ended
 ended : (due : List DueWatcher) → length due ≡ 0 → due ≡ []

@@ -74,11 +74,6 @@ pub plays_none : {P : Type 0} → (m : Meaning P) (r : Running P) (w : ℕ) (out
 unfolding course_of_all
 plays_none {P} m r w out is = rw is (record { next = refl; out = more_none out })
 
-pub plays_some : {P : Type 0} → (m : Meaning P) (r : Running P) (w action : ℕ)
-    → slice_index_or r.standing.watching (name_of r.standing w) None ≡ Some action
-    → course_of_all m (slice_index_or r.standing.actions action []) r ≡ course_of_all m (action_of r.standing (Some w)) r
-plays_some m r w action is = rw is refl
-
 -- THE RUNS OF A ROUND
 module _ {P : Type 0} (m : Meaning P) where
   some_due : (due : List DueWatcher) (at w : ℕ) → watcher_of (slice_get due at) ≡ Some w → (length due == 0) ≡ false

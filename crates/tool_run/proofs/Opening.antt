@@ -6,15 +6,14 @@ use Rattle.market_file.specs.declared.read.Market as read
 use Rattle.market_loader.specs.Ends.{End, load_end}
 use Rattle.market_loader.specs.Files.{Files}
 use Rattle.market_loader.specs.Market.{market_in as loaded_in, market_of, market_calls}
-use Rattle.market_loader.specs.Reads.{Seen, Reads, IsOutside as IsOutsideOf, Tells as TellsOf, faults_at, faults_after as counted_after}
+use Rattle.market_loader.specs.Reads.{Seen, Reads, IsOutside as IsOutsideOf, Tells as TellsOf, faults_after as counted_after}
 use Rattle.market_loader.specs.declared.faults.LoadFault.{LoadFault}
 use Rattle.market_loader.specs.declared.faults.LoadFault.TheVariants as loaded
 use Rattle.market_loader.proofs.Steps.{told_map, reads_as}
 use Rattle.tool_run.specs.declared.market.OpenMarket.{OpenMarket}
-use Rattle.tool_run.specs.declared.status.MarketStatus.{MarketStatus}
 use Rattle.tool_run.specs.Market.{market_in, market_at, status_end}
-use Rattle.tool_run.specs.Run.{Tells, faults_after}
-use Rattle.tool_run.specs.Stage.{Stage, Done, Refused, Missing, Failed, Cut, Halted, IsOutside, faults_then, stage_end}
+use Rattle.tool_run.specs.Run.{Tells}
+use Rattle.tool_run.specs.Stage.{Stage, Done, Refused, Missing, Failed, Cut, Halted, IsOutside, stage_end}
 use Rattle.tool_run.specs.Status.{load_status}
 
 -- a failure ends a reading as its status does
@@ -79,14 +78,6 @@ outside_of Refused outside = absurd outside
 outside_of Missing outside = absurd outside
 outside_of Cut outside = absurd outside
 
-counted_at : (n : Stage) (faults : ℕ) → faults_at (stage_end n) faults ≡ faults_then n faults
-counted_at Done faults = refl
-counted_at Refused faults = refl
-counted_at Missing faults = refl
-counted_at Failed faults = refl
-counted_at Cut faults = refl
-counted_at Halted faults = refl
-
 module _ {Found Wanted Status : Type 0} (stage : Status → Stage) (view : Found → Wanted) where
   tells_of : (result : Result Found Status) (told : Result Wanted Status) → TellsOf (λ s. stage_end (stage s)) view result told
       → Tells stage view result told
@@ -99,9 +90,3 @@ module _ {Found Wanted Status : Type 0} (stage : Status → Stage) (view : Found
       → IfSome told (λ files. TellsOf (λ s. stage_end (stage s)) view result (meaning files))
       → IfSome told (λ files. Tells stage view result (meaning files))
   told_of told meaning result t = told_map told (λ files h. tells_of result (meaning files) h) t
-
--- and its count of faults is that of the run
-pub counted_of : {Found Status : Type 0} (stage : Status → Stage) (result : Result Found Status) (faults : ℕ)
-    → counted_after (λ s. stage_end (stage s)) result faults ≡ faults_after stage result faults
-counted_of stage (Ok x) faults = refl
-counted_of stage (Err s) faults = counted_at (stage s) faults

@@ -1,6 +1,6 @@
 -- What holds of a round is kept.
 use Rattle.std.proofs.Common.{◌≡◌, ◌≢◌, inl, inr, ℕ, zero, suc, ◌+◌, ◌-◌, ◌<◌, ◌≤◌, Bool, true, false, List, [], ◌∷◌, ◌++◌, length, refl, sym, ◌∙◌, ap, subst, arith, get_or, replicate, Option, Some, None}
-use Rattle.std.specs.Prelude.{slice_set, slice_get, nat_lt, max, ◌==◌}
+use Rattle.std.specs.Prelude.{slice_set, slice_get, ◌==◌}
 use Rattle.std.proofs.lemmas.List.{get_or_default}
 use Rattle.std.specs.List.{remove, filter}
 use Rattle.std.proofs.lemmas.Bool.{cases_eq, lt-ltb, le-ltb}
@@ -214,9 +214,6 @@ none_at : (due : List DueWatcher) (at : ℕ) → length due ≡ 0 → slice_get 
 none_at [] zero none = refl
 none_at [] (suc at) none = refl
 none_at (first ∷ rest) at none = absurd (omega arith)
-
-pub nobody_is : (round : Round) (at : ℕ) → length round.due ≡ 0 → watcher_at at round ≡ None
-nobody_is round at none = rw (none_at round.due at none) refl
 
 pub nobody_ran : (round : Round) (at : ℕ) → length round.due ≡ 0 → with_run at round ≡ round
 unfolding with_run

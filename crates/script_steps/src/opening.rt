@@ -9,7 +9,6 @@ ghost use Rattle.script_steps.specs.Going.{IsGoing};
 use desk_names::Names;
 use market_file::Market;
 use market_session::watched_session;
-use names_copy::copy_names;
 use session_commands::Actions;
 use session_rounds::WatchedSession;
 use std::alloc::{AllocError, Global};
@@ -29,7 +28,7 @@ pub fn begun(
     ensures going { IfOk result (λ session. (calc : Calc) → IsGoing calc session) }
 {
     let made = copy_made(alloc, market.made.as_slice())?;
-    let names = copy_names(alloc, names)?;
+    let names = names.copy(alloc)?;
     let actions = Actions::new(alloc);
     let session = watched_session(alloc, names, market.today, made, actions, Order::First)?;
     Ok(session)

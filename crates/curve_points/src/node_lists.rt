@@ -19,7 +19,7 @@ impl Model for NodeList {
 }
 
 impl NodeList {
-    ghost use Rattle.std.specs.Prelude.{◌≡◌, ◌++◌, ◌∷◌, [], OnOk, OnErr, IfOk};
+    ghost use Rattle.std.specs.Prelude.{◌≡◌, ◌++◌, ◌∷◌, [], ◌<◌, length, slice_get, Some, OnOk, OnErr, IfOk};
 
     /// No nodes, which take no memory.
     pub fn new(alloc: Global) -> NodeList
@@ -28,6 +28,21 @@ impl NodeList {
         NodeList {
             nodes: Vec::new(alloc),
         }
+    }
+
+    /// How many nodes there are.
+    pub fn len(&self) -> usize
+        ensures { result ≡ length self.now }
+    {
+        self.nodes.len()
+    }
+
+    /// The node at a place, counted from 0.
+    pub fn get(&self, at: usize) -> &CurveNode
+        requires { at < length self.now }
+        ensures { slice_get self.now at ≡ Some result.now }
+    {
+        &self.nodes[at]
     }
 
     /// The nodes as a slice.

@@ -6,7 +6,7 @@ use Rattle.std.proofs.lemmas.Bool.{or_left, or_right, or_parts}
 use Rattle.desk_terms.specs.declared.value.Value.{Value}
 use Rattle.desk_terms.specs.declared.asked.Asked.{Asked}
 use Rattle.desk_terms.specs.declared.asked.Mark.{Mark}
-use Rattle.desk_terms.specs.declared.asked.Mark.TheVariants.{Fresh, Frozen, Late, Unclear}
+use Rattle.desk_terms.specs.declared.asked.Mark.TheVariants.{Fresh, Frozen, Late, Held}
 use Rattle.desk_terms.specs.Asked.{Shows}
 use Rattle.desk_terms.specs.Reading.{Outcome, Calc}
 use Rattle.desk_terms.specs.Bench.{counted, logged}
@@ -28,20 +28,20 @@ use Rattle.ask_walk.proofs.Loop.{each_id, fit_of, current_last}
 module _ (s : State) (o : ℕ) where
   pub frozen_mark : (kept_at s o).frozen ≡ true → mark_of s o ≡ Frozen
   unfolding mark_of is_frozen
-  frozen_mark frozen = ap (λ (b : Bool). if b then Frozen else if is_late s o then Late else if is_clear s o then Fresh else Unclear) frozen
+  frozen_mark frozen = ap (λ (b : Bool). if b then Frozen else if is_late s o then Late else if is_clear s o then Fresh else Held) frozen
 
   pub late_mark : (kept_at s o).frozen ≡ false → is_late s o ≡ true → mark_of s o ≡ Late
   unfolding mark_of is_frozen
   late_mark thawed late =
-      ap (λ (b : Bool). if b then Frozen else if is_late s o then Late else if is_clear s o then Fresh else Unclear) thawed
-      ∙ ap (λ (b : Bool). if b then Late else if is_clear s o then Fresh else Unclear) late
+      ap (λ (b : Bool). if b then Frozen else if is_late s o then Late else if is_clear s o then Fresh else Held) thawed
+      ∙ ap (λ (b : Bool). if b then Late else if is_clear s o then Fresh else Held) late
 
   pub free_mark : (kept_at s o).frozen ≡ false → is_late s o ≡ false → (clear : Bool) → clear ≡ is_clear s o → walk_mark clear ≡ mark_of s o
   unfolding mark_of is_frozen
   free_mark thawed early clear is =
       ap walk_mark is
-      ∙ sym (ap (λ (b : Bool). if b then Frozen else if is_late s o then Late else if is_clear s o then Fresh else Unclear) thawed
-      ∙ ap (λ (b : Bool). if b then Late else if is_clear s o then Fresh else Unclear) early)
+      ∙ sym (ap (λ (b : Bool). if b then Frozen else if is_late s o then Late else if is_clear s o then Fresh else Held) thawed
+      ∙ ap (λ (b : Bool). if b then Late else if is_clear s o then Fresh else Held) early)
 
   pub not_held : (kept_at s o).frozen ≡ false → is_late s o ≡ false → held_outcome s o ≡ None
   unfolding is_frozen

@@ -6,7 +6,7 @@ use Rattle.desk_terms.specs.declared.value.Input as input
 use Rattle.desk_terms.specs.declared.cause.Cause.{Cause}
 use Rattle.desk_terms.specs.declared.cause.Cause.TheVariants.{Unpriced}
 use Rattle.desk_terms.specs.declared.asked.Mark.{Mark}
-use Rattle.desk_terms.specs.declared.asked.Mark.TheVariants.{Fresh, Unclear}
+use Rattle.desk_terms.specs.declared.asked.Mark.TheVariants.{Fresh, Held}
 use Rattle.desk_terms.specs.declared.asked.Asked.{Asked}
 use Rattle.desk_terms.specs.Reading.{Outcome, Reading, Calc, IsFitting}
 use Rattle.desk_terms.specs.Asked.{Shows}
@@ -45,7 +45,7 @@ lacking o None = Some (Unpriced o)
 
 -- the mark of an object that is neither frozen nor late
 abbrev pub walk_mark : Bool → Mark
-walk_mark clear = if clear then Fresh else Unclear
+walk_mark clear = if clear then Fresh else Held
 
 -- WHAT IS ANSWERED WITHOUT A COMPUTATION: an object that is frozen or late shows its last value or that it has none, any
 -- other that is current its last value, each with its mark; nothing is answered of an object that is none of these

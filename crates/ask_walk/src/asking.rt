@@ -138,7 +138,7 @@ impl Books {
 fn walk_mark(clear: bool) -> Mark
     ensures { result ≡ walk_mark clear }
 {
-    if clear { Mark::Fresh } else { Mark::Unclear }
+    if clear { Mark::Fresh } else { Mark::Held }
 }
 
 // An answer without a computation: the last value of the object, or that it has none.

@@ -5,7 +5,7 @@ use Rattle.std.proofs.lemmas.Bool.{or_cases, or_left, or_right, or_parts, or_fro
 use Rattle.walks.specs.Walk.{below_by, Below}
 use Rattle.walks.proofs.Ranks.{below_wider}
 use Rattle.desk_terms.specs.declared.asked.Mark.{Mark}
-use Rattle.desk_terms.specs.declared.asked.Mark.TheVariants.{Fresh, Frozen, Late, Unclear}
+use Rattle.desk_terms.specs.declared.asked.Mark.TheVariants.{Fresh, Frozen, Late, Held}
 use Rattle.desk_model.specs.Market.{edges}
 use Rattle.desk_model.specs.State.{State, is_frozen, is_source, is_held_back, is_late, is_clear, mark_of}
 use Rattle.desk_model.specs.Links.{IsWhole}
@@ -13,7 +13,7 @@ use Rattle.desk_model.specs.Unheld.{HasSource, HasHeldBeneath, MarksSay}
 use Rattle.desk_model.proofs.Paths.{find_paths}
 
 abbrev mark_by : Bool → Bool → Bool → Mark
-mark_by frozen late clear = if frozen then Frozen else if late then Late else if clear then Fresh else Unclear
+mark_by frozen late clear = if frozen then Frozen else if late then Late else if clear then Fresh else Held
 
 frozen_by : (f l c : Bool) → (mark_by f l c ≡ Frozen) ↔ (f ≡ true)
 frozen_by true l c = (λ e. refl, λ e. refl)

@@ -2,7 +2,7 @@
 use Rattle.std.specs.Prelude.{◌≡◌, true, false, [], ◌∷◌, pos, Some, None, Ok, Err}
 use Rattle.desk_terms.specs.declared.terms.Terms.TheVariants.{Handle, Stock, Composite}
 use Rattle.desk_terms.specs.declared.terms.HandleKind as handle
-use Rattle.desk_terms.specs.declared.asked.Mark.TheVariants.{Fresh, Frozen, Late, Unclear}
+use Rattle.desk_terms.specs.declared.asked.Mark.TheVariants.{Fresh, Frozen, Late, Held}
 use Rattle.desk_terms.specs.declared.value.Value.TheVariants.{Money}
 use Rattle.desk_terms.specs.declared.cause.Cause.TheVariants.{Unpriced}
 use Rattle.desk_model.specs.State.{State, is_late, now, least_source}
@@ -32,7 +32,7 @@ frozen_stock = quote_set 1 (Some (pos 3)) (frozen_set 2 (ask 2 stock_and_composi
 
 pub record AreFrozen : Type 0 where
   pub frozen : line plain 2 frozen_stock ≡ shown (pos 2) Frozen 0
-  pub held : line plain 3 frozen_stock ≡ shown (pos 2) Unclear 1
+  pub held : line plain 3 frozen_stock ≡ shown (pos 2) Held 1
   pub after_thawing : line plain 3 (thawed 2 (ask 3 frozen_stock)) ≡ shown (pos 3) Fresh 2
 
 -- The composite is asked for, the quote moves under deferral, and the stock in the middle is frozen: the composite is
@@ -45,8 +45,8 @@ frozen_between = frozen_set 2 late_composite
 
 pub record AreFrozenBetween : Type 0 where
   pub late : line plain 3 late_composite ≡ shown (pos 2) Late 0
-  pub held : line plain 3 frozen_between ≡ shown (pos 2) Unclear 0
-  pub after_resuming : line plain 3 (resumed frozen_between) ≡ shown (pos 2) Unclear 0
+  pub held : line plain 3 frozen_between ≡ shown (pos 2) Held 0
+  pub after_resuming : line plain 3 (resumed frozen_between) ≡ shown (pos 2) Held 0
   pub after_thawing : line plain 3 (thawed 2 (resumed frozen_between)) ≡ shown (pos 3) Fresh 2
 
 -- A frozen stock is priced on demand, and stays frozen.

@@ -4,7 +4,7 @@ use Rattle.walks.specs.Walk.{below_by}
 use Rattle.desk_terms.specs.declared.value.Value.{Value}
 use Rattle.desk_terms.specs.declared.cause.Cause.TheVariants.{Unpriced}
 use Rattle.desk_terms.specs.declared.asked.Mark.{Mark}
-use Rattle.desk_terms.specs.declared.asked.Mark.TheVariants.{Fresh, Frozen, Late, Unclear}
+use Rattle.desk_terms.specs.declared.asked.Mark.TheVariants.{Fresh, Frozen, Late, Held}
 use Rattle.desk_terms.specs.Reading.{Outcome, Calc}
 use Rattle.desk_model.specs.declared.kept.Kept.{Kept}
 use Rattle.desk_model.specs.Market.{Market, edges, least_where}
@@ -84,7 +84,7 @@ mark_of state o =
     then Late
     else if is_clear state o
     then Fresh
-    else Unclear
+    else Held
 
 -- WHAT AN ASK SHOWS: the price afresh where the object is clear, else what is seen
 unfoldable pub shows : Calc → State → ℕ → Outcome

@@ -11,7 +11,7 @@ use Rattle.desk_terms.specs.declared.kind.Kind.{Kind}
 use Rattle.desk_terms.specs.declared.kind.Kind.TheVariants as kind
 use Rattle.desk_terms.specs.Kind.{Role, role}
 use Rattle.desk_terms.specs.Kind.Role.{Source, Forwarder, Lazy, Watching}
-use Rattle.desk_terms.specs.declared.asked.Mark.TheVariants.{Fresh, Frozen, Late, Unclear, Recalc}
+use Rattle.desk_terms.specs.declared.asked.Mark.TheVariants.{Fresh, Frozen, Late, Held, Recalc}
 use Rattle.desk_terms.specs.Asked.{mark_word}
 use Rattle.graph_dot.specs.declared.node.Finding.{Finding}
 use Rattle.graph_dot.specs.declared.node.Finding.TheVariants.{Unasked, NotCurrent, Kept, Missing}
@@ -56,7 +56,7 @@ colour_of NotCurrent = codes ", fillcolor=\"#d9d9d9\""
 colour_of (Kept Fresh) = codes ", fillcolor=\"#b7e1a1\""
 colour_of (Kept Frozen) = codes ", fillcolor=\"#a9cdf2\""
 colour_of (Kept Late) = codes ", fillcolor=\"#ffc680\""
-colour_of (Kept Unclear) = codes ", fillcolor=\"#fff2a8\""
+colour_of (Kept Held) = codes ", fillcolor=\"#fff2a8\""
 colour_of (Kept Recalc) = codes ", fillcolor=\"#b7e1a1\""
 colour_of (Missing mark) = codes ", fillcolor=\"#f4a6a6\""
 

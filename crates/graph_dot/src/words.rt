@@ -49,7 +49,7 @@ pub(crate) fn colour_of(finding: Finding) -> &'static [u8]
         Finding::Kept(Mark::Fresh) => b", fillcolor=\"#b7e1a1\"",
         Finding::Kept(Mark::Frozen) => b", fillcolor=\"#a9cdf2\"",
         Finding::Kept(Mark::Late) => b", fillcolor=\"#ffc680\"",
-        Finding::Kept(Mark::Unclear) => b", fillcolor=\"#fff2a8\"",
+        Finding::Kept(Mark::Held) => b", fillcolor=\"#fff2a8\"",
         Finding::Kept(Mark::Recalc) => b", fillcolor=\"#b7e1a1\"",
         Finding::Missing(_) => b", fillcolor=\"#f4a6a6\"",
     }

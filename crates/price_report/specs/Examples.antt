@@ -5,7 +5,7 @@ use Rattle.curve_points.specs.Curve.{Curve as CurveView}
 use Rattle.desk_terms.specs.declared.value.Value.TheVariants.{Money, Curve}
 use Rattle.desk_terms.specs.declared.cause.Cause.{Cause}
 use Rattle.desk_terms.specs.declared.cause.Cause.TheVariants.{Unset, Empty, NoEngine, NoFixing, Before, Past, Pillar, Discount, Negative, RateRange, DateRange, TooLarge, Unpriced}
-use Rattle.desk_terms.specs.declared.asked.Mark.TheVariants.{Fresh, Frozen, Late, Unclear, Recalc}
+use Rattle.desk_terms.specs.declared.asked.Mark.TheVariants.{Fresh, Frozen, Late, Held, Recalc}
 use Rattle.session_commands.specs.declared.refusal.Refusal.{Refusal}
 use Rattle.session_commands.specs.declared.refusal.Refusal.TheVariants.{Unknown, Taken, Kind, Cycle, InUse, FixingExists, TooMany, AlreadyRegistered, NotRegistered, Deferred}
 use Rattle.price_report.specs.Line.{asked_line, df_line, refusal_line, over_line}
@@ -61,7 +61,7 @@ pub record AreWorked : Type 0 where
   pub fresh : asked_line ten_names seven_objects 7 (Ok (Money (pos 1_500_000))) Fresh 1 ≡ codes "s 1.500000 fresh 1\n"
   pub frozen : asked_line ten_names seven_objects 7 (Ok (Money (negsuc 0))) Frozen 0 ≡ codes "s -0.000001 frozen 0\n"
   pub late : asked_line ten_names seven_objects 7 (Ok (Money (pos 0))) Late 0 ≡ codes "s 0.000000 late 0\n"
-  pub held : asked_line ten_names seven_objects 7 (Ok (Money (negsuc 12_345_677))) Unclear 18_446_744_073_709_551_615
+  pub held : asked_line ten_names seven_objects 7 (Ok (Money (negsuc 12_345_677))) Held 18_446_744_073_709_551_615
       ≡ codes "s -12.345678 held 18446744073709551615\n"
   pub recalc : asked_line ten_names seven_objects 7 (Ok (Money (pos 100_000_000_000_000_000_000_000_000))) Recalc 12
       ≡ codes "s 100000000000000000000.000000 recalc 12\n"
@@ -69,7 +69,7 @@ pub record AreWorked : Type 0 where
       ≡ codes "c curve 2024-01-02 1.000000000000 2024-04-11 0.990099009901 fresh 1\n"
   pub bare_curve : asked_line ten_names seven_objects 4 (Ok (Curve (record one_node { nodes = [] }))) Late 0
       ≡ codes "c curve 2024-01-02 1.000000000000 late 0\n"
-  pub greatest : asked_line ten_names seven_objects 4 (Ok (Curve extremes)) Unclear 2
+  pub greatest : asked_line ten_names seven_objects 4 (Ok (Curve extremes)) Held 2
       ≡ codes "c curve 1901-01-01 1.000000000000 1901-01-02 0.000000000001 2199-12-31 4.000000000000 held 2\n"
   pub factor : df_line ten_names seven_objects 4 (pos 19_774) (Ok (pos 995_049_504_951)) Fresh 0
       ≡ codes "c 2024-02-21 0.995049504951 fresh 0\n"

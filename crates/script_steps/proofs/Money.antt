@@ -4,7 +4,7 @@ use Rattle.std.specs.Prelude.{if◌then◌else◌}
 use Rattle.std.proofs.lemmas.Bool.{cases_Bool, or_parts, false≢true}
 use Rattle.desk_terms.specs.declared.value.Value.{Value}
 use Rattle.desk_terms.specs.declared.value.Value.TheVariants.{Money, Curve}
-use Rattle.desk_terms.specs.declared.asked.Mark.TheVariants.{Fresh, Frozen, Late, Unclear}
+use Rattle.desk_terms.specs.declared.asked.Mark.TheVariants.{Fresh, Frozen, Late, Held}
 use Rattle.desk_terms.specs.Reading.{Calc}
 use Rattle.desk_model.specs.declared.kept.Kept.{Kept}
 use Rattle.desk_model.specs.State.{State, kept_at, last_of, is_frozen, is_source, is_late, is_clear, mark_of, held_outcome, seen_outcome, shows}
@@ -95,7 +95,7 @@ silent_unheld : (s : State) → HoldsNothing s → HoldsNothing (silent s)
 unfolding is_frozen is_source
 silent_unheld s none = record { off = none.off; free = none.free }
 
-late_by_mark : (frozen late clear : Bool) → (if frozen then Frozen else if late then Late else if clear then Fresh else Unclear) ≡ Fresh
+late_by_mark : (frozen late clear : Bool) → (if frozen then Frozen else if late then Late else if clear then Fresh else Held) ≡ Fresh
     → late ≡ false
 late_by_mark true late clear e = absurd (cc)
 late_by_mark false true clear e = absurd (cc)

@@ -70,9 +70,9 @@ fn plan_for<H: Shelf>(alloc: Global, request: &Request, shelf: &mut H) -> Result
             let run = open_run(alloc, shelf, market.text(), script.text())?;
             Ok(Plan::Run { run, order: *order })
         }
-        Request::Load(size) => {
-            let run = open_load(alloc, *size)?;
-            Ok(Plan::Load { size: *size, run })
+        Request::Load { n } => {
+            let run = open_load(alloc, *n)?;
+            Ok(Plan::Load { size: *n, run })
         }
         Request::Check { market } => {
             let market = open_market(alloc, shelf, market.text())?;

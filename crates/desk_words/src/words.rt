@@ -21,8 +21,10 @@ pub enum Request {
         script: PathText,
         order: Order,
     },
-    /// A load of a size, from 1 to 1,000.
-    Load(u32),
+    /// A load of the size `n`, from 1 to 1,000.
+    Load {
+        n: u32,
+    },
     /// A check of a market.
     Check {
         market: PathText,
@@ -170,7 +172,7 @@ fn sized(size: Option<u64>) -> Result<Request, WordsFault>
     ensures sized { IfOk result IsSized }
 {
     match size {
-        Some(size) if (1..=1_000).contains(&size) => Ok(Request::Load(size as u32)),
+        Some(size) if (1..=1_000).contains(&size) => Ok(Request::Load { n: size as u32 }),
         Some(_) => Err(WordsFault::Usage),
         None => Err(WordsFault::Usage),
     }

@@ -5,6 +5,7 @@ use Rattle.std.proofs.lemmas.List.{append-nil}
 use Rattle.std.proofs.lemmas.Bool.{or_left, or_right, or_parts}
 use Rattle.desk_terms.specs.declared.value.Value.{Value}
 use Rattle.desk_terms.specs.declared.asked.Asked.{Asked}
+use Rattle.desk_terms.specs.declared.cause.Cause.{Cause}
 use Rattle.desk_terms.specs.declared.asked.Mark.{Mark}
 use Rattle.desk_terms.specs.declared.asked.Mark.TheVariants.{Fresh, Frozen, Late, Held}
 use Rattle.desk_terms.specs.Asked.{Shows}
@@ -209,3 +210,18 @@ walks_ask calc s o new mark count0 log0 count log links marks answer w = record 
 -- what an ask changes of a state is what is kept
 pub state_left : (market : parts.Market) (old new : StoreView) → registry_of new ≡ registry_of old → state_after market old new ≡ state_in market new
 state_left market old new same = ap (λ (r : Registry). state_of market.today market.objects new.kept r) (sym same)
+
+-- what is answered without a computation counts none
+pub held_idle : (s : State) (o : ℕ) (answer : Asked) → held_answer s o ≡ Some answer → answer.runs ≡ 0
+unfolding held_answer
+held_idle s o answer is = by (is_frozen s o || is_late s o) (kept_at s o).current is
+  where
+    said : Option Cause → Asked
+    said cause = record { cause = cause; mark = mark_of s o; runs = 0 }
+
+    by : (held current : Bool)
+        → (if held then Some (said (lacking o (kept_at s o).last)) else if current then Some (said None) else None) ≡ Some answer
+        → answer.runs ≡ 0
+    by true current e = let same : said (lacking o (kept_at s o).last) ≡ answer = cc in ap (λ (a : Asked). a.runs) (sym same)
+    by false true e = let same : said None ≡ answer = cc in ap (λ (a : Asked). a.runs) (sym same)
+    by false false e = absurd (cc)

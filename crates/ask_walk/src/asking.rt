@@ -49,6 +49,7 @@ impl Books {
             (B.count bench.old) (B.count bench.new) (B.log bench.old) (B.log bench.new)) }
         ensures stays { Stays (B.calc bench.old) (state_in market.now self.new.store) }
         ensures ready { (held_outcome (state_in market.now self.old.store) object ≢ None) ⊎ (is_now self.old.store.kept object ≡ true) → IsOk result }
+        ensures few { IfOk result (λ answer. answer.runs < 2 ^ 17) }
         ensures empty { IsEmpty (length market.now.objects) self.new.scratch }
         ensures shape { self.new.store.shape ≡ self.old.store.shape }
         ensures registry { registry_of self.new.store ≡ registry_of self.old.store }

@@ -47,7 +47,7 @@ pub fn ladder<B: Bench>(
 {
     let priced = price(desk, object, bench)?;
     let amount = priced.amount;
-    let first = priced.runs as u128;
+    let first = priced.runs;
     match amount {
         Err(cause) => Err(LadderFault::Base { cause, runs: first }),
         Ok(base) => {

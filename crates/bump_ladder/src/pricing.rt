@@ -1,5 +1,5 @@
 // What an instrument is worth now.
-ghost use Rattle.std.specs.Prelude.{◌≡◌, Some, true, length, IfOk, option_copied};
+ghost use Rattle.std.specs.Prelude.{◌≡◌, ◌<◌, ◌≤◌, ◌^◌, unsigned_abs, Some, true, length, IfOk, IfSome, option_copied};
 ghost use Rattle.desk_model.specs.State.{kept_at};
 ghost use Rattle.desk_model.specs.Visit.{runs};
 ghost use Rattle.desk_model.specs.Links.{is_lazy_at};
@@ -7,7 +7,7 @@ ghost use Rattle.desk_model.specs.Sound.{IsSound};
 ghost use Rattle.desk_model.specs.Unheld.{HoldsNothing};
 ghost use Rattle.desk_terms.specs.Asked.{Shows};
 ghost use Rattle.desk_terms.specs.Reading.{Outcome};
-ghost use Rattle.bump_model.specs.Sides.{amount_of, worth};
+ghost use Rattle.bump_model.specs.Sides.{IsPaid, amount_of, worth};
 ghost use Rattle.bump_model.specs.Asking.{Asks, ask_of};
 
 use desk_names::ObjId;
@@ -34,7 +34,9 @@ pub(crate) fn price<B: Bench>(
     requires unheld { HoldsNothing desk.old }
     ensures same { B.calc bench.new ≡ B.calc bench.old }
     ensures amount { IfOk result (λ priced. priced.amount ≡ worth (B.calc bench.old) desk.old.market object) }
+    ensures money { IfOk result (λ priced. IfOk priced.amount (λ amount. unsigned_abs amount ≤ 10 ^ 24)) }
     ensures runs { IfOk result (λ priced. priced.runs ≡ length (runs (B.calc bench.old) desk.old object)) }
+    ensures few { IfOk result (λ priced. priced.runs < 2 ^ 17) }
     ensures asks { Asks (ask_of (B.calc bench.old) object desk.old) result desk.new
         (B.count bench.old) (B.count bench.new) (B.log bench.old) (B.log bench.new) }
     ensures market { desk.new.market ≡ desk.old.market }
@@ -51,7 +53,9 @@ pub(crate) fn price<B: Bench>(
 // The amount that an answer shows.
 fn amount_of(object: ObjId, asked: &Asked, value: Option<&Value>) -> Result<Amount, Cause>
     requires given { (outcome : Outcome) × Shows asked.now.cause (option_copied value) outcome }
-    ensures { (outcome : Outcome) → Shows asked.now.cause (option_copied value.entry) outcome → result ≡ amount_of object outcome }
+    requires paid { IfSome (option_copied value) IsPaid }
+    ensures money { IfOk result (λ amount. unsigned_abs amount ≤ 10 ^ 24) }
+    ensures amount { (outcome : Outcome) → Shows asked.now.cause (option_copied value.entry) outcome → result ≡ amount_of object outcome }
 {
     match (&asked.cause, value) {
         (Some(cause), _) => Err(*cause),

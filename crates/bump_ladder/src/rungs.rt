@@ -1,5 +1,5 @@
 // The rungs of a ladder.
-ghost use Rattle.std.specs.Prelude.{◌≡◌, ◌<◌, ◌≤◌, ◌*◌, ◌+◌, ◌^◌, ℕ, true, List, [], ◌∷◌, ◌++◌, map, length, IfOk, OnOk};
+ghost use Rattle.std.specs.Prelude.{◌≡◌, ◌<◌, ◌≤◌, ◌*◌, ◌+◌, ◌^◌, unsigned_abs, ℕ, true, List, [], ◌∷◌, ◌++◌, map, length, IfOk, OnOk};
 ghost use Rattle.desk_model.specs.Links.{is_lazy_at};
 ghost use Rattle.desk_model.specs.Sound.{IsSound};
 ghost use Rattle.desk_model.specs.Unheld.{HoldsNothing};
@@ -20,14 +20,14 @@ use std::alloc::{AllocError, Global};
 #[derive(Drop)]
 pub(crate) struct Climbed {
     pub(crate) rungs: RungList,
-    pub(crate) runs: u128,
+    pub(crate) runs: u64,
 }
 
 // One rung, and how many times the bench was called for it.
 #[derive(Clone, Copy)]
 struct Step {
     rung: Rung,
-    runs: u128,
+    runs: u64,
 }
 
 // A rung for each quote, and then one for all that have a value.
@@ -40,6 +40,7 @@ pub(crate) fn climb<B: Bench>(
     bench: &mut B,
 ) -> Result<Climbed, AllocError>
     requires lazy { is_lazy_at desk.old.market object ≡ true }
+    requires base { unsigned_abs base ≤ 10 ^ 24 }
     requires quotes { AreQuotes desk.old.market quotes.now }
     requires few { length quotes.now < 2 ^ 32 }
     requires sound { IsSound (B.calc bench.old) desk.old }
@@ -47,7 +48,7 @@ pub(crate) fn climb<B: Bench>(
     ensures same { B.calc bench.new ≡ B.calc bench.old }
     ensures rungs { IfOk result (λ climbed. climbed.rungs ≡ rungs_of (B.calc bench.old) desk.old.market object base quotes.now) }
     ensures runs { IfOk result (λ climbed. climbed.runs ≡ length (rungs_asking (B.calc bench.old) desk.old.market object quotes.now desk.old).calls) }
-    ensures few { IfOk result (λ climbed. climbed.runs < 2 ^ 100) }
+    ensures few { IfOk result (λ climbed. climbed.runs < 2 ^ 51) }
     ensures asks { Asks (rungs_asking (B.calc bench.old) desk.old.market object quotes.now desk.old) result desk.new
         (B.count bench.old) (B.count bench.new) (B.log bench.old) (B.log bench.new) }
     ensures market { desk.new.market ≡ desk.old.market }
@@ -101,6 +102,7 @@ fn quote_rungs<B: Bench>(
     bench: &mut B,
 ) -> Result<Climbed, AllocError>
     requires lazy { is_lazy_at desk.old.market object ≡ true }
+    requires base { unsigned_abs base ≤ 10 ^ 24 }
     requires quotes { AreQuotes desk.old.market quotes.now }
     requires few { length quotes.now < 2 ^ 32 }
     requires sound { IsSound (B.calc bench.old) desk.old }
@@ -108,7 +110,7 @@ fn quote_rungs<B: Bench>(
     ensures same { B.calc bench.new ≡ B.calc bench.old }
     ensures rungs { IfOk result (λ climbed. climbed.rungs ≡ map (quote_rung (B.calc bench.old) desk.old.market object base) quotes.now) }
     ensures runs { IfOk result (λ climbed. climbed.runs ≡ length (quotes_asking (B.calc bench.old) desk.old.market object quotes.now desk.old).calls) }
-    ensures few { IfOk result (λ climbed. climbed.runs ≤ length quotes.now * 2 ^ 66) }
+    ensures few { IfOk result (λ climbed. climbed.runs ≤ length quotes.now * 2 ^ 18) }
     ensures asks { Asks (quotes_asking (B.calc bench.old) desk.old.market object quotes.now desk.old) result desk.new
         (B.count bench.old) (B.count bench.new) (B.log bench.old) (B.log bench.new) }
     ensures market { desk.new.market ≡ desk.old.market }
@@ -134,13 +136,14 @@ fn quote_rung<B: Bench>(
     bench: &mut B,
 ) -> Result<Step, AllocError>
     requires lazy { is_lazy_at desk.old.market object ≡ true }
+    requires base { unsigned_abs base ≤ 10 ^ 24 }
     requires quote { AreQuotes desk.old.market (quote ∷ []) }
     requires sound { IsSound (B.calc bench.old) desk.old }
     requires unheld { HoldsNothing desk.old }
     ensures same { B.calc bench.new ≡ B.calc bench.old }
     ensures rung { IfOk result (λ step. step.rung ≡ quote_rung (B.calc bench.old) desk.old.market object base quote) }
     ensures runs { IfOk result (λ step. step.runs ≡ length (asking_for (B.calc bench.old) object quote (value_at desk.old.market quote) desk.old).calls) }
-    ensures few { IfOk result (λ step. step.runs < 2 ^ 66) }
+    ensures few { IfOk result (λ step. step.runs < 2 ^ 18) }
     ensures asks { Asks (asking_for (B.calc bench.old) object quote (value_at desk.old.market quote) desk.old) result desk.new
         (B.count bench.old) (B.count bench.new) (B.log bench.old) (B.log bench.new) }
     ensures market { desk.new.market ≡ desk.old.market }

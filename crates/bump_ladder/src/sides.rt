@@ -1,5 +1,5 @@
 // The two sides of a rung.
-ghost use Rattle.std.specs.Prelude.{◌≡◌, ◌<◌, ◌^◌, ◌+ℤ◌, ℕ, false, true, length, Some, IfOk, OnOk, OnErr};
+ghost use Rattle.std.specs.Prelude.{◌≡◌, ◌<◌, ◌≤◌, ◌^◌, ◌+ℤ◌, unsigned_abs, ℕ, false, true, length, Some, IfOk, OnOk, OnErr};
 ghost use Rattle.desk_terms.specs.Reading.{Calc};
 ghost use Rattle.desk_model.specs.Links.{is_lazy_at};
 ghost use Rattle.desk_model.specs.Sound.{IsSound};
@@ -29,7 +29,7 @@ pub(crate) struct Sided {
 pub(crate) struct Sides {
     pub(crate) up: Side,
     pub(crate) down: Side,
-    pub(crate) runs: u128,
+    pub(crate) runs: u64,
 }
 
 // Both sides of the rung of these quotes, each of which has its value. They are set back on every exit, which takes no
@@ -42,6 +42,7 @@ pub(crate) fn rung_sides<B: Bench>(
     bench: &mut B,
 ) -> Result<Sides, AllocError>
     requires lazy { is_lazy_at desk.old.market object ≡ true }
+    requires base { unsigned_abs base ≤ 10 ^ 24 }
     requires quoted { AreQuoted desk.old.market group.now }
     requires sound { IsSound (B.calc bench.old) desk.old }
     requires unheld { HoldsNothing desk.old }
@@ -49,7 +50,7 @@ pub(crate) fn rung_sides<B: Bench>(
     ensures up { IfOk result (λ sides. sides.up ≡ side_of (B.calc bench.old) desk.old.market object base Up group.now) }
     ensures down { IfOk result (λ sides. sides.down ≡ side_of (B.calc bench.old) desk.old.market object base Down group.now) }
     ensures runs { IfOk result (λ sides. sides.runs ≡ length (rung_asking (B.calc bench.old) object group.now desk.old).calls) }
-    ensures few { IfOk result (λ sides. sides.runs < 2 ^ 66) }
+    ensures few { IfOk result (λ sides. sides.runs < 2 ^ 18) }
     ensures asks { Asks (rung_asking (B.calc bench.old) object group.now desk.old) result desk.new
         (B.count bench.old) (B.count bench.new) (B.log bench.old) (B.log bench.new) }
     ensures market { desk.new.market ≡ desk.old.market }
@@ -70,6 +71,7 @@ fn both_sides<B: Bench>(
     bench: &mut B,
 ) -> Result<Sides, AllocError>
     requires lazy { is_lazy_at desk.old.market object ≡ true }
+    requires base { unsigned_abs base ≤ 10 ^ 24 }
     requires live { AreLive desk.old.market group.now }
     requires sound { IsSound (B.calc bench.old) desk.old }
     requires unheld { HoldsNothing desk.old }
@@ -77,7 +79,7 @@ fn both_sides<B: Bench>(
     ensures up { IfOk result (λ sides. sides.up ≡ side_of (B.calc bench.old) desk.old.market object base Up group.now) }
     ensures down { IfOk result (λ sides. sides.down ≡ side_of (B.calc bench.old) desk.old.market object base Down group.now) }
     ensures runs { IfOk result (λ sides. sides.runs ≡ length (sides_asking (B.calc bench.old) object group.now desk.old).calls) }
-    ensures few { IfOk result (λ sides. sides.runs < 2 ^ 66) }
+    ensures few { IfOk result (λ sides. sides.runs < 2 ^ 18) }
     ensures asks { Asks (sides_asking (B.calc bench.old) object group.now desk.old) result desk.new
         (B.count bench.old) (B.count bench.new) (B.log bench.old) (B.log bench.new) }
     ensures differ { DifferAt group.now desk.old.market desk.new.market }
@@ -89,7 +91,7 @@ fn both_sides<B: Bench>(
     Ok(Sides {
         up: up.side,
         down: down.side,
-        runs: up.runs as u128 + down.runs as u128,
+        runs: up.runs + down.runs,
     })
 }
 
@@ -103,12 +105,14 @@ fn one_side<B: Bench>(
     bench: &mut B,
 ) -> Result<Sided, AllocError>
     requires lazy { is_lazy_at desk.old.market object ≡ true }
+    requires base { unsigned_abs base ≤ 10 ^ 24 }
     requires live { AreLive desk.old.market group.now }
     requires sound { IsSound (B.calc bench.old) desk.old }
     requires unheld { HoldsNothing desk.old }
     ensures same { B.calc bench.new ≡ B.calc bench.old }
     ensures side { IfOk result (λ sided. sided.side ≡ side_of (B.calc bench.old) desk.old.market object base way group.now) }
     ensures runs { IfOk result (λ sided. sided.runs ≡ length (side_asking (B.calc bench.old) object way group.now desk.old).calls) }
+    ensures few { IfOk result (λ sided. sided.runs < 2 ^ 17) }
     ensures asks { Asks (side_asking (B.calc bench.old) object way group.now desk.old) result desk.new
         (B.count bench.old) (B.count bench.new) (B.log bench.old) (B.log bench.new) }
     ensures differ { DifferAt group.now desk.old.market desk.new.market }
@@ -131,10 +135,12 @@ fn one_side<B: Bench>(
 
 // What is gained over a base.
 fn gain(base: Amount, amount: Result<Amount, Cause>) -> Side
+    requires base { unsigned_abs base ≤ 10 ^ 24 }
+    requires amount { IfOk amount (λ units. unsigned_abs units ≤ 10 ^ 24) }
     ensures { result ≡ gain base amount }
 {
     match amount {
-        Ok(amount) => Side::Moved(amount.units() - base.units()),
+        Ok(amount) => Side::Moved(Amount(amount.units() - base.units())),
         Err(cause) => Side::Refused(cause),
     }
 }

@@ -1,6 +1,7 @@
 -- THE LADDER: what an instrument gains where a quote, or all quotes together, are moved, each price being computed afresh
 -- from the market alone (a desk's bucket deltas).
-use Rattle.std.specs.Prelude.{ℕ, ℤ, ◌-ℤ◌, List, [], ◌∷◌, ◌++◌, map, if◌then◌else◌, Option, None, Some, Result, Ok, Err}
+use Rattle.std.specs.Prelude.{ℕ, ◌≤◌, ◌^◌, ℤ, ◌-ℤ◌, unsigned_abs, List, [], ◌∷◌, ◌++◌, map, if◌then◌else◌, Option, None, Some, Result, Ok, Err}
+use Rattle.desk_terms.specs.declared.value.Value.{Value}
 use Rattle.desk_terms.specs.declared.value.Value.TheVariants.{Money, Curve}
 use Rattle.desk_terms.specs.declared.cause.Cause.{Cause}
 use Rattle.desk_terms.specs.declared.cause.Cause.TheVariants.{Unpriced}
@@ -20,6 +21,11 @@ abbrev pub amount_of : ℕ → Outcome → Result ℤ Cause
 amount_of o (Ok (Money amount)) = Ok amount
 amount_of o (Ok (Curve curve)) = Err (Unpriced o)
 amount_of o (Err cause) = Err cause
+
+-- money within 10^24 units either way, as that of every instrument is (this project's profile)
+abbrev pub IsPaid : Value → Type 0
+IsPaid (Money amount) = unsigned_abs amount ≤ 10 ^ 24
+IsPaid (Curve curve) = Unit {0}
 
 -- what an instrument is worth in a market
 abbrev pub worth : Calc → Market → ℕ → Result ℤ Cause

@@ -9,9 +9,8 @@ use thiserror::Error;
 /// What an instrument gains where quotes are moved one way.
 #[derive(Clone, Copy)]
 pub enum Side {
-    /// What it is worth then less what it is worth where none is moved, in units of 10^-6, within 2 * 10^26 units either
-    /// way.
-    Moved(i128),
+    /// What it is worth then less what it is worth where none is moved, within 2 * 10^24 units either way.
+    Moved(Amount),
     /// It is worth nothing then, for this cause.
     Refused(Cause),
     /// A quote would pass the limit of rates. None is moved.
@@ -40,7 +39,7 @@ pub struct Ladder {
     /// A rung for each quote, and then one for all.
     pub rungs: RungList,
     /// How many times the bench was called.
-    pub runs: u128,
+    pub runs: u64,
 }
 
 /// Why there is no ladder.
@@ -48,7 +47,7 @@ pub struct Ladder {
 pub enum LadderFault {
     /// The instrument is worth nothing where no quote is moved, for this cause; the bench was called so many times.
     #[error("the instrument is worth nothing")]
-    Base { cause: Cause, runs: u128 },
+    Base { cause: Cause, runs: u64 },
     #[error("out of memory")]
     NoMemory,
 }

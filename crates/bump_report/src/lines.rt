@@ -35,7 +35,7 @@ pub fn refused_lines(
     alloc: Global,
     object: ObjId,
     cause: &Cause,
-    runs: u128,
+    runs: u64,
     namer: &Namer<'_>,
     out: &mut Vec<u8>,
 ) -> Result<(), AllocError>
@@ -74,7 +74,7 @@ fn refused_bytes(
     alloc: Global,
     object: ObjId,
     cause: &Cause,
-    runs: u128,
+    runs: u64,
     namer: &Namer<'_>,
 ) -> Result<Vec<u8>, AllocError>
     ensures { IfOk result (λ lines. lines.items
@@ -164,7 +164,7 @@ fn push_side(
         ≡ lines.old.items ++ side_text namer.now.names.now namer.now.of_object.now side.now) }
 {
     match side {
-        Side::Moved(units) => print_decimal(alloc, *units, MONEY_PLACES, lines),
+        Side::Moved(gain) => print_decimal(alloc, gain.units(), MONEY_PLACES, lines),
         Side::Refused(cause) => {
             lines.extend_from_slice(b"refused ")?;
             cause_text(alloc, cause, namer, lines)
@@ -176,7 +176,7 @@ fn push_side(
 
 // Appends the line of how many computations were made.
 #[tactic(auto, unfolding(crate::specs::Lines::runs_line))]
-fn push_runs(alloc: Global, runs: u128, lines: &mut Vec<u8>) -> Result<(), AllocError>
+fn push_runs(alloc: Global, runs: u64, lines: &mut Vec<u8>) -> Result<(), AllocError>
     ensures { OnOk result (lines.new.items ≡ lines.old.items ++ runs_line runs) }
 {
     lines.extend_from_slice(b"runs ")?;

@@ -7,13 +7,14 @@ ghost use Rattle.desk_model.specs.Told.{is_registered, is_watching};
 ghost use Rattle.desk_model.specs.Uses.{index_at, fixings_in};
 ghost use Rattle.desk_model.specs.State.{kept_at, held_outcome, is_frozen, is_late, least_source};
 ghost use Rattle.desk_model.specs.Sound.{IsSound, KeepsCurrent};
-ghost use Rattle.desk_model.specs.Links.{AreOfKind, AreRanged, IsKinded, IsWhole, Serve, is_lazy_at, reaches, serves_as};
+ghost use Rattle.desk_model.specs.Links.{AreOfKind, AreRanged, IsKinded, IsValued, IsWhole, Serve, is_lazy_at, reaches, serves_as};
 ghost use Rattle.desk_model.specs.Effect.{start, made, quote_set, relinked, engine_set, member_set, fixing_added, today_set, dropped, watching, registered_with, unregistered, handed_out, frozen_set, thawed, forward_set, deferred, resumed};
 ghost use Rattle.desk_terms.specs.declared.kind.Kind.TheVariants.{Quote, Index, Composite, Flows};
 ghost use Rattle.desk_terms.specs.declared.kind.Wanted.TheVariants.{Member, Engine};
 ghost use Rattle.desk_terms.specs.Terms.{optional_reference};
 ghost use Rattle.flow_terms.specs.Fixings.{IsRate, fixing_on};
 ghost use Rattle.flow_terms.specs.declared.fixings.FixFault.TheVariants.{Exists};
+ghost use Rattle.desk_terms.specs.declared.value.Value as priced;
 ghost use Rattle.desk_terms.specs.declared.terms.HandleKind.{HandleKind};
 ghost use Rattle.desk_terms.specs.declared.terms.Terms.TheVariants.{Handle};
 ghost use Rattle.desk_terms.specs.declared.terms.Terms.TheVariants as terms_of;
@@ -429,6 +430,9 @@ impl Desk {
             (B.count bench.old) (B.count bench.new) (B.log bench.old) (B.log bench.new)) }
         // No memory is wanted for an object that is frozen, late or current.
         ensures ready { (held_outcome self.old object ≢ None) ⊎ ((kept_at self.old object).current ≡ true) → IsOk result }
+        ensures few { IfOk result (λ answer. answer.runs < 2 ^ 17) }
+        // The last value is one that the object may have.
+        ensures valued { (value : priced.Value) → (kept_at self.new object).last ≡ Some value → IsValued (terms_at self.new.market object) object value }
         ensures sound { IsSound (B.calc bench.old) self.new }
     {
         self.books.ask(&self.market, object, bench)

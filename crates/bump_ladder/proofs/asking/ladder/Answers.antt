@@ -1,5 +1,7 @@
-use Rattle.std.proofs.Common.{◌≡◌, true, Ok, Err, sym, ◌∙◌, subst}
+use Rattle.std.proofs.Common.{◌≡◌, ◌≤◌, ◌^◌, ℤ, unsigned_abs, true, Result, Ok, Err, sym, ◌∙◌, subst}
+use Rattle.std.specs.Prelude.{IfOk}
 use Rattle.std.proofs.lemmas.Result.{err_from_is_err_and}
+use Rattle.desk_terms.specs.declared.cause.Cause.{Cause}
 use Rattle.desk_terms.specs.Reading.{Calc}
 use Rattle.desk_model.specs.Market.{Market}
 use Rattle.desk_model.specs.Links.{is_lazy_at}
@@ -14,6 +16,7 @@ price-requires-clause-lazy g c = instrument_lazy c.args.desk.now.market c.args.o
 pub climb-requires : goal.climb-requires
 climb-requires g c = record {
   lazy = subst (λ (m : Market). is_lazy_at m c.args.object ≡ true) (sym c.price.ensures.market) (instrument_lazy c.args.desk.now.market c.args.object c.requires.instrument);
+  base = subst (λ (r : Result ℤ Cause). IfOk r (λ amount. unsigned_abs amount ≤ 10 ^ 24)) c.in-Ok.is c.in_ok-priced.ensures.money;
   quotes = subst (λ (m : Market). AreQuotes m c.args.quotes.now) (sym c.price.ensures.market) c.requires.quotes;
   few = c.requires.few;
   sound = subst (λ (k : Calc). IsSound k c.price.new.desk) (sym c.price.ensures.same) c.price.ensures.sound;

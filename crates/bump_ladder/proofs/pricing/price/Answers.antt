@@ -1,6 +1,6 @@
 use Rattle.std.specs.Prelude.{option_copied}
 use Rattle.std.proofs.lemmas.Result.{err_from_is_err_and}
-use Rattle.bump_ladder.proofs.Answered.{answered_asks, answered_market, answered_unheld, answered_amount, answered_shows, stopped_front, stopped_market, stopped_unheld, front_asks}
+use Rattle.bump_ladder.proofs.Answered.{answered_asks, answered_market, answered_unheld, answered_amount, answered_shows, last_paid, stopped_front, stopped_market, stopped_unheld, front_asks}
 use Rattle.bump_model.specs.Asking.{ask_of}
 use Rattle.bump_ladder.proofs.pricing.price.Goals as goal
 
@@ -9,6 +9,7 @@ amount_of-requires g c = record {
   given = answered_shows (g.B.Bench.calc c.args.bench.now) c.args.object c.args.desk.now c.ask.new.self
       (g.B.Bench.count c.args.bench.now) (g.B.Bench.count c.ask.new.bench) (g.B.Bench.log c.args.bench.now) (g.B.Bench.log c.ask.new.bench)
       c.in_ok-asked.asked c.in_ok-asked.ensures.asks (option_copied c.last.result) c.last.ensures;
+  paid = last_paid (option_copied c.last.result) c.ask.new.self c.args.object c.last.ensures c.in_ok-asked.ensures.valued;
 }
 
 pub returns-clause-amount : goal.returns-clause-amount
@@ -16,7 +17,7 @@ returns-clause-amount g c =
     answered_amount (g.B.Bench.calc c.args.bench.now) c.args.object c.args.desk.now c.ask.new.self
     (g.B.Bench.count c.args.bench.now) (g.B.Bench.count c.ask.new.bench) (g.B.Bench.log c.args.bench.now) (g.B.Bench.log c.ask.new.bench)
     c.in_ok-asked.asked c.in_ok-asked.ensures.asks (option_copied c.last.result) c.last.ensures c.requires.unheld
-    c.amount_of.result c.amount_of.ensures
+    c.amount_of.result c.amount_of.ensures.amount
 
 pub returns-clause-runs : goal.returns-clause-runs
 returns-clause-runs g c = c.in_ok-asked.ensures.asks.number

@@ -19,6 +19,7 @@ use Rattle.bump_ladder.proofs.rungs.climb.Goals as goal
 
 pub rung_sides-requires : goal.rung_sides-requires
 rung_sides-requires g c = record {
+  base = c.requires.base;
   lazy = subst (λ (m : Market). is_lazy_at m c.args.object ≡ true) (sym c.quote_rungs.ensures.market) c.requires.lazy;
   quoted = quoted_there c.args.desk.now.market c.quote_rungs.new.desk.market c.args.quotes.now _ c.quote_rungs.ensures.market (c.deref.ensures.value ∙ c.in_ok-quoted.ensures);
   sound = subst (λ (k : Calc). IsSound k c.quote_rungs.new.desk) (sym c.quote_rungs.ensures.same) c.quote_rungs.ensures.sound;

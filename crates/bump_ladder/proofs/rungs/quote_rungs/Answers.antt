@@ -33,6 +33,7 @@ quote_rung-requires g c =
     let steps = next_quote c.args.quotes.now c.loop-quote.quote-index c.quote-item.result c.loop-quote-test.true c.quote-item.is in
     record {
       lazy = subst (λ (m : Market). is_lazy_at m c.args.object ≡ true) (sym c.loop-quote.invariant.market) c.requires.lazy;
+      base = c.requires.base;
       quote = quotes_first _ _ _ steps c.args.desk.now.market c.loop-quote.desk.market c.loop-quote.invariant.market c.loop-quote.invariant.quotes;
       sound = subst (λ (k : Calc). IsSound k c.loop-quote.desk) (sym c.loop-quote.invariant.same) c.loop-quote.invariant.sound;
       unheld = c.loop-quote.invariant.unheld;

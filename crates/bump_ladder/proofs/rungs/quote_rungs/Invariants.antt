@@ -18,7 +18,7 @@ invariant-loop-quote g l = record {
   rungs : l.rungs ++ map (quote_rung (g.B.Bench.calc l.initial.bench) l.initial.desk.market l.object l.base) (drop l.quote-index l.quotes)
       ≡ map (quote_rung (g.B.Bench.calc l.initial.bench) l.initial.desk.market l.object l.base) l.quotes;
   within : l.quote-index ≤ length l.quotes;
-  few : l.runs ≤ l.quote-index * 2 ^ 66;
+  few : l.runs ≤ l.quote-index * 2 ^ 18;
   market : l.desk.market ≡ l.initial.desk.market;
   quotes : AreQuotes l.initial.desk.market (drop l.quote-index l.quotes);
   sound : IsSound (g.B.Bench.calc l.initial.bench) l.desk;

@@ -1,4 +1,4 @@
-use Rattle.std.proofs.Common.{◌≡◌, inl, inr, true, false, None, refl, sym, ◌∙◌, ap, subst}
+use Rattle.std.proofs.Common.{◌≡◌, arith, inl, inr, true, false, None, refl, sym, ◌∙◌, ap, subst}
 use Rattle.std.specs.Prelude.{◌↔◌, IfOk, OnErr}
 use Rattle.std.proofs.lemmas.Bool.{false≢true}
 use Rattle.std.proofs.lemmas.Result.{IfOk-weaker}
@@ -11,7 +11,7 @@ use Rattle.object_store.specs.Store.{StoreView}
 use Rattle.object_store.proofs.Lateness.{clear_is}
 use Rattle.ask_walk.specs.Asks.{Asks, Walks, Stops, MayAsk, Stays}
 use Rattle.ask_walk.specs.declared.books.Books.{Books}
-use Rattle.ask_walk.proofs.Answered.{free_mark, not_held, held_is_asked, asked_thawed, asked_early, asked_stale, walks_ask, state_left}
+use Rattle.ask_walk.proofs.Answered.{free_mark, not_held, held_is_asked, asked_thawed, asked_early, asked_stale, walks_ask, state_left, held_idle}
 use Rattle.ask_walk.proofs.books.Books.ask.Goals as goal
 
 pub returns-in-Some-clause-asks : goal.returns-in-Some-clause-asks
@@ -20,6 +20,13 @@ returns-in-Some-clause-asks g c =
     let is = sym (c.ask_held.ensures.answer c.args.market.now c.requires.may.whole c.requires.joined) ∙ c.in-Some.is in
     subst (λ (b : Books). Asks (g.B.Bench.calc c.args.bench.now) c.args.object s (state_in c.args.market.now b.store) c.in-Some.answer (g.B.Bench.count c.args.bench.now) (g.B.Bench.count c.args.bench.now) (g.B.Bench.log c.args.bench.now) (g.B.Bench.log c.args.bench.now)) (sym c.ask_held.ensures.same)
     (held_is_asked (g.B.Bench.calc c.args.bench.now) s c.args.object c.requires.may c.in-Some.answer (g.B.Bench.count c.args.bench.now) (g.B.Bench.log c.args.bench.now) is)
+
+pub returns-in-Some-clause-few : goal.returns-in-Some-clause-few
+returns-in-Some-clause-few g c =
+    let s = state_in c.args.market.now c.args.self.now.store in
+    let is = sym (c.ask_held.ensures.answer c.args.market.now c.requires.may.whole c.requires.joined) ∙ c.in-Some.is in
+    let none = held_idle s c.args.object c.in-Some.answer is in
+    omega (arith, none)
 
 pub walk-answer-requires-clause-may : goal.walk-answer-requires-clause-may
 walk-answer-requires-clause-may g c =

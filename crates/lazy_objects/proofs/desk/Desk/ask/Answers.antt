@@ -29,5 +29,8 @@ returns-clause-stops g c =
 pub returns-clause-sound : goal.returns-clause-sound
 returns-clause-sound g c = c.ask.ensures.stays.sound
 
+pub returns-clause-valued : goal.returns-clause-valued
+returns-clause-valued g c = λ value is. c.ask.ensures.stays.whole.valued c.args.object value is
+
 pub returns-clause-ready : goal.returns-clause-ready
 returns-clause-ready g c = subst (λ (t : State). (held_outcome t c.args.object ≢ None) ⊎ ((kept_at t c.args.object).current ≡ true) → IsOk c.ask.result) c.self.view_is c.ask.ensures.ready

@@ -7,8 +7,8 @@ ghost use Rattle.desk_terms.specs.declared.terms.Part.{Part};
 ghost use Rattle.desk_terms.specs.declared.value.Input.{Input};
 ghost use Rattle.desk_terms.specs.Reading.{IsWellFormed};
 ghost use Rattle.desk_model.specs.Market.{terms_at};
-ghost use Rattle.desk_model.specs.Links.{is_lazy_at, IsWhole};
-ghost use Rattle.desk_model.specs.Uses.{reading_at};
+ghost use Rattle.desk_model.specs.Links.{is_lazy_at, IsLinked, IsWhole};
+ghost use Rattle.desk_model.specs.Uses.{input_at, reading_at};
 ghost use Rattle.desk_model.specs.State.{unpriced, held_outcome};
 ghost use Rattle.object_store.specs.declared.market.Market.{Market};
 ghost use Rattle.object_store.specs.Market.{market_in, state_in, state_after};
@@ -22,9 +22,11 @@ ghost use Rattle.ask_walk.specs.Begun.{Keeps};
 ghost use Rattle.ask_walk.specs.Asks.{Asks, Walks, Stops, MayAsk, Stays, Computes, IsComputed, lacking, walk_mark, held_answer};
 
 use crate::books::Books;
+use crate::reader::read;
 use crate::turning::Turn;
 use crate::uses::index_named;
 use crate::waiting::{Begun, begin, left};
+use desk_model::Entry;
 use desk_names::ObjId;
 use desk_terms::{Asked, Bench, Cause, InputList, Job, Mark};
 use object_store::{Market, Store};
@@ -83,6 +85,21 @@ impl Books {
             return Some(answered(None, walk_mark(clear), 0));
         }
         None
+    }
+
+    /// What an object gives where another names it: a quote its rate, a handle what its target gives, a lazy object itself.
+    /// Each derived quote is worked out at most once.
+    pub fn given(&mut self, market: &Market, object: ObjId) -> Result<Entry, AllocError>
+        requires linked { IsLinked (market_in market.now) }
+        requires within { object < length market.now.objects }
+        requires empty { IsEmpty (length market.now.objects) self.old.scratch }
+        ensures entry { IfOk result (λ entry. entry ≡ input_at (market_in market.now) object) }
+        ensures store { self.new.store ≡ self.old.store }
+        ensures empty { IsEmpty (length market.now.objects) self.new.scratch }
+    {
+        let entry = read(market, &mut self.scratch, object);
+        self.clear();
+        entry
     }
 
     // The walk of an ask, of an object that is neither held nor current.

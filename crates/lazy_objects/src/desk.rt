@@ -4,7 +4,7 @@ ghost use Rattle.std.specs.Option.{option_copied};
 ghost use Rattle.desk_terms.specs.Reading.{Calc, AreInRange, IsFitting};
 ghost use Rattle.desk_model.specs.Market.{kind_at, terms_at, slot_at, is_given, is_watcher, is_observable, least_user};
 ghost use Rattle.desk_model.specs.Told.{is_registered, is_watching};
-ghost use Rattle.desk_model.specs.Uses.{index_at, fixings_in};
+ghost use Rattle.desk_model.specs.Uses.{index_at, fixings_in, input_at};
 ghost use Rattle.desk_model.specs.State.{kept_at, held_outcome, is_frozen, is_late, least_source};
 ghost use Rattle.desk_model.specs.Sound.{IsSound, KeepsCurrent};
 ghost use Rattle.desk_model.specs.Links.{AreOfKind, AreRanged, IsKinded, IsValued, IsWhole, Serve, is_lazy_at, reaches, serves_as};
@@ -34,6 +34,7 @@ use crate::room::make_room;
 use crate::weights::{has_weight, weigh};
 use ask_walk::{Books, Recalced};
 use day_number::Day;
+use desk_model::Entry;
 use desk_names::ObjId;
 use desk_terms::{Asked, Bench, FixFault, InputList, Kind, Terms, Value};
 use fixed_amount::Rate;
@@ -539,6 +540,23 @@ impl Desk {
         ensures ranged { AreRanged self.now.market }
     {
         let _ = &self.books;
+    }
+
+    /// The evaluation date.
+    pub fn today(&self) -> Day
+        ensures { result ≡ self.now.market.today }
+    {
+        let _ = &self.books;
+        self.market.today
+    }
+
+    /// What an object gives where another names it: a quote its rate, a handle what its target gives, a lazy object itself.
+    pub fn given(&mut self, object: ObjId) -> Result<Entry, AllocError>
+        requires within { object < length self.old.market.objects }
+        ensures entry { IfOk result (λ entry. entry ≡ input_at self.old.market object) }
+        ensures same { self.new ≡ self.old }
+    {
+        self.books.given(&self.market, object)
     }
 
     /// The rate that an index has stored for a day; none where it has none, and where the object is no index.

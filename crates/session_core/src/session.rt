@@ -5,6 +5,7 @@ ghost use Rattle.desk_terms.specs.Reading.{Calc, AreInRange};
 ghost use Rattle.desk_terms.specs.declared.kind.Kind.TheVariants as kind;
 ghost use Rattle.desk_terms.specs.declared.kind.Wanted.TheVariants as wanted;
 ghost use Rattle.desk_model.specs.Market.{slot_at, is_given, is_watcher, kind_at, least_user};
+ghost use Rattle.desk_model.specs.Uses.{input_at};
 ghost use Rattle.desk_model.specs.Links.{AreOfKind, IsWhole, serves_as, is_lazy_at};
 ghost use Rattle.desk_model.specs.Sound.{IsSound, KeepsCurrent};
 ghost use Rattle.desk_terms.specs.Asked.{Shows};
@@ -26,6 +27,7 @@ ghost use Rattle.session_core.specs.Watchers.{AreWatchers};
 ghost use Rattle.session_core.specs.Steps.{with_object, with_watcher, with_state};
 
 use day_number::Day;
+use desk_model::Entry;
 use desk_names::{NameId, NameList, Names, ObjId};
 use desk_terms::{Asked, Bench, Cause, FixFault, Kind, Terms, Value, discount_of};
 use fixed_amount::{Discount, Rate};
@@ -204,6 +206,26 @@ impl Session {
         ensures { result.now ≡ self.now.names }
     {
         &self.names
+    }
+
+    /// The texts of its names, and the names of its objects.
+    pub fn namer(&self) -> Namer<'_>
+        ensures names { result.names.now ≡ self.now.names }
+        ensures objects { result.of_object.now ≡ self.now.of_object }
+    {
+        Namer {
+            names: &self.names,
+            of_object: &self.of_object,
+        }
+    }
+
+    /// What an object gives where another names it.
+    pub fn given(&mut self, object: ObjId) -> Result<Entry, AllocError>
+        requires within { object < length self.old.state.market.objects }
+        ensures entry { IfOk result (λ entry. entry ≡ input_at self.old.state.market object) }
+        ensures same { self.new ≡ self.old }
+    {
+        self.desk.given(object)
     }
 
     /// How many numbers were given to objects.
@@ -463,8 +485,8 @@ impl Session {
         self.desk.remove(object);
     }
 
-    // The least deferred source that makes a lazy object late, if any does.
-    pub(crate) fn late(&mut self, object: ObjId) -> Option<ObjId>
+    /// The least deferred source that makes a lazy object late, if any does.
+    pub fn late(&mut self, object: ObjId) -> Option<ObjId>
         requires lazy { is_lazy_at self.old.state.market object ≡ true }
         ensures late { result ≡ least_source self.old.state object }
         ensures same { self.new ≡ self.old }
@@ -529,12 +551,8 @@ impl Session {
         self.desk.resume();
     }
 
-    // Asks a lazy object.
-    pub(crate) fn ask<B: Bench>(
-        &mut self,
-        object: ObjId,
-        bench: &mut B,
-    ) -> Result<Asked, AllocError>
+    /// Asks a lazy object. It computes only what it uses and has no current value.
+    pub fn ask<B: Bench>(&mut self, object: ObjId, bench: &mut B) -> Result<Asked, AllocError>
         requires lazy { is_lazy_at self.old.state.market object ≡ true }
         requires sound { IsSound (B.calc bench.old) self.old.state }
         ensures same { B.calc bench.new ≡ B.calc bench.old }

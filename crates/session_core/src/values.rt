@@ -1,13 +1,23 @@
 // What is stored of an object, by its name.
 ghost use Rattle.std.specs.Prelude.{◌≡◌, option_copied};
+ghost use Rattle.session_model.specs.declared.place.Place.TheVariants.{Priced};
+ghost use Rattle.session_model.specs.Resolve.{find};
 ghost use Rattle.session_core.specs.Values.{value_of, is_current_of, held_of};
 
 use crate::Session;
-use desk_names::NameId;
+use desk_names::{NameId, ObjId};
 use desk_terms::{Asked, Value};
+use session_commands::Refusal;
 use session_model::Place;
 
 impl Session {
+    /// The live lazy object that has a name, or why a command that asks for it is refused.
+    pub fn priced(&self, name: NameId) -> Result<ObjId, Refusal>
+        ensures { result ≡ find Priced self.now name }
+    {
+        self.find(Place::Priced, name)
+    }
+
     /// The last value of the live lazy object that has a name; none where no such object has it, and where the object has
     /// no value yet.
     pub fn value(&self, name: NameId) -> Option<&Value>

@@ -1,9 +1,14 @@
 // Quiet commands by themselves, without a round, and asks of what is held.
-ghost use Rattle.std.specs.Prelude.{◌≡◌, true, false};
+ghost use Rattle.std.specs.Prelude.{◌≡◌, ◌<◌, true, false, length, IfOk, OnErr};
 ghost use Rattle.std.specs.Result.{result_err};
 ghost use Rattle.desk_terms.specs.Reading.{Calc};
+ghost use Rattle.desk_model.specs.Links.{is_lazy_at};
+ghost use Rattle.desk_model.specs.State.{least_source};
+ghost use Rattle.desk_model.specs.Uses.{input_at};
 ghost use Rattle.desk_model.specs.Sound.{IsSound, KeepsCurrent};
+ghost use Rattle.session_core.specs.Pricing.{Prices, StopsShort};
 ghost use Rattle.session_core.specs.Values.{held_of};
+ghost use Rattle.session_model.specs.Pricing.{asking};
 ghost use Rattle.session_model.specs.Standing.{IsKnown};
 ghost use Rattle.session_model.specs.Quiet.{is_quiet};
 ghost use Rattle.session_model.specs.Resolve.{resolve};
@@ -12,9 +17,11 @@ ghost use Rattle.session_model.specs.Course.{taken};
 
 use crate::WatchedSession;
 use crate::idle::forget_idle;
-use desk_names::NameId;
-use desk_terms::Asked;
+use desk_model::Entry;
+use desk_names::{NameId, ObjId};
+use desk_terms::{Asked, Bench};
 use session_commands::{Command, Refusal};
+use std::alloc::AllocError;
 use watch_rounds::Picker;
 
 impl<P: Picker> WatchedSession<P> {
@@ -48,5 +55,40 @@ impl<P: Picker> WatchedSession<P> {
         ensures same { self.new ≡ self.old }
     {
         self.session.ask_held(name)
+    }
+
+    /// Asks a lazy object between rounds. It computes only what it uses and has no current value, and tells nobody.
+    pub fn ask<B: Bench>(&mut self, object: ObjId, bench: &mut B) -> Result<Asked, AllocError>
+        requires lazy { is_lazy_at self.old.standing.state.market object ≡ true }
+        requires sound { IsSound (B.calc bench.old) self.old.standing.state }
+        ensures same { B.calc bench.new ≡ B.calc bench.old }
+        ensures prices { IfOk result (λ answer. Prices (asking (B.calc bench.old) object self.old.standing.state)
+            object self.old.standing self.new.standing answer (B.count bench.old) (B.count bench.new)
+            (B.log bench.old) (B.log bench.new)) }
+        ensures stops { OnErr result (StopsShort (asking (B.calc bench.old) object self.old.standing.state)
+            self.old.standing self.new.standing (B.count bench.old) (B.count bench.new)
+            (B.log bench.old) (B.log bench.new)) }
+        ensures sound { IsSound (B.calc bench.old) self.new.standing.state }
+        ensures rounds { self.new ≡ record self.old { standing = self.new.standing } }
+    {
+        self.session.ask(object, bench)
+    }
+
+    /// The least deferred source that makes a lazy object late, if any does. It takes no memory.
+    pub fn late(&mut self, object: ObjId) -> Option<ObjId>
+        requires lazy { is_lazy_at self.old.standing.state.market object ≡ true }
+        ensures answer { result ≡ least_source self.old.standing.state object }
+        ensures same { self.new ≡ self.old }
+    {
+        self.session.late(object)
+    }
+
+    /// What an object gives where another names it: a quote its rate, a handle what its target gives, a lazy object itself.
+    pub fn given(&mut self, object: ObjId) -> Result<Entry, AllocError>
+        requires within { object < length self.old.standing.state.market.objects }
+        ensures entry { IfOk result (λ entry. entry ≡ input_at self.old.standing.state.market object) }
+        ensures same { self.new ≡ self.old }
+    {
+        self.session.given(object)
     }
 }

@@ -2,7 +2,12 @@
 use Rattle.std.proofs.Common.{◌≡◌, ◌∙◌, ℕ, suc, ◌+◌, ◌-◌, List, [], ◌++◌, refl, sym, ap, subst, arith}
 use Rattle.watch_rounds.specs.Order.{order_at, order_after}
 use Rattle.watch_rounds.specs.declared.picker.Order.{Order}
+use Rattle.watch_rounds.specs.declared.picker.Order.TheVariants.{Seed}
 use Rattle.load_maker.specs.Texts.{for_each, generator, move_text, picked_quote}
+
+pub for_none : (f : ℕ → List ℕ) → for_each f 0 ≡ []
+unfolding for_each
+for_none f = refl
 
 for_next : (f : ℕ → List ℕ) (n : ℕ) → for_each f (suc n) ≡ for_each f n ++ f (suc n)
 unfolding for_each
@@ -12,6 +17,10 @@ pub for_more : (f : ℕ → List ℕ) (n : ℕ) → for_each f (n + 1) ≡ for_e
 for_more f n =
     let one : suc n ≡ n + 1 = omega arith in
     subst (λ (m : ℕ). for_each f m ≡ for_each f n ++ f m) one (for_next f n)
+
+pub generator_none : (n : ℕ) → generator n 0 ≡ Seed n
+unfolding generator
+generator_none n = refl
 
 generator_next : (n picks : ℕ) → generator n (suc picks) ≡ order_after (generator n picks) n
 unfolding generator

@@ -13,6 +13,9 @@ use Rattle.market_tables.specs.Values.{or_fault}
 use Rattle.market_instruments.specs.Appended.{ranged, behind, AreWithin, StayWithin}
 use Rattle.market_instruments.proofs.KnownLemmas.{IsKnown, AreKnown}
 
+pub landed : (due : Option (List FlowTerm)) (old new : List FlowTerm) → Appends due old new (Ok tt) → behind old due ≡ Ok new
+landed due old new (flows, is, more) = ap (behind old) is ∙ ap Ok (sym more)
+
 pub out_of_range : (due : Option (List FlowTerm)) (old new : List FlowTerm) → Appends due old new (Err DateRange) → behind old due ≡ Err fault.Range
 out_of_range due old new (is, same) = ap (behind old) is
 

@@ -1,8 +1,12 @@
 -- What stays of a text where only some of a line was appended.
 use Rattle.std.proofs.Common.{◌≡◌, ℕ, List, ◌++◌, length, take, drop, Result, Ok, Err, OnErr, sym, ◌∙◌, ap, append_assoc}
-use Rattle.std.proofs.Math.Seq.{take-append_seam}
+use Rattle.std.proofs.Math.Seq.{take-length, take-append_seam}
 use Rattle.std.proofs.lemmas.List.{take-append-drop}
 use Rattle.price_report.specs.Front.{KeepsFront}
+
+-- a text that is as it was
+pub front_same : (old new : List ℕ) → new ≡ old → KeepsFront old new
+front_same old new e = rw e (take-length old)
 
 -- one that grew, and then kept that
 pub front_on : (old mid new more : List ℕ) → mid ≡ old ++ more → KeepsFront mid new → KeepsFront old new

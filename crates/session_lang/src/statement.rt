@@ -99,6 +99,7 @@ fn run_fields(
     ensures gives { Gives (λ s. (s, record { names = names.new; begun = begun.new })) result
         (fields_meaning (record { names = names.old; begun = begun.old }) verb (map (λ word. word.now) words.now)) }
     ensures grows { Grows names.old names.new }
+    ensures begun { Grows begun.old begun.new }
     ensures kept { Keeps result names.old names.new }
 {
     let (_, kind1, kind2, kind3) = verb.row();
@@ -180,6 +181,7 @@ fn run_line(
     ensures gives { Gives (λ s. (s, record { names = names.new; begun = begun.new })) result
         (command_meaning (record { names = names.old; begun = begun.old }) (verb_of first.now) (map (λ word. word.now) words.now)) }
     ensures grows { Grows names.old names.new }
+    ensures begun { Grows begun.old begun.new }
     ensures kept { Keeps result names.old names.new }
 {
     let Some(verb) = Verb::of_word(first) else {
@@ -236,6 +238,7 @@ fn begin_line(
     ensures gives { Gives (λ s. (s, record { names = names.new; begun = begun.new })) result
         (begin_meaning (record { names = names.old; begun = begun.old }) inside (map (λ word. word.now) words.now)) }
     ensures grows { Grows names.old names.new }
+    ensures begun { Grows begun.old begun.new }
     ensures kept { Keeps result names.old names.new }
 {
     if words.len() != 1 {
@@ -280,6 +283,7 @@ fn words_line(
     ensures gives { Gives (λ s. (s, record { names = names.new; begun = begun.new })) result
         (words_meaning (record { names = names.old; begun = begun.old }) inside (map (λ word. word.now) words.now)) }
     ensures grows { Grows names.old names.new }
+    ensures begun { Grows begun.old begun.new }
     ensures kept { Keeps result names.old names.new }
 {
     let [first, rest @ ..] = words else {
@@ -295,9 +299,10 @@ fn words_line(
 }
 
 /// What a line says, or its first fault. The names of a line without a fault get numbers, in order; one with a fault
-/// adds none. `words` is left with the words of the line: a vector for all lines is made once.
+/// adds none. `begun` are the names of the actions so far, to which a line that begins one adds its own. `words` is left
+/// with the words of the line: a vector for all lines is made once.
 #[tactic(auto, unfolding(crate::specs::Statement::line_meaning), using(script_words::proofs::Interning::grows_same))]
-pub(crate) fn read_line<'a>(
+pub fn read_line<'a>(
     line: &'a [u8],
     words: &mut Vec<&'a [u8]>,
     names: &mut Names,
@@ -307,6 +312,7 @@ pub(crate) fn read_line<'a>(
     ensures gives { Gives (λ s. (s, record { names = names.new; begun = begun.new })) result
         (line_meaning (record { names = names.old; begun = begun.old }) inside line.now) }
     ensures grows { Grows names.old names.new }
+    ensures begun { Grows begun.old begun.new }
     ensures kept { Keeps result names.old names.new }
 {
     if !good_words_of(line, words)? {

@@ -133,8 +133,8 @@ pub(crate) fn add(
     Ok(opened(&statement, line, open_at))
 }
 
-/// Whether a statement names an action that no block defines.
-pub(crate) fn lacks(names: &Names, begun: &Names, statement: Statement) -> bool
+/// Whether a statement names an action that was not begun.
+pub fn lacks(names: &Names, begun: &Names, statement: Statement) -> bool
     ensures { result ≡ lacks (record { names = names.now; begun = begun.now }) statement }
 {
     match statement {
@@ -156,8 +156,8 @@ fn linked_action(names: &Names, begun: &Names, action: ActionId) -> ActionId
     }
 }
 
-// The command, a watch with the place of its action's block.
-fn linked(names: &Names, begun: &Names, command: Command) -> Command
+/// The command, a watch with the place of its action's block.
+pub fn linked(names: &Names, begun: &Names, command: Command) -> Command
     ensures { result ≡ linked (record { names = names.now; begun = begun.now }) command }
 {
     match command {

@@ -1,2 +1,4 @@
+pub mod Apart
 pub mod NetLaws
 pub mod Movable
+pub mod Room

@@ -1,13 +1,20 @@
 //! Tells graphs of stated shapes from their bottom and counts whom the notice reached: prints each row of `shapes.csv`
 //! that differs, and how many agree. Then moves a holder between targets by the rows of `moves.csv`, and does the steps of
 //! `deferrals.txt`, worked by hand over one net of five nodes, and of `watchers.txt`, random ones beside a plain model that
-//! keeps sets (`tools/watcher_rows.py` writes them).
+//! keeps sets (`tools/watcher_rows.py` writes them). Then it plays the rounds of `rounds.txt` step by step, and chooses
+//! among the due by the rows of `picks.csv`; `tools/round_rows.py` writes both beside a plain model. Last comes a ring of
+//! 65,536 nodes, each of them observed by the sixteen after it.
 #![tactic(auto)]
 
 mod moves;
 mod nets;
+mod picks;
+mod ring;
+mod rounds;
 mod shapes;
 mod steps;
+mod watched;
+mod words;
 
 use moves::moves_agree;
 use shapes::shape_agrees;
@@ -24,7 +31,9 @@ fn main(rt: HostRuntime) -> io::Result<()> {
     let deferrals = fs::read_to_string(&rt, "deferrals.txt")?;
     compare_steps(&rt, rt.alloc(), "deferrals", &deferrals)?;
     let watchers = fs::read_to_string(&rt, "watchers.txt")?;
-    compare_steps(&rt, rt.alloc(), "watchers", &watchers)
+    compare_steps(&rt, rt.alloc(), "watchers", &watchers)?;
+    rounds::compare(&rt)?;
+    ring::show(&rt)
 }
 
 // Prints each shape that differs, and how many agree and differ.

@@ -1,9 +1,0 @@
-use Rattle.round_vectors.specs.Watched.{HasRoom}
-use Rattle.round_vectors.proofs.compare_rounds.Given as goal
-
-abbrev pub invariant-loop-row : goal.invariant-loop-row
-invariant-loop-row g l = record {
-  next : (goal.iterator-loop-row g).can_next l.row-iterator;
-  finite : (goal.iterator-loop-row g).is_finite l.row-iterator;
-  room : HasRoom l.watched;
-}

@@ -1,6 +1,6 @@
 mod Both
-mod Following
+pub mod Following
 mod Lines
 mod Logs
-mod Meanings
+pub mod Meanings
 mod Reading

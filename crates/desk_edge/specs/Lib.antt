@@ -2,6 +2,8 @@ pub mod CallList
 pub mod Count
 pub mod FileList
 pub mod FileShelf
+pub mod InFeed
+pub mod MemoryFeed
 pub mod MemoryShelf
 pub mod MemorySink
 pub mod OutSink

@@ -48,6 +48,9 @@ pub type FileList = Items<MemoryFile>;
 /// Numbers of calls, counted from 1.
 pub type CallList = Items<u64>;
 
+/// The sizes of pieces in order, in bytes.
+pub type SizeList = Items<usize>;
+
 // The place of the first file with this path, and the length where there is none.
 pub(crate) fn place_of(files: &FileList, path: &str) -> usize
     ensures within { result ≤ length files.now }

@@ -1,6 +1,6 @@
 // A sink of bytes in memory.
 ghost use Rattle.std.specs.Prelude.{◌≡◌, ◌≤◌, Some, [], IfOk};
-ghost use Rattle.desk_edge.specs.MemorySink.{put_answer, after_put};
+ghost use Rattle.desk_edge.specs.MemorySink.{put_answer, after_put, flush_answer, after_flush};
 
 use crate::count::one_more;
 use crate::lists::has_call;
@@ -9,11 +9,13 @@ use std::alloc::{AllocError, Global};
 use std::marker::Model;
 
 /// Bytes in memory, of which each call takes at most so many, until the room is used up, and whose
-/// listed calls fail. The calls are numbered from 1. Memory is taken when the sink is made, and by no
+/// listed calls fail. The calls of put and of flush are numbered together, from 1. Memory is taken when the sink is made, and by no
 /// call of it.
 #[derive(Drop)]
 pub struct MemorySink {
     bytes: Vec<u8>,
+    // How many of the bytes were flushed.
+    sent: usize,
     room: usize,
     most: usize,
     fails: CallList,
@@ -22,13 +24,14 @@ pub struct MemorySink {
 }
 
 impl Model for MemorySink {
-    ghost use Rattle.std.specs.Prelude.{◌≤◌, vec_len, vec_capacity};
+    ghost use Rattle.std.specs.Prelude.{◌≤◌, take, vec_len, vec_capacity};
     ghost use Rattle.desk_edge.specs.MemorySink.{SinkState};
 
     ghost Value = { SinkState };
 
     ghost view = { λ s. record {
       bytes = s.bytes.items;
+      sent = take s.sent s.bytes.items;
       room = s.room;
       most = s.most;
       fails = s.fails;
@@ -37,7 +40,7 @@ impl Model for MemorySink {
     } };
 
     ghost invariant = { λ s.
-        (1 ≤ s.most) × (vec_len s.bytes ≤ s.room) × (s.room ≤ vec_capacity s.bytes) };
+        (1 ≤ s.most) × (s.sent ≤ vec_len s.bytes) × (vec_len s.bytes ≤ s.room) × (s.room ≤ vec_capacity s.bytes) };
 }
 
 impl MemorySink {
@@ -51,6 +54,7 @@ impl MemorySink {
         requires { 1 ≤ most }
         ensures { IfOk result (λ sink. sink ≡ record {
           bytes = [];
+          sent = [];
           room = room;
           most = most;
           fails = fails;
@@ -61,6 +65,7 @@ impl MemorySink {
         let bytes = Vec::with_capacity(alloc, room)?;
         Ok(MemorySink {
             bytes,
+            sent: 0,
             room,
             most,
             fails,
@@ -74,6 +79,13 @@ impl MemorySink {
         ensures { result.now ≡ self.now.bytes }
     {
         self.bytes.as_slice()
+    }
+
+    /// The bytes flushed so far.
+    pub fn sent(&self) -> &[u8]
+        ensures { result.now ≡ self.now.sent }
+    {
+        &self.bytes.as_slice()[..self.sent]
     }
 
     /// How many calls were made.
@@ -108,14 +120,35 @@ impl MemorySink {
         self.bytes.extend_from_slice(&piece[..count]).unwrap();
         Ok(count)
     }
+
+    /// As `Sink::flush`. It fails exactly where its number is listed.
+    pub fn flush(&mut self) -> Result<(), Failed>
+        ensures answer { result ≡ flush_answer self.old }
+        ensures state { self.new ≡ after_flush self.old }
+        ensures faults { self.old.faults ≤ self.new.faults }
+    {
+        self.calls = one_more(self.calls);
+        if has_call(&self.fails, self.calls) {
+            self.faults = one_more(self.faults);
+            return Err(Failed);
+        }
+        self.sent = self.bytes.len();
+        Ok(())
+    }
 }
 
 impl Sink for MemorySink {
     ghost bytes = { λ s. Some s.bytes };
 
+    ghost sent = { λ s. Some s.sent };
+
     ghost faults = { λ s. s.faults };
 
     fn put(&mut self, piece: &[u8]) -> Result<usize, Failed> {
         MemorySink::put(self, piece)
+    }
+
+    fn flush(&mut self) -> Result<(), Failed> {
+        MemorySink::flush(self)
     }
 }

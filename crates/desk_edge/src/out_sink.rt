@@ -1,6 +1,6 @@
 // A sink over a writer.
-ghost use Rattle.std.specs.Prelude.{◌≡◌, ◌≤◌, ℕ, None, [], length, take, IfOk, OnErr};
-ghost use Rattle.std.specs.Io.KnownBytes.{Appends};
+ghost use Rattle.std.specs.Prelude.{◌≡◌, ◌≤◌, ℕ, None, [], length, take, IfOk, OnOk, OnErr};
+ghost use Rattle.std.specs.Io.KnownBytes.{Appends, Keeps};
 ghost use Rattle.desk_edge.specs.Count.{raised};
 
 use crate::count::one_more;
@@ -57,15 +57,37 @@ impl<W: Write + Drop> OutSink<W> {
             }
         }
     }
+
+    /// As `Sink::flush`. Where the writer tells what it holds, it holds the same.
+    pub fn flush(&mut self) -> Result<(), Failed>
+        ensures kept { Keeps self.old.written self.new.written }
+        ensures quiet { OnOk result (self.new.faults ≡ self.old.faults) }
+        ensures failed { OnErr result (self.new.faults ≡ raised self.old.faults) }
+        ensures faults { self.old.faults ≤ self.new.faults }
+    {
+        match self.writer.flush() {
+            Ok(()) => Ok(()),
+            Err(_) => {
+                self.faults = one_more(self.faults);
+                Err(Failed)
+            }
+        }
+    }
 }
 
 impl<W: Write + Drop> Sink for OutSink<W> {
     ghost bytes = { λ _. None };
 
+    ghost sent = { λ _. None };
+
     ghost faults = { λ s. s.faults };
 
     fn put(&mut self, piece: &[u8]) -> Result<usize, Failed> {
         OutSink::put(self, piece)
+    }
+
+    fn flush(&mut self) -> Result<(), Failed> {
+        OutSink::flush(self)
     }
 }
 

@@ -1,10 +1,10 @@
 // What no clause says: the system's files and writers, and that ample memory is found.
 use desk_edge::{
-    CallList, Failed, FileList, FileShelf, MemoryFile, MemoryShelf, OutSink, ReadFault, Shelf,
-    Sink, read_whole, write_whole,
+    CallList, Failed, Feed, FileList, FileShelf, InFeed, MemoryFeed, MemoryFile, MemoryShelf,
+    MemorySink, OutSink, ReadFault, Shelf, Sink, SizeList, read_whole, write_whole,
 };
 use std::alloc::{AllocError, Global};
-use std::io::{ErrorKind, Write};
+use std::io::{ErrorKind, Read, Write};
 use std::process::Abort;
 use std::test::Fail;
 use std::{fs, io};
@@ -247,4 +247,89 @@ fn a_piece_that_is_not_handed_on_is_a_fault(rt: HostRuntime) {
         write_whole(&mut sink, TEXT) == Err(Failed),
         "a text is a fault",
     );
+    holds(
+        &rt,
+        sink.flush() == Err(Failed),
+        "and so is a flush, which is not told as done",
+    );
+}
+
+// A sink in memory that counts no flush, or flushes at each put, is refused here.
+#[test]
+fn a_flush_sends_on_what_was_taken(rt: HostRuntime) -> Result<(), AllocError> {
+    let mut sink = MemorySink::new(rt.alloc(), 64, 64, third_fails(rt.alloc())?)?;
+    holds(&rt, sink.put(b"ab") == Ok(2), "two bytes are taken");
+    holds(&rt, sink.sent().is_empty(), "none is sent on yet");
+    holds(&rt, sink.flush() == Ok(()), "they are flushed");
+    holds(&rt, sink.flush() == Err(Failed), "the third call fails");
+    holds(&rt, sink.sent() == b"ab", "both were sent on");
+    Ok(())
+}
+
+// The third call, which fails.
+fn third_fails(alloc: Global) -> Result<CallList, AllocError> {
+    let mut fails = CallList::new(alloc);
+    fails.push(3)?;
+    Ok(fails)
+}
+
+// A reader that gives its bytes in order, and the pieces that a feed over it gives.
+#[test]
+fn a_reader_is_read_piece_by_piece(rt: HostRuntime) {
+    let mut feed = InFeed::new(TEXT);
+    holds(&rt, taken_by(&mut feed) == Ok(5), "a buffer is filled");
+    holds(&rt, taken_by(&mut feed) == Ok(5), "and again");
+    holds(&rt, taken_by(&mut feed) == Ok(5), "and again");
+    holds(&rt, taken_by(&mut feed) == Ok(2), "then what is left");
+    holds(&rt, taken_by(&mut feed) == Ok(0), "and then it ends");
+}
+
+// How many bytes the next piece has, where there is room for five.
+fn taken_by<F: Feed>(feed: &mut F) -> Result<usize, Failed> {
+    let mut buf = [0u8; 5];
+    feed.take(&mut buf)
+}
+
+// A reader that cannot be read.
+#[derive(Drop)]
+struct Closed;
+
+impl Read for Closed {
+    fn read(&mut self, _buf: &mut [u8]) -> io::Result<usize> {
+        Err(io::Error::from(ErrorKind::BrokenPipe))
+    }
+}
+
+// A feed that takes a fault for the end is refused here.
+#[test]
+fn a_reader_that_fails_is_a_fault(rt: HostRuntime) {
+    let mut feed = InFeed::new(Closed);
+    holds(&rt, taken_by(&mut feed) == Err(Failed), "a call is a fault");
+}
+
+// A feed in memory whose pieces are not of its sizes is refused here.
+#[test]
+fn a_feed_gives_pieces_of_its_sizes(rt: HostRuntime) -> Result<(), AllocError> {
+    let mut sizes = SizeList::new(rt.alloc());
+    for size in [2usize, 0, 9] {
+        sizes.push(size)?;
+    }
+    let bytes = TEXT.to_vec(rt.alloc())?;
+    let mut feed = MemoryFeed::new(bytes, sizes, third_fails(rt.alloc())?);
+    holds(&rt, taken_by(&mut feed) == Ok(2), "two bytes come");
+    holds(&rt, taken_by(&mut feed) == Ok(1), "a size of 0 is one of 1");
+    holds(
+        &rt,
+        taken_by(&mut feed) == Err(Failed),
+        "the third call fails",
+    );
+    holds(
+        &rt,
+        taken_by(&mut feed) == Ok(5),
+        "no piece is larger than its room",
+    );
+    holds(&rt, taken_by(&mut feed) == Ok(5), "no size is left");
+    holds(&rt, feed.calls() == 5, "five calls were made");
+    holds(&rt, feed.faults() == 1, "one of them failed");
+    Ok(())
 }

@@ -1,5 +1,5 @@
 -- What holds of a session with watchers stays while they are told and run.
-use Rattle.std.proofs.Common.{◌≡◌, ℕ, zero, suc, ◌-◌, Option, Some, None, ◌<◌, ◌≤◌, ◌+◌, false, List, [], ◌∷◌, ◌++◌, length, replicate, refl, sym, ap, subst, ◌∙◌, arith}
+use Rattle.std.proofs.Common.{◌≡◌, ℕ, zero, suc, ◌-◌, Option, Some, None, ◌<◌, ◌≤◌, ◌+◌, true, false, List, [], ◌∷◌, ◌++◌, append-nil, length, replicate, refl, sym, ap, subst, ◌∙◌, arith}
 use Rattle.std.specs.Prelude.{slice_get, IfSome, IfNone, max}
 use Rattle.std.proofs.lemmas.List.{length-replicate}
 use Rattle.std.proofs.lemmas.Option.{slice_get-get_or}
@@ -8,12 +8,15 @@ use Rattle.watch_rounds.specs.declared.tally.Tally.{Tally}
 use Rattle.watch_rounds.specs.Due.{AreAll}
 use Rattle.watch_rounds.specs.Round.{Round, RoundsView, IsRound, blank, no_round, grown, with_notice, with_run, watcher_of}
 use Rattle.watch_rounds.proofs.Stays.{nobody_ran, notice_long, notice_all, ran_long, ran_all}
+use Rattle.desk_model.specs.Market.{Market, slot_at, is_watcher}
+use Rattle.desk_model.specs.State.{State}
 use Rattle.session_model.specs.Standing.{Standing, name_of}
 use Rattle.session_model.specs.Course.{Running, running}
 use Rattle.session_core.specs.Watchers.{IsAWatcher, AreWatchers}
 use Rattle.session_rounds.specs.Fits.{Fits, IsDueOf, AreKnown}
 use Rattle.session_rounds.specs.Goes.{HasEnded}
 use Rattle.session_rounds.proofs.Hearing.{with_noticed}
+use Rattle.session_rounds.proofs.Known.{known_same}
 
 -- a watcher was told
 pub fits_notice : {P : Type 0} → (r : Running P) (nodes w name : ℕ) → Fits P r nodes → IsAWatcher r.standing w → name ≡ name_of r.standing w
@@ -32,6 +35,20 @@ pub fits_leaving : {P : Type 0} → (r : Running P) (nodes : ℕ) (rest : List �
 fits_leaving {P} r nodes rest new fits is =
     subst (λ (p : Standing). Fits P (record r { standing = p }) nodes) (sym is)
     (record { counted = fits.counted; room = fits.room; spare = fits.spare; due = fits.due; known = fits.known })
+
+-- a price leaves the market as it was
+pub fits_priced : {P : Type 0} → (r : Running P) (nodes : ℕ) (new : Standing) (s : State) → Fits P r nodes
+    → s.market ≡ r.standing.state.market → new ≡ record r.standing { state = s } → Fits P (record r { standing = new }) nodes
+fits_priced {P} r nodes new s fits markets is =
+    subst (λ (p : Standing). Fits P (record r { standing = p }) nodes) (sym is)
+    (record {
+      counted = fits.counted;
+      room = fits.room;
+      spare = fits.spare;
+      due = subst (λ (m : Market). AreAll (λ (entry : DueWatcher). (is_watcher (slot_at m entry.watcher) ≡ true)
+          × (entry.name ≡ name_of r.standing entry.watcher)) r.round.due) (sym markets) fits.due;
+      known = known_same r.standing (record r.standing { state = s }) refl refl fits.known;
+    })
 
 -- a run begins
 pub fits_ran : {P : Type 0} → (r : Running P) (nodes at : ℕ) (picker : P) → Fits P r nodes

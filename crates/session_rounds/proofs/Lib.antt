@@ -1,3 +1,4 @@
+mod Asking
 mod Fitting
 pub mod Going
 mod Hearing

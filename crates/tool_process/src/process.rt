@@ -1,6 +1,6 @@
 // The process of a program.
 use crate::{Ended, Ending};
-use desk_edge::{FileShelf, OutSink, Shelf, Sink};
+use desk_edge::{Feed, FileShelf, InFeed, OutSink, Shelf, Sink};
 use std::alloc::Global;
 use std::{env, io};
 
@@ -18,6 +18,21 @@ pub trait Program {
     ) -> Self::Status;
 }
 
+/// A program that reads standard input, too: what it does with words over files, a feed and a sink of bytes.
+pub trait Listener {
+    /// How a run of it ends.
+    type Status: Ending;
+
+    /// Its run. The words are those behind its name.
+    fn run<H: Shelf, F: Feed, K: Sink>(
+        alloc: Global,
+        words: &[String],
+        shelf: &mut H,
+        feed: &mut F,
+        out: &mut K,
+    ) -> Self::Status;
+}
+
 /// Runs a program of this name on the words of the command line, and answers how that ended.
 pub fn run_process<P: Program>(rt: &HostRuntime, program: &'static str) -> Ended<P::Status> {
     Ended {
@@ -26,15 +41,19 @@ pub fn run_process<P: Program>(rt: &HostRuntime, program: &'static str) -> Ended
     }
 }
 
-// Does what the command line asks for. Words that are no text ask for nothing.
+/// Runs a program of this name on the words of the command line and on standard input, and answers how that ended.
+pub fn run_listener<P: Listener>(rt: &HostRuntime, program: &'static str) -> Ended<P::Status> {
+    Ended {
+        program,
+        status: listen::<P>(rt),
+    }
+}
+
+// Does what the command line asks for.
 fn carry_out<P: Program>(rt: &HostRuntime) -> P::Status {
-    let words: Vec<String> = match env::args(rt) {
-        Ok(args) => match args.skip(1).collect(rt.alloc()) {
-            Ok(words) => words,
-            Err(_) => return P::Status::no_memory(),
-        },
-        Err(error) if error.kind() == io::ErrorKind::OutOfMemory => return P::Status::no_memory(),
-        Err(_) => return P::Status::usage(),
+    let words = match words_of(rt) {
+        Ok(words) => words,
+        Err(status) => return status,
     };
     let Ok(files) = rt.clone() else {
         return P::Status::no_memory();
@@ -42,4 +61,31 @@ fn carry_out<P: Program>(rt: &HostRuntime) -> P::Status {
     let mut shelf = FileShelf::new(files);
     let mut out = OutSink::new(io::writer(rt));
     P::run(rt.alloc(), &words, &mut shelf, &mut out)
+}
+
+// The same over standard input.
+fn listen<P: Listener>(rt: &HostRuntime) -> P::Status {
+    let words = match words_of(rt) {
+        Ok(words) => words,
+        Err(status) => return status,
+    };
+    let Ok(files) = rt.clone() else {
+        return P::Status::no_memory();
+    };
+    let mut shelf = FileShelf::new(files);
+    let mut feed = InFeed::new(rt.stdin());
+    let mut out = OutSink::new(io::writer(rt));
+    P::run(rt.alloc(), &words, &mut shelf, &mut feed, &mut out)
+}
+
+// The words behind the program's name. Words that are no text ask for nothing.
+fn words_of<S: Ending>(rt: &HostRuntime) -> Result<Vec<String>, S> {
+    match env::args(rt) {
+        Ok(args) => match args.skip(1).collect(rt.alloc()) {
+            Ok(words) => Ok(words),
+            Err(_) => Err(S::no_memory()),
+        },
+        Err(error) if error.kind() == io::ErrorKind::OutOfMemory => Err(S::no_memory()),
+        Err(_) => Err(S::usage()),
+    }
 }

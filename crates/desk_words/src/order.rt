@@ -7,7 +7,7 @@ ghost use Rattle.desk_words.specs.Words.{is_number, number_of, order_of, joined_
 use watch_rounds::Order;
 
 /// The order that a text names: `first`, `last`, or the seed of a generator.
-pub(crate) fn order_of(text: &str) -> Option<Order>
+pub fn order_of(text: &str) -> Option<Order>
     ensures { result ≡ order_of text.now }
 {
     match text {
@@ -21,7 +21,7 @@ pub(crate) fn order_of(text: &str) -> Option<Order>
 }
 
 /// The text behind `--order=`, where the word begins with it.
-pub(crate) fn joined_order(word: &str) -> Option<&str>
+pub fn joined_order(word: &str) -> Option<&str>
     ensures { option_map (λ order. order.now) result ≡ joined_order word.now }
 {
     word.strip_prefix("--order=")

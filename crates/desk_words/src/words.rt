@@ -178,8 +178,8 @@ fn sized(size: Option<u64>) -> Result<Request, WordsFault>
     }
 }
 
-// Whether a word may be a path: it is not empty, no option, and not `help`.
-fn is_path(word: &str) -> bool
+/// Whether a word may be a path: it is not empty, no option, and not `help`.
+pub fn is_path(word: &str) -> bool
     ensures { result ≡ is_path word.now }
 {
     match word.as_bytes() {

@@ -1,5 +1,6 @@
 #!/usr/bin/env python3
-"""Writes `rounds.txt` and `picks.csv` of crates/graph_vectors/data: random rounds of watchers beside a plain model, and picks of the generator.
+"""Writes `rounds.txt` and `picks.csv` of crates/graph_vectors/data: random rounds of watchers beside a plain model, and
+picks of the generator.
 
 Run it at the top of the repository. The model keeps sets and counts and shares nothing with the crate but the rules that
 its documents state: a watcher is due once however often it was told, the due stand by creation, a run takes its watcher

@@ -4,6 +4,7 @@ pub mod Calls
 pub mod Course
 pub mod Going
 pub mod Kept
+pub mod Played
 pub mod Rows
 pub mod Status
 pub mod Verdict

@@ -27,6 +27,7 @@ pub fn play_all<B: Bench>(
     ensures same { B.calc bench.new ≡ B.calc bench.old }
     ensures after { OnOk result (session.new ≡ after (B.calc bench.old) commands.now session.old) }
     ensures stopped { OnErr result (session.new.standing.stopped ≡ true) }
+    ensures sound { IsSound (B.calc bench.old) session.new.standing.state }
     ensures calls { Calls (calls_of (ordered (B.calc bench.old)) session.old commands.now) result
         (B.count bench.old) (B.count bench.new) (B.log bench.old) (B.log bench.new) }
 {

@@ -46,6 +46,10 @@ returns-in_err-step-clause-calls g c =
     rw p.1 (letgo_halts _ _ _ _ _ _ _ _ _ _ next _ c.loop-command.invariant.same c.clear.new.self.items _ c.clear.ensures.items _ _
     c.in_err-step.ensures.halts)
 
+pub returns-in_err-step-clause-sound : goal.returns-in_err-step-clause-sound
+returns-in_err-step-clause-sound g c =
+    subst (λ (k : Calc). IsSound k c.step.new.self.standing.state) c.loop-command.invariant.same c.step.ensures.stays.sound
+
 pub returns-clause-after : goal.returns-clause-after
 returns-clause-after g c =
     letgo_after _ _ _ _ _ c.loop-command.command-index c.loop-command.session _ _ c.loop-command-test.false c.loop-command.invariant.go
@@ -53,3 +57,6 @@ returns-clause-after g c =
 pub returns-clause-calls : goal.returns-clause-calls
 returns-clause-calls g c =
     letgo_makes _ _ _ _ _ c.loop-command.command-index c.loop-command.session _ _ c.loop-command-test.false c.loop-command.invariant.go
+
+pub returns-clause-sound : goal.returns-clause-sound
+returns-clause-sound g c = c.loop-command.invariant.go.progress.sound

@@ -39,7 +39,7 @@ module _ (calc : Calc) (s : State) (whole : IsWhole s) (o : ℕ) where
   calls = runs calc s o
 
   -- flags stay
-  frozen_same : (x : ℕ) → is_frozen (asked calc o s) x ≡ is_frozen s x
+  pub frozen_same : (x : ℕ) → is_frozen (asked calc o s) x ≡ is_frozen s x
   unfolding is_frozen asked
   frozen_same x = elim (cases_Bool (has_value calls x)) [
     | inl has ↦
@@ -58,7 +58,7 @@ module _ (calc : Calc) (s : State) (whole : IsWhole s) (o : ℕ) where
   ]
 
   -- and so does what is held back and how
-  late_same : (x : ℕ) → is_late (asked calc o s) x ≡ is_late s x
+  pub late_same : (x : ℕ) → is_late (asked calc o s) x ≡ is_late s x
   unfolding is_late asked stored
   late_same x =
       ap (λ (b : Bool). b || below_by (edges s.market) (is_source (asked calc o s)) (λ y. not (is_frozen (asked calc o s) y)) (suc (length s.market.objects)) x) (source_same x)

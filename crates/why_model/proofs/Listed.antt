@@ -181,7 +181,7 @@ module _ (reads : ℕ → List ℕ) where
       ]
 
 -- how long paths may be does not matter, once it is above the ranks
-each_same : (put put2 : List ℕ → ℕ → List ℕ) (list os : List ℕ) → ((l : List ℕ) (o : ℕ) → Among o os → put l o ≡ put2 l o)
+pub each_same : (put put2 : List ℕ → ℕ → List ℕ) (list os : List ℕ) → ((l : List ℕ) (o : ℕ) → Among o os → put l o ≡ put2 l o)
     → each_put put list os ≡ each_put put2 list os
 each_same put put2 list [] same = refl
 each_same put put2 list (o ∷ os) same =
@@ -201,11 +201,11 @@ module _ (reads : ℕ → List ℕ) (rank : ℕ → ℕ) (falls : Falls reads ra
 
 -- ---- an answer
 
-fewer : (b : Bool) (x : ℕ) (xs : List ℕ) → Among x (if b then [] else xs) → Among x xs
+pub fewer : (b : Bool) (x : ℕ) (xs : List ℕ) → Among x (if b then [] else xs) → Among x xs
 fewer true x xs among = absurd among
 fewer false x xs among = among
 
-rests_fall : (s : State) (rank : ℕ → ℕ) → Falls (edges s.market) rank → Falls (rests_on s) rank
+pub rests_fall : (s : State) (rank : ℕ → ℕ) → Falls (edges s.market) rank → Falls (rests_on s) rank
 rests_fall s rank falls o x among = falls o x (fewer (shows_last s o) x (edges s.market o) among)
 
 pub whole : ListingsAreWhole

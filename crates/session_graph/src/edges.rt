@@ -65,9 +65,16 @@ fn push_observed(
 ) -> Result<(), AllocError>
     ensures { OnOk result (edges.new.items ≡ edges.old.items ++ observed object (edges_of (Some terms.now))) }
 {
-    let named = watched(alloc, terms)?;
-    let subjects = each_once(alloc, named.as_slice())?;
+    let subjects = subjects_of(alloc, terms)?;
     push_each(object, subjects.as_slice(), edges)
+}
+
+/// The objects that an object with these terms observes, each once, in the order of its edges.
+pub fn subjects_of(alloc: Global, terms: &Terms) -> Result<Vec<ObjId>, AllocError>
+    ensures { IfOk result (λ subjects. subjects.items ≡ edges_of (Some terms.now)) }
+{
+    let named = watched(alloc, terms)?;
+    each_once(alloc, named.as_slice())
 }
 
 // Appends an edge from an object to each of these.

@@ -1,5 +1,5 @@
 -- What is proved of the definitions, for every bench and every market.
-use Rattle.std.specs.Prelude.{◌≡◌, ℕ, ℤ, true, List, ◌++◌, codes, length, Option, Some, option_map, slice_get}
+use Rattle.std.specs.Prelude.{◌≡◌, ℕ, ℤ, Bool, true, int_le, if◌then◌else◌, List, ◌∷◌, ◌++◌, codes, length, Option, Some, None, option_map, slice_get}
 use Rattle.std.specs.List.{All}
 use Rattle.desk_names.specs.Names.{has_text}
 use Rattle.desk_terms.specs.Reading.{Calc}
@@ -11,7 +11,8 @@ use Rattle.session_model.specs.Moments.{moments}
 use Rattle.session_model.specs.Wider.{AreNamed}
 use Rattle.grid_shape.specs.Kinds.{is_move, is_ask}
 use Rattle.grid_model.specs.Scenario.{Basis, Scenario, ordered, first_of, scenario_lines, scenario_calls, scenario_values}
-use Rattle.grid_model.specs.Grid.{blocks, scenario_text}
+use Rattle.grid_model.specs.Grid.{label_text, blocks, scenario_text, scenario_texts, scenarios_calls, rows_of, column, grid_over}
+use Rattle.grid_model.specs.Renumbered.{Sheet, among, IsSheet, Hold}
 use Rattle.grid_model.specs.Worst.{Worst, worst_of, IsWorst}
 
 -- two scripts agree in one block of each, and in what they ask for
@@ -56,6 +57,64 @@ OtherNamesChangeNothing = (calc : Calc) (basis : Basis) (one other : List (List 
     → has_text basis.names (codes "today") ≡ true → AreNamed (length basis.names) basis.made
     → All (IsCommand (length basis.names) 0) scenario.moves → All (IsCommand (length basis.names) 0) asks
     → IsSame calc (with_names basis one) (with_names basis other) asks scenario
+
+-- what a sheet writes, and its computations
+abbrev pub sheet_texts : Calc → Sheet → List ℕ
+sheet_texts calc sheet = scenario_texts calc sheet.basis sheet.asks sheet.scenarios
+
+abbrev pub sheet_calls : Calc → Sheet → List (ℕ × Bool)
+sheet_calls calc sheet = scenarios_calls calc sheet.basis sheet.asks sheet.scenarios
+
+abbrev pub sheet_grid : Calc → Sheet → List ℕ
+sheet_grid calc sheet = grid_over calc sheet.basis sheet.asks sheet.scenarios
+
+-- a sheet writes and computes the same in sessions of these names and of those
+pub record IsSameAmong (calc : Calc) (sheet : Sheet) (one other : List (List ℕ)) : Type 0 where
+  pub grid : sheet_grid calc (among one sheet) ≡ sheet_grid calc (among other sheet)
+  pub texts : sheet_texts calc (among one sheet) ≡ sheet_texts calc (among other sheet)
+  pub calls : sheet_calls calc (among one sheet) ≡ sheet_calls calc (among other sheet)
+
+-- NUMBERS OF NAMES CHANGE NOTHING: two scripts that have blocks and asks of the same texts have the same text and computations
+-- for them, whatever else stands in the scripts and however that numbers their names
+abbrev pub NumbersChangeNothing : Type 0
+NumbersChangeNothing = (calc : Calc) (sheet : Sheet) (one other : List (List ℕ)) → IsSheet sheet
+    → Hold one sheet.basis.names → Hold other sheet.basis.names → IsSameAmong calc sheet one other
+
+-- the same market and asks with these scenarios
+abbrev pub with_scenarios : Sheet → List Scenario → Sheet
+with_scenarios sheet scenarios = record sheet { scenarios = scenarios }
+
+-- the worst value of the ask at a place, with the text of its scenario
+abbrev pub told_worst : List (List ℕ) → Option Worst → Option (List ℕ × ℤ)
+told_worst names None = None
+told_worst names (Some worst) = Some (label_text names worst.name, worst.amount)
+
+abbrev pub sheet_worst : Calc → Sheet → ℕ → Option (List ℕ × ℤ)
+sheet_worst calc sheet k = told_worst sheet.basis.names (worst_of (column k (rows_of calc sheet.basis sheet.asks sheet.scenarios)))
+
+-- the less of two, of equal ones the first
+abbrev pub less_of : Option (List ℕ × ℤ) → Option (List ℕ × ℤ) → Option (List ℕ × ℤ)
+less_of None second = second
+less_of (Some one) None = Some one
+less_of (Some one) (Some other) = if int_le one.1 other.1 then Some one else Some other
+
+-- a sheet, and two parts of it that begin with the same scenario, each in sessions of names of its own
+pub record IsJoined (calc : Calc) (sheet : Sheet) (head : Scenario) (first second : List Scenario) (whole one other : List (List ℕ)) : Type 0 where
+  pub texts : sheet_texts calc (among whole (with_scenarios sheet (head ∷ first ++ second)))
+      ≡ sheet_texts calc (among one (with_scenarios sheet (head ∷ first))) ++ sheet_texts calc (among other (with_scenarios sheet second))
+  pub calls : sheet_calls calc (among whole (with_scenarios sheet (head ∷ first ++ second)))
+      ≡ sheet_calls calc (among one (with_scenarios sheet (head ∷ first))) ++ sheet_calls calc (among other (with_scenarios sheet second))
+  pub worst : (k : ℕ) → sheet_worst calc (among whole (with_scenarios sheet (head ∷ first ++ second))) k
+      ≡ less_of (sheet_worst calc (among one (with_scenarios sheet (head ∷ first))) k)
+      (sheet_worst calc (among other (with_scenarios sheet (head ∷ second))) k)
+
+-- A GRID CUT IN PARTS IS THE GRID: its text is that of the first part and of what follows in the second, and of each ask the
+-- worst is the less of both parts' worst
+abbrev pub PartsMakeTheGrid : Type 0
+PartsMakeTheGrid = (calc : Calc) (sheet : Sheet) (head : Scenario) (first second : List Scenario) (whole one other : List (List ℕ))
+    → IsSheet (with_scenarios sheet (head ∷ first ++ second))
+    → Hold whole sheet.basis.names → Hold one sheet.basis.names → Hold other sheet.basis.names
+    → IsJoined calc sheet head first second whole one other
 
 -- EACH ASK IS ANSWERED AFRESH: a move neither freezes nor defers
 abbrev pub ScenariosAreAfresh : Type 0

@@ -1,5 +1,6 @@
 pub mod Grid
 pub mod Laws
+pub mod Renumbered
 pub mod Rows
 pub mod Scenario
 pub mod Worst

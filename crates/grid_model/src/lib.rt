@@ -8,6 +8,6 @@ mod laws;
 mod rows;
 
 pub use laws::{
-    a_worst_value_is_the_least, other_names_change_no_scenario, scenarios_are_priced_afresh,
-    scenarios_stand_alone,
+    a_grid_is_that_of_its_parts, a_worst_value_is_the_least, numbers_of_names_change_no_scenario,
+    other_names_change_no_scenario, scenarios_are_priced_afresh, scenarios_stand_alone,
 };

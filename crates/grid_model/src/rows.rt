@@ -1,5 +1,5 @@
 // Grids that are worked through by hand.
-ghost use Rattle.grid_model.specs.Rows.{IsWorked, AreRefused};
+ghost use Rattle.grid_model.specs.Rows.{IsWorked, AreRefused, AreRenumbered};
 
 // A stock under moves of its quote.
 fn a_stock_is_worked_through()
@@ -9,4 +9,9 @@ fn a_stock_is_worked_through()
 // Moves and asks that are refused.
 fn refusals_are_worked_through()
     ensures { AreRefused }
+{}
+
+// The same scenarios by other numbers of names.
+fn names_have_other_numbers()
+    ensures { AreRenumbered }
 {}

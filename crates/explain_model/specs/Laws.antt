@@ -1,5 +1,5 @@
 -- What is proved of the definitions, for every bench and every market.
-use Rattle.std.specs.Prelude.{◌≡◌, ◌<◌, ℕ, suc, ℤ, true, List, [], ◌∷◌, ◌++◌, length, take, Option, Some, None, option_map, slice_get}
+use Rattle.std.specs.Prelude.{◌≡◌, ◌<◌, ℕ, suc, ℤ, true, List, [], ◌∷◌, ◌++◌, length, map, take, Option, Some, None, option_map, slice_get}
 use Rattle.std.specs.List.{All}
 use Rattle.desk_terms.specs.Reading.{Calc}
 use Rattle.session_commands.specs.declared.command.Command.{Command}
@@ -9,6 +9,7 @@ use Rattle.session_model.specs.Moments.{moments}
 use Rattle.grid_shape.specs.Kinds.{is_move, is_ask}
 use Rattle.grid_model.specs.Scenario.{Basis, Scenario, ordered, first_of, scenario_values}
 use Rattle.grid_model.specs.Grid.{Row}
+use Rattle.grid_model.specs.Renumbered.{Sheet, basis_among, among, IsSheet, Hold}
 use Rattle.explain_model.specs.declared.told.Told.TheVariants.{Nothing}
 use Rattle.explain_model.specs.Explanation.{steps_of}
 use Rattle.explain_model.specs.Gains.{told_by, amounts, total_of, gains_in}
@@ -73,3 +74,27 @@ pub record IsAlike (calc : Calc) (basis : Basis) (one other : Script) (k : ℕ) 
 -- A FRONT OF THE STEPS depends on the blocks of that front and on the asks alone
 abbrev pub FrontsStandAlone : Type 0
 FrontsStandAlone = (calc : Calc) (basis : Basis) (one other : Script) (k : ℕ) → Agree one other k → IsAlike calc basis one other k
+
+-- the front of a script whose names these are: it stands on the sheet, by their numbers
+pub record IsFront (sheet : Sheet) (names : List (List ℕ)) (script : Script) (k : ℕ) : Type 0 where
+  pub asks : script.commands ≡ (among names sheet).asks
+  pub steps : front script k ≡ (among names sheet).scenarios
+
+-- a front of the steps of both writes, shows and computes the same, and stands first in that
+pub record IsAlikeAmong (calc : Calc) (basis further : Basis) (one other : Script) (k : ℕ) : Type 0 where
+  pub texts : step_texts calc basis.names one.commands (front one k) (first_of basis)
+      ≡ step_texts calc further.names other.commands (front other k) (first_of further)
+  pub values : map values_in (step_rows calc one.commands (front one k) (first_of basis))
+      ≡ map values_in (step_rows calc other.commands (front other k) (first_of further))
+  pub calls : step_calls calc one.commands (front one k) (first_of basis)
+      ≡ step_calls calc other.commands (front other k) (first_of further)
+  pub stands : (rest : List ℕ) × (step_texts calc basis.names one.commands (steps_of one) (first_of basis)
+      ≡ step_texts calc basis.names one.commands (front one k) (first_of basis) ++ rest)
+
+-- WHATEVER NAMES STAND BEHIND IT: the same of two scripts in which the front and the asks are the same texts, whatever else stands
+-- in the scripts and however that numbers their names
+abbrev pub FrontsLeaveNumbers : Type 0
+FrontsLeaveNumbers = (calc : Calc) (sheet : Sheet) (ones others : List (List ℕ)) (one other : Script) (k : ℕ)
+    → IsSheet sheet → Hold ones sheet.basis.names → Hold others sheet.basis.names
+    → IsFront sheet ones one k → IsFront sheet others other k
+    → IsAlikeAmong calc (basis_among ones sheet.basis) (basis_among others sheet.basis) one other k

@@ -1,5 +1,5 @@
 // What is proved of the definitions, for every bench and every market.
-ghost use Rattle.explain_model.specs.Laws.{GainsAddUp, StepsAreAfresh, FrontsStandAlone};
+ghost use Rattle.explain_model.specs.Laws.{GainsAddUp, StepsAreAfresh, FrontsStandAlone, FrontsLeaveNumbers};
 
 /// The gains of an ask add up to its total, without a remainder, whatever steps show for it; and where it has no total nothing
 /// is told of it.
@@ -14,7 +14,8 @@ pub fn steps_are_priced_afresh()
 {}
 
 /// The lines, the values and the computations of a front of the steps are those of its own blocks and of the asks, whatever
-/// blocks come behind it.
+/// blocks come behind it, and however two scripts number the names of which the front and the asks speak.
 pub fn fronts_stand_alone()
-    ensures { FrontsStandAlone }
+    ensures alone { FrontsStandAlone }
+    ensures numbers { FrontsLeaveNumbers }
 {}

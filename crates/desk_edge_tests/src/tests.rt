@@ -262,7 +262,7 @@ fn a_flush_sends_on_what_was_taken(rt: HostRuntime) -> Result<(), AllocError> {
     holds(&rt, sink.sent().is_empty(), "none is sent on yet");
     holds(&rt, sink.flush() == Ok(()), "they are flushed");
     holds(&rt, sink.flush() == Err(Failed), "the third call fails");
-    holds(&rt, sink.sent() == b"ab", "both were sent on");
+    holds(&rt, sink.sent() == b"ab".as_slice(), "both were sent on");
     Ok(())
 }
 

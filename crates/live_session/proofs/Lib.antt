@@ -1,0 +1,6 @@
+mod Done
+mod Learnt
+mod LinesRead
+mod Meant
+mod Said
+mod Told

@@ -1,0 +1,3 @@
+pub mod Saying
+pub mod Speaking
+pub mod Standing

@@ -1,0 +1,88 @@
+// What lines are read over.
+ghost use Rattle.std.specs.Prelude.{◌≡◌, [], IfOk, OnOk, OnErr};
+ghost use Rattle.desk_names.specs.Names.{IsNames};
+ghost use Rattle.script_words.specs.Given.{Gives};
+ghost use Rattle.session_lang.specs.Reading.{lacks};
+ghost use Rattle.live_model.specs.Live.{meaning};
+ghost use Rattle.live_session.specs.Standing.{IsCopy, IsRead};
+
+use desk_names::Names;
+use live_model::MOST_LINE;
+use script_words::LineFault;
+use session_lang::{ScriptKind, Statement, lacks, read_line};
+use std::alloc::{AllocError, Global};
+
+// Names that lines are read over: copies of those of a session and of those of its actions. A line may leave more than
+// those of the session, and is known to have no fault only then.
+#[derive(Drop)]
+pub(crate) struct Reader {
+    pub(crate) names: Names,
+    pub(crate) begun: Names,
+}
+
+impl Reader {
+    // No names yet.
+    pub(crate) fn new(alloc: Global) -> Reader
+        ensures names { result.names ≡ [] }
+        ensures begun { result.begun ≡ [] }
+    {
+        Reader {
+            names: Names::new(alloc),
+            begun: Names::new(alloc),
+        }
+    }
+}
+
+// What a line says over these names and these names of actions, inside a block or not, or its first fault. It is read over
+// copies, in which its names are left.
+#[tactic(auto, unfolding(live_model::specs::Live::meaning))]
+pub(crate) fn read(
+    alloc: Global,
+    line: &[u8],
+    copy: &mut Names,
+    copy_begun: &mut Names,
+    names: &Names,
+    begun: &Names,
+    inside: bool,
+) -> Result<Statement, LineFault>
+    requires copied { IsCopy copy.old names.now }
+    requires begun { IsCopy copy_begun.old begun.now }
+    ensures gives { Gives (λ s. (s, record { names = copy.new; begun = copy_begun.new })) result
+        (meaning (record { names = names.now; begun = begun.now }) inside line.now) }
+    ensures read { IfOk result (λ s. IsRead inside (record { names = names.now; begun = begun.now })
+        (record { names = copy.new; begun = copy_begun.new }) s) }
+    ensures copied { IsCopy copy.new names.now }
+    ensures begun { IsCopy copy_begun.new begun.now }
+{
+    if line.len() > MOST_LINE {
+        return Err(LineFault::Kind(ScriptKind::TooLong));
+    }
+    copy_of(alloc, copy, names)?;
+    copy_of(alloc, copy_begun, begun)?;
+    let mut words = Vec::new(alloc);
+    let statement = read_line(line, &mut words, copy, copy_begun, inside)?;
+    if is_lacking(copy, copy_begun, &statement) {
+        return Err(LineFault::Kind(ScriptKind::NoAction));
+    }
+    Ok(statement)
+}
+
+// Whether a statement names an action that was not begun.
+fn is_lacking(names: &Names, begun: &Names, statement: &Statement) -> bool
+    ensures { result ≡ lacks (record { names = names.now; begun = begun.now }) statement.now }
+{
+    lacks(names, begun, *statement)
+}
+
+// Makes a copy of names theirs, where it is not: it is, where it is as long.
+fn copy_of(alloc: Global, copy: &mut Names, names: &Names) -> Result<(), AllocError>
+    requires kept { IsCopy copy.old names.now }
+    ensures ok { OnOk result (copy.new ≡ names.now) }
+    ensures err { OnErr result (copy.new ≡ copy.old) }
+    ensures named { IsNames names.now }
+{
+    if copy.len() != names.len() {
+        *copy = names.copy(alloc)?;
+    }
+    Ok(())
+}

@@ -1,4 +1,4 @@
-// The price of an instrument on a market's curve, by a bench that keeps a log of its calls.
+// The price of an instrument on a market's curve.
 ghost use Rattle.std.specs.Prelude.{◌≡◌, IsTrue, option_copied};
 ghost use Rattle.std.specs.List.{list_all};
 ghost use Rattle.desk_terms.specs.Reading.{reading_of, IsWellFormed, IsIndexOf, index_reading, curve_count};
@@ -7,23 +7,21 @@ ghost use Rattle.price_vectors.specs.Inputs.{is_curve};
 use crate::instruments::Instrument;
 use curve_points::{CurveValue, copy_curve};
 use day_number::Day;
-use desk_bench::ListBench;
 use desk_names::ObjId;
-use desk_terms::{Bench, Input, InputList, Job, Terms, Value};
+use desk_terms::{Input, InputList, Job, Terms, Value};
+use discount_engines::price;
 use fixed_amount::Amount;
 use flow_terms::{Fixings, FlowTerms, IndexTerms, IndexUse, expired, needs_forecast};
 use instrument_terms::flows_terms;
 use row_markets::Market;
 use std::alloc::Global;
 
-// The numbers of the instrument, its index and its engine, and of a composite of the instrument alone.
+// The numbers of the instrument, its index and its engine.
 const INSTRUMENT: ObjId = ObjId(4);
 
 const INDEX: ObjId = ObjId(2);
 
 const ENGINE: ObjId = ObjId(3);
-
-const COMPOSITE: ObjId = ObjId(5);
 
 /// The value of an instrument on a market's curve, which discounts its flows and gives its index. None where it is
 /// refused.
@@ -73,24 +71,9 @@ fn priced<'x>(
     if !is_well_formed(&job) {
         return None;
     }
-    let mut bench = ListBench::with_room(alloc, 1).ok()?;
-    match bench.price(alloc, &job).ok()? {
-        Value::Money(amount) => once(&mut bench, amount),
+    match price(alloc, &job).ok()? {
+        Value::Money(amount) => Some(amount),
         Value::Curve(_) => None,
-    }
-}
-
-// The value of a composite that holds an instrument of this value once, by the bench that priced the instrument. None where
-// the bench tells of other calls than these two.
-fn once(bench: &mut ListBench, amount: Amount) -> Option<Amount> {
-    let value = bench.price_sum(COMPOSITE, amount.units()).ok()?;
-    match bench.log().as_slice() {
-        [first, last]
-            if first.priced
-                && last.priced
-                && first.object == INSTRUMENT
-                && last.object == COMPOSITE => { Some(value) }
-        _ => None,
     }
 }
 

@@ -1,0 +1,141 @@
+// The files of rows.
+use crate::counted::{business_agrees, count_agrees};
+use crate::days::{
+    date_agrees, day_agrees, easter_agrees, later_agrees, place_agrees, tenor_agrees,
+};
+use crate::moved::{adjusted_agrees, advanced_agrees};
+use crate::open_days::{between_agrees, calendar_agrees};
+use crate::row::{Row, RowFault};
+use crate::schedules::schedule_agrees;
+use std::alloc::Global;
+use std::io;
+use thiserror::Error;
+
+/// Why the rows were not compared to the end.
+#[derive(Debug, Drop, Error)]
+pub(crate) enum Unread {
+    /// A line that has no case, counted from 1.
+    #[error("{table}, line {line}: {fault}")]
+    Line {
+        table: &'static str,
+        line: usize,
+        fault: RowFault,
+    },
+    /// A file that could not be read, or an output that could not be written.
+    #[error(transparent)]
+    Io(#[from] io::Error),
+}
+
+/// A file of rows.
+#[derive(Clone, Copy)]
+pub(crate) enum Table {
+    Days,
+    Dates,
+    Places,
+    Later,
+    Tenors,
+    Counts,
+    Business,
+    Easter,
+    Calendars,
+    Adjusted,
+    Advanced,
+    Between,
+    Schedules,
+}
+
+pub(crate) const TABLES: [Table; 13] = [
+    Table::Days,
+    Table::Dates,
+    Table::Places,
+    Table::Later,
+    Table::Tenors,
+    Table::Counts,
+    Table::Business,
+    Table::Easter,
+    Table::Calendars,
+    Table::Adjusted,
+    Table::Advanced,
+    Table::Between,
+    Table::Schedules,
+];
+
+impl Table {
+    /// The file's name in the folder that the program runs in.
+    pub(crate) fn name(self) -> &'static str {
+        match self {
+            Table::Days => "days",
+            Table::Dates => "dates",
+            Table::Places => "places",
+            Table::Later => "later",
+            Table::Tenors => "tenors",
+            Table::Counts => "counts",
+            Table::Business => "business",
+            Table::Easter => "easter",
+            Table::Calendars => "calendars",
+            Table::Adjusted => "adjusted",
+            Table::Advanced => "advanced",
+            Table::Between => "between",
+            Table::Schedules => "schedules",
+        }
+    }
+
+    // Whether a line's answer is the one that it says.
+    fn agrees(self, alloc: Global, line: &str) -> Result<bool, RowFault> {
+        let mut row = Row::new(line);
+        let agrees = self.answer_agrees(alloc, &mut row)?;
+        row.end()?;
+        Ok(agrees)
+    }
+
+    fn answer_agrees(self, alloc: Global, row: &mut Row<'_>) -> Result<bool, RowFault> {
+        match self {
+            Table::Days => day_agrees(alloc, row),
+            Table::Dates => date_agrees(row),
+            Table::Places => place_agrees(row),
+            Table::Later => later_agrees(row),
+            Table::Tenors => tenor_agrees(row),
+            Table::Counts => count_agrees(row),
+            Table::Business => business_agrees(alloc, row),
+            Table::Easter => easter_agrees(row),
+            Table::Calendars => calendar_agrees(alloc, row),
+            Table::Adjusted => adjusted_agrees(alloc, row),
+            Table::Advanced => advanced_agrees(alloc, row),
+            Table::Between => between_agrees(alloc, row),
+            Table::Schedules => schedule_agrees(alloc, row),
+        }
+    }
+}
+
+/// Prints each line that differs, and how many agree and differ.
+pub(crate) fn compare(
+    rt: &impl Print,
+    alloc: Global,
+    table: Table,
+    text: &str,
+) -> Result<(), Unread> {
+    let name = table.name();
+    let mut agree = 0u64;
+    let mut differ = 0u64;
+    for (place, line) in text.lines().enumerate() {
+        match table.agrees(alloc, line) {
+            Ok(true) => agree = agree.saturating_add(1),
+            Ok(false) => {
+                differ = differ.saturating_add(1);
+                println!(rt; "{name}: {line}")?;
+            }
+            Err(fault) => return Err(line_fault(name, place, fault)),
+        }
+    }
+    println!(rt; "{name}: {agree} agree, {differ} differ")?;
+    Ok(())
+}
+
+// The error of a line at a place that is counted from 0.
+pub(crate) fn line_fault(table: &'static str, place: usize, fault: RowFault) -> Unread {
+    Unread::Line {
+        table,
+        line: place.saturating_add(1),
+        fault,
+    }
+}

@@ -1,0 +1,87 @@
+// Lines `YYYY,MMDD MMDD ..`: a year, and its days from Monday to Friday that are holidays of QuantLib 1.29's TARGET. It
+// has one holiday that is not in every year, 2001-12-31.
+use crate::row::{Row, RowFault};
+use crate::tables::{Unread, line_fault};
+use day_number::{Day, add_days};
+use holiday_calendars::{Base, Calendar};
+
+/// How many days agree and how many differ.
+#[derive(Drop)]
+struct Tally {
+    agree: u32,
+    differ: u32,
+}
+
+/// Prints each day that differs, and how many agree and differ.
+pub(crate) fn compare(rt: &impl Print, text: &str) -> Result<(), Unread> {
+    let mut tally = Tally {
+        agree: 0,
+        differ: 0,
+    };
+    for (place, line) in text.lines().enumerate() {
+        match year_of(line) {
+            Ok((first, closed)) => compare_year(rt, first, closed, &mut tally)?,
+            Err(fault) => return Err(line_fault("target", place, fault)),
+        }
+    }
+    println!(rt; "target: {} agree, {} differ", tally.agree, tally.differ)?;
+    Ok(())
+}
+
+// The first day of a line's year, and the holidays' texts.
+fn year_of(line: &str) -> Result<(Day, &str), RowFault> {
+    let mut row = Row::new(line);
+    let first = Day::of(row.number()?, 1, 1).ok_or(RowFault::NotARow)?;
+    let closed = row.text()?;
+    row.end()?;
+    if closed
+        .split(' ')
+        .all(|text| text.len() == 4 && text.parse::<u16>().is_ok())
+    {
+        Ok((first, closed))
+    } else {
+        Err(RowFault::NotARow)
+    }
+}
+
+// Compares the days of a year from the first on.
+fn compare_year(
+    rt: &impl Print,
+    first: Day,
+    closed: &str,
+    tally: &mut Tally,
+) -> Result<(), Unread> {
+    for step in 0..366 {
+        if let Ok(day) = add_days(first, step) {
+            if day.parts().0 == first.parts().0 {
+                compare_day(rt, day, closed, tally)?;
+            }
+        }
+    }
+    Ok(())
+}
+
+fn compare_day(rt: &impl Print, day: Day, closed: &str, tally: &mut Tally) -> Result<(), Unread> {
+    let (year, month, place) = day.parts();
+    if is_open(day) == (is_weekday(day) && !is_listed(closed, month, place)) {
+        tally.agree = tally.agree.saturating_add(1);
+    } else {
+        tally.differ = tally.differ.saturating_add(1);
+        println!(rt; "target: {year}-{month:02}-{place:02}")?;
+    }
+    Ok(())
+}
+
+fn is_open(day: Day) -> bool {
+    Calendar::one(Base::Target).is_business(day)
+}
+
+fn is_weekday(day: Day) -> bool {
+    Calendar::one(Base::Weekends).is_business(day)
+}
+
+// Whether one of the texts MMDD is the month's day.
+fn is_listed(closed: &str, month: u8, day: u8) -> bool {
+    let code = u32::from(month) * 100 + u32::from(day);
+    closed.split(' ').any(|text| text.parse() == Ok(code))
+}

@@ -1,0 +1,5 @@
+mod Lines
+mod Fronts
+mod Heard
+mod Pieces
+mod Ended

@@ -1,6 +1,7 @@
 -- Parts within the limits of a composite are each in range.
-use Rattle.std.proofs.Common.{◌≡◌, inl, inr, ℕ, Bool, true, false, not, List, [], ◌∷◌, ◌++◌, ℤ, refl, sym, ap, subst, ◌∙◌, arith}
+use Rattle.std.proofs.Common.{◌≡◌, ◌↔◌, inl, inr, ℕ, Bool, true, false, not, List, [], ◌∷◌, ◌++◌, ℤ, Option, Some, None, refl, sym, ap, subst, ◌∙◌, arith}
 use Rattle.std.specs.Prelude.{◌==◌, pos, nat_le, unsigned_abs}
+use Rattle.std.specs.Option.{is_some}
 use Rattle.std.specs.Ordering.{int_eq}
 use Rattle.std.proofs.lemmas.Bool.{false≢true, eqb-false, or_from, or_parts, and_from, and_parts}
 use Rattle.std.proofs.lemmas.Bool.Decides.{eqb_tells, nat_tests, Decides-int_eq}
@@ -8,8 +9,10 @@ use Rattle.std.proofs.lemmas.List.{append_assoc}
 use Rattle.std.proofs.lemmas.List.Folds.{list_any-append}
 use Rattle.desk_terms.specs.declared.terms.Part.{Part}
 use Rattle.desk_terms.specs.Parts.{IsWeight, AreEachInRange}
-use Rattle.instrument_terms.specs.Parts.{is_weight, has_member}
+use Rattle.instrument_terms.specs.declared.faults.LimitFault.{LimitFault}
+use Rattle.instrument_terms.specs.Parts.{is_weight, has_member, first_fault}
 use Rattle.instrument_terms.specs.Laws.{AreWithin, PartsWithinAreInRange}
+use Rattle.instrument_terms.proofs.LawLemmas.{faultless_parts_are_within}
 
 swapped : (a b : ℕ) → (a == b) ≡ false → (b == a) ≡ false
 swapped a b other = elim (eqb_tells b a) [
@@ -65,4 +68,15 @@ pub parts_within_are_in_range : PartsWithinAreInRange
 parts_within_are_in_range parts = (
   (λ within. each_in_range parts within),
   (λ each before part after is. none_before before part after (subst AreEachInRange is each)),
+)
+
+-- parts are each in range exactly where they have no fault
+pub faultless_in_range : (parts : List Part) (found : Option LimitFault) (none : Bool) → found ≡ first_fault [] parts
+    → is_some found ≡ not none → (none ≡ true) ↔ AreEachInRange parts
+faultless_in_range parts None true is by = ((λ none. each_in_range parts ((faultless_parts_are_within parts).0 (sym is))), (λ each. refl))
+faultless_in_range parts None false is by = absurd cc
+faultless_in_range parts (Some fault) true is by = absurd cc
+faultless_in_range parts (Some fault) false is by = (
+  (λ none. absurd (false≢true none)),
+  (λ each. ap is_some (sym ((faultless_parts_are_within parts).1 ((parts_within_are_in_range parts).1 each)) ∙ sym is)),
 )

@@ -29,7 +29,7 @@ pub fn composite(parts: PartList) -> Result<Terms, LimitFault>
 const FEW_PARTS: usize = 64;
 
 // The fault of the first part that has one.
-fn fault_of_parts(parts: &[Part]) -> Option<LimitFault>
+pub(crate) fn fault_of_parts(parts: &[Part]) -> Option<LimitFault>
     requires { length parts.now < 2 ^ 32 }
     ensures { result ≡ due.first_fault [] parts.now }
 {

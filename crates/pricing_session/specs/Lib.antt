@@ -1,3 +1,5 @@
+pub mod Finding
+pub mod Making
 pub mod Opening
 pub mod Pricing
 pub mod Taking

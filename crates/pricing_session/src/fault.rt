@@ -1,4 +1,5 @@
-// Why a session did not take a command, or an action.
+// Why a session did not take a command, an action or an object.
+use session_commands::Refusal;
 use thiserror::Error;
 
 /// Why a step ended early.
@@ -38,6 +39,28 @@ pub enum BlockFault {
     /// A command names what the session has no text or no action of, or has a number beyond its limit.
     #[error("not of this session")]
     Unknown,
+    #[error("out of memory")]
+    NoMemory,
+}
+
+/// Why no object was made. Nothing is changed. The first that stands is told.
+#[derive(Clone, Copy, Debug, Error, PartialEq, Eq)]
+pub enum ObjectFault {
+    /// An earlier step found no memory.
+    #[error("stopped")]
+    Stopped,
+    /// The session has no such name.
+    #[error("not of this session")]
+    Unknown,
+    /// The terms are beyond their limits.
+    #[error("beyond the limits")]
+    Limits,
+    /// An object that the terms name is not live, or of another kind than is wanted there.
+    #[error("no such input")]
+    Inputs,
+    /// A live object has the name, or there is no room.
+    #[error("refused")]
+    Refused(Refusal),
     #[error("out of memory")]
     NoMemory,
 }

@@ -1,19 +1,23 @@
 // A session that grows while it runs.
-ghost use Rattle.std.specs.Prelude.{◌≡◌, ◌≤◌, ◌↔◌, true, false, length, All, IfOk, OnOk, OnErr, IsOk, IsErrOf, IsTrue};
+ghost use Rattle.std.specs.Prelude.{◌≡◌, ◌≤◌, ◌↔◌, true, false, length, All, IfOk, IfSome, IfNone, OnOk, OnErr, IsOk, IsErrOf, IsTrue};
 ghost use Rattle.desk_names.specs.Name.{is_name, IsName};
 ghost use Rattle.desk_names.specs.Names.{has_text, place_of, most_names};
 ghost use Rattle.session_core.specs.declared.growing.TheConstants.{MOST_ACTIONS};
 ghost use Rattle.session_commands.specs.Whole.{IsCommand};
 ghost use Rattle.session_model.specs.Growing.{with_action};
 ghost use Rattle.session_model.specs.Grown.{interned_in};
+ghost use Rattle.session_core.specs.Steps.{with_object};
+ghost use Rattle.pricing_session.specs.Making.{MayTry, IsUnmade, AnswersMake};
 ghost use Rattle.pricing_session.specs.Taking.{LacksBlock};
 
 use crate::known::is_known;
-use crate::{BlockFault, PricingSession};
-use desk_names::{NameFault, NameId};
-use desk_terms::Bench;
+use crate::serving::are_served;
+use crate::{BlockFault, ObjectFault, PricingSession};
+use desk_names::{NameFault, NameId, ObjId};
+use desk_terms::{Bench, Terms};
+use instrument_terms::are_in_range;
 use session_commands::{ActionId, Command, CommandList};
-use session_core::{ActionFault, MOST_ACTIONS};
+use session_core::{ActionFault, MOST_ACTIONS, MakeFault};
 use watch_rounds::Picker;
 
 impl<P: Picker + Drop, B: Bench + Drop> PricingSession<P, B> {
@@ -63,6 +67,46 @@ impl<P: Picker + Drop, B: Bench + Drop> PricingSession<P, B> {
             // There is room.
             Err(ActionFault::Full) => unreachable!(),
         }
+    }
+
+    /// Makes an object that has this name and these terms, and answers its number: how many numbers were given before.
+    /// After a refusal, want of memory and every other fault the session is as it was.
+    pub fn make(&mut self, name: NameId, terms: Terms) -> Result<ObjId, ObjectFault>
+        ensures number { IfOk result (λ object. object ≡ length self.old.running.standing.state.market.objects) }
+        ensures made { OnOk result (self.new ≡ record self.old {
+          running = record self.old.running { standing = with_object name terms self.old.running.standing };
+        }) }
+        ensures answer { AnswersMake self.old.running.standing name terms result }
+        ensures same { OnErr result (self.new ≡ self.old) }
+    {
+        if let Some(fault) = self.fault_of(name, &terms) {
+            return Err(fault);
+        }
+        match self.session.make(name, terms) {
+            Ok(object) => Ok(object),
+            Err(MakeFault::Refused(refusal)) => Err(ObjectFault::Refused(refusal)),
+            Err(MakeFault::NoMemory) => Err(ObjectFault::NoMemory),
+        }
+    }
+
+    // Why it is not tried to make an object, if it is not.
+    fn fault_of(&self, name: NameId, terms: &Terms) -> Option<ObjectFault>
+        ensures fault { IfSome result (IsUnmade self.now.running.standing name terms.now) }
+        ensures none { IfNone result (MayTry self.now.running.standing name terms.now) }
+    {
+        if self.session.is_stopped() {
+            return Some(ObjectFault::Stopped);
+        }
+        if name.0 >= self.names().len() {
+            return Some(ObjectFault::Unknown);
+        }
+        if !are_in_range(terms) {
+            return Some(ObjectFault::Limits);
+        }
+        if !are_served(self.session.session().desk(), terms) {
+            return Some(ObjectFault::Inputs);
+        }
+        None
     }
 }
 

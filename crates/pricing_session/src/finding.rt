@@ -1,0 +1,43 @@
+// Objects and values by their names.
+ghost use Rattle.std.specs.Prelude.{◌≡◌, option_copied};
+ghost use Rattle.session_model.specs.Standing.{object_named};
+ghost use Rattle.pricing_session.specs.Finding.{value_by};
+
+use crate::PricingSession;
+use desk_names::{NameId, ObjId};
+use desk_terms::{Bench, Value};
+use session_core::Session;
+use watch_rounds::Picker;
+
+impl<P: Picker + Drop, B: Bench + Drop> PricingSession<P, B> {
+    /// The live object that has a name, by the number that terms name it by. It takes no memory.
+    pub fn object(&self, name: NameId) -> Option<ObjId>
+        ensures { result ≡ object_named self.now.running.standing name }
+    {
+        object_in(self.session.session(), name)
+    }
+
+    /// The last value of the live lazy object that has a text as its name; none where the text is no name of the session,
+    /// where no such object has it, and where the object has no value yet. It takes no memory.
+    pub fn value_of(&self, text: &[u8]) -> Option<&Value>
+        ensures { option_copied result ≡ value_by self.now.running.standing text.now }
+    {
+        match self.name(text) {
+            Some(name) => self.value(name),
+            None => None,
+        }
+    }
+}
+
+// The live object of a session that has a name.
+fn object_in(session: &Session, name: NameId) -> Option<ObjId>
+    ensures { result ≡ object_named session.now name }
+{
+    for number in 0..session.numbers() {
+        let object = ObjId(number);
+        if session.name_of(object) == name && session.desk().kind(object).is_some() {
+            return Some(object);
+        }
+    }
+    None
+}

@@ -1,4 +1,5 @@
-// Why a session did not take a command, an action or an object.
+// Why a session did not take a command, an action, an object or an ask.
+use desk_terms::Cause;
 use session_commands::Refusal;
 use thiserror::Error;
 
@@ -61,6 +62,34 @@ pub enum ObjectFault {
     /// A live object has the name, or there is no room.
     #[error("refused")]
     Refused(Refusal),
+    #[error("out of memory")]
+    NoMemory,
+}
+
+/// Why an ask has no answer.
+#[derive(Clone, Copy, Debug, Error, PartialEq, Eq)]
+pub enum AskFault {
+    /// No live object has the name, or the one that has it is never computed. Nothing is changed.
+    #[error("refused")]
+    Refused(Refusal),
+    /// Memory ran out. The values that were computed are kept, and the session goes on.
+    #[error("out of memory")]
+    NoMemory,
+}
+
+/// Why an object has no price.
+#[derive(Clone, Copy, Debug, Error, PartialEq, Eq)]
+pub enum PriceFault {
+    /// No live object has the name, or the one that has it is never computed. Nothing is changed.
+    #[error("refused")]
+    Refused(Refusal),
+    /// It was asked, and has no value.
+    #[error("not priced")]
+    Unpriced(Cause),
+    /// It was asked, and is worth a curve.
+    #[error("not money")]
+    NotMoney,
+    /// Memory ran out. The values that were computed are kept, and the session goes on.
     #[error("out of memory")]
     NoMemory,
 }

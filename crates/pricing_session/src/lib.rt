@@ -1,9 +1,10 @@
 //! A session with the bench by which it prices, ready for the commands of a script. `open` wants a market as `read_market`
 //! gives it; no other call has a premise, so a program that uses it has nothing else to prove.
 //! Offers `PricingSession`, `NamedMarket`, and `session_for`, which makes a session without a bench. `StepFault`,
-//! `ChangeFault`, `BlockFault` and `ObjectFault` say why a call did nothing.
+//! `ChangeFault`, `BlockFault`, `ObjectFault`, `AskFault` and `PriceFault` say why a call has no answer.
 #![tactic(auto)]
 
+mod asking;
 mod fault;
 mod finding;
 mod growing;
@@ -12,6 +13,6 @@ mod opening;
 mod serving;
 mod session;
 
-pub use fault::{BlockFault, ChangeFault, ObjectFault, StepFault};
+pub use fault::{AskFault, BlockFault, ChangeFault, ObjectFault, PriceFault, StepFault};
 pub use opening::{NamedMarket, session_for};
 pub use session::PricingSession;

@@ -32,7 +32,7 @@ use watch_rounds::Picker;
 /// A session with the bench by which it prices. What is stored in it was computed by that bench.
 pub struct PricingSession<P: Picker + Drop, B: Bench + Drop> {
     pub(crate) session: WatchedSession<P>,
-    bench: B,
+    pub(crate) bench: B,
     pub(crate) actions: usize,
 }
 

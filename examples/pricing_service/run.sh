@@ -17,4 +17,4 @@ for file in market.toml feed.txt answers.txt; do
     [ -f "$folder/$file" ] || { echo "run.sh: $folder has no $file" >&2; exit 2; }
 done
 cd "$folder"
-"$service" market.toml feed.txt | diff - answers.txt && echo "as answers.txt"
+"$service" market.toml feed.txt discounting rate | diff - answers.txt && echo "as answers.txt"

@@ -1,4 +1,5 @@
 // A session whose quiet commands are changes.
+use crate::growth::grow;
 use crate::market::load;
 use desk_bench::DeskBench;
 use desk_names::Names;
@@ -9,10 +10,20 @@ use std::io::{Error, ErrorKind, Write};
 use std::{fs, io};
 use watch_rounds::Order;
 
-// Opens the session of a market and a script, and carries out the script's commands.
-pub(crate) fn serve(rt: &HostRuntime, path: &str, script: &str) -> io::Result<()> {
+// Opens the session of a market and a script, carries out the script's commands, and has the session grow where an engine
+// and a quote are named.
+pub(crate) fn serve(
+    rt: &HostRuntime,
+    path: &str,
+    script: &str,
+    named: Option<(&str, &str)>,
+) -> io::Result<()> {
     let (mut session, commands) = opened(rt, path, script)?;
-    take_all(rt, &mut session, commands.items())
+    take_all(rt, &mut session, commands.items())?;
+    match named {
+        Some((engine, quote)) => grow(rt, &mut session, engine, quote),
+        None => Ok(()),
+    }
 }
 
 // The session of a market and a script, and the script's commands.
@@ -81,7 +92,7 @@ fn answer<B: Bench + Drop>(
 }
 
 // Runs the round of a command, and writes its lines.
-fn step<B: Bench + Drop>(
+pub(crate) fn step<B: Bench + Drop>(
     rt: &HostRuntime,
     session: &mut PricingSession<Order, B>,
     command: &Command,

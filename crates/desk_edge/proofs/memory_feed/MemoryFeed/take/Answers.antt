@@ -3,7 +3,7 @@ use Rattle.std.specs.Bool.{◌==◌}
 use Rattle.std.specs.List.{list_any}
 use Rattle.std.proofs.lemmas.List.{drop-drop}
 use Rattle.desk_edge.specs.CallList.{fails_next}
-use Rattle.desk_edge.specs.MemoryFeed.{most_of, after_take}
+use Rattle.desk_edge.specs.MemoryFeed.{most_of}
 use Rattle.desk_edge.proofs.memory_feed.MemoryFeed.take.Goals as goal
 
 pub returns-then-not-is_empty-clause-state : goal.returns-then-not-is_empty-clause-state

@@ -10,7 +10,7 @@ ghost use Rattle.desk_model.specs.Unheld.{HoldsNothing};
 ghost use Rattle.bump_model.specs.Asking.{Calls, Made, MadeFront};
 ghost use Rattle.market_desk.specs.Standing.{standing};
 ghost use Rattle.tool_run.specs.Market.{wanted_in};
-ghost use Rattle.tool_run.specs.Run.{status_of, given_for, IsAccepted, IsAcceptedAs};
+ghost use Rattle.tool_run.specs.Run.{status_of, given_for, IsAccepted, IsAcceptedAs, IsThere};
 ghost use Rattle.tool_run.specs.Stage.{IsOutside, IsEarly, IsQuiet, Writes, Computes, faults_then};
 ghost use Rattle.tool_run.specs.Status.{stage_of};
 ghost use Rattle.tool_run.specs.Words.{pair_in, pair_of};
@@ -44,6 +44,9 @@ pub fn run_bump<H: Shelf, K: Sink, B: Bench>(
     ensures status { IfSome (files_of (H.contents shelf.old)) (λ files.
         IsOutside (stage_of result) ⊎ (result ≡ status_of MarketStatus.Done (verdict_of files (map string_bytes words.now)))) }
     ensures usage { (result ≡ MarketStatus.Usage) ↔ (pair_of (map string_bytes words.now) ≡ None) }
+    // Memory is wanted only where the market's file is there.
+    ensures there { IfSome (files_of (H.contents shelf.old)) (λ files.
+        result ≡ MarketStatus.NoMemory → IsThere (pair_of (map string_bytes words.now)) (λ pair. pair.market) files) }
 
     // What is accepted is done, where no fault is counted and memory is found.
     ensures complete { IfSome (files_of (H.contents shelf.old)) (λ files.

@@ -1,5 +1,6 @@
 // The files that a request names, in reading order.
-ghost use Rattle.std.specs.Prelude.{◌≡◌, IfOk, IfErr};
+ghost use Rattle.std.specs.Prelude.{◌≡◌, IfOk, IfErr, IfSome, IsErrOf, IsSome};
+ghost use Rattle.desk_edge.specs.Shelf.{file_at, files_of};
 ghost use Rattle.desk_names.specs.Names.{IsNames};
 ghost use Rattle.market_file.specs.Standing.{IsReady};
 ghost use Rattle.market_loader.specs.Files.{file_calls};
@@ -31,6 +32,9 @@ pub fn open_run<H: Shelf>(
     ensures reads { Reads status_end run_in (run_at market.now script.now) (run_calls market.now script.now)
         (seen (H.contents shelf.old) (H.faults shelf.old) (H.misses shelf.old) (H.calls shelf.old))
         (seen (H.contents shelf.new) (H.faults shelf.new) (H.misses shelf.new) (H.calls shelf.new)) result }
+    // Memory is wanted only where the market's file is there.
+    ensures there { IfSome (files_of (H.contents shelf.old))
+        (λ files. IsErrOf result Status.NoMemory → IsSome (file_at files market.now)) }
     ensures whole { IfOk result CanRun }
     ensures refused { IfErr result IsRefusal }
 {
@@ -47,6 +51,8 @@ pub(crate) fn open_market<H: Shelf>(
     ensures reads { Reads status_end market_in (market_at path.now) (market_calls path.now)
         (seen (H.contents shelf.old) (H.faults shelf.old) (H.misses shelf.old) (H.calls shelf.old))
         (seen (H.contents shelf.new) (H.faults shelf.new) (H.misses shelf.new) (H.calls shelf.new)) result }
+    ensures there { IfSome (files_of (H.contents shelf.old))
+        (λ files. IsErrOf result Status.NoMemory → IsSome (file_at files path.now)) }
     ensures ready { IfOk result (λ market. IsReady market.names market.made.items) }
     ensures refused { IfErr result IsRefusal }
 {

@@ -6,7 +6,7 @@ ghost use Rattle.desk_edge.specs.Shelf.{files_of};
 ghost use Rattle.desk_plan.specs.declared.status.FileRole.{FileRole};
 ghost use Rattle.desk_plan.specs.Found.{CanRun, run_in};
 ghost use Rattle.desk_plan.specs.Status.{stage_of};
-ghost use Rattle.tool_run.specs.Run.{Tells, faults_after};
+ghost use Rattle.tool_run.specs.Run.{Tells, IsThere, faults_after};
 ghost use Rattle.tool_run.specs.Stage.{IsBefore};
 ghost use Rattle.graph_run.specs.Verdict.{verdict_of, reading_calls};
 ghost use Rattle.graph_run.specs.Words.{paths_of};
@@ -24,6 +24,8 @@ pub(crate) fn wanted_of<H: Shelf>(
 ) -> Result<ScriptRun, Status>
     ensures tells { IfSome (files_of (H.contents shelf.old)) (λ files. Tells stage_of run_in result (verdict_of files (map string_bytes words.now))) }
     ensures usage { IsErrOf result Status.Usage ↔ (paths_of (map string_bytes words.now) ≡ None) }
+    ensures there { IfSome (files_of (H.contents shelf.old)) (λ files.
+        IsErrOf result Status.NoMemory → IsThere (paths_of (map string_bytes words.now)) (λ paths. paths.market) files) }
     ensures can { IfOk result CanRun }
     ensures before { IfErr result (λ status. IsBefore (stage_of status)) }
     ensures files { files_of (H.contents shelf.new) ≡ files_of (H.contents shelf.old) }

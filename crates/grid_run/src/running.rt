@@ -11,7 +11,7 @@ ghost use Rattle.grid_shape.specs.Laws.{IsTaken};
 ghost use Rattle.script_steps.specs.Calls.{Makes, Begins, Calls};
 ghost use Rattle.script_steps.specs.Status.{stage_of};
 ghost use Rattle.script_steps.specs.Verdict.{reading_calls};
-ghost use Rattle.tool_run.specs.Run.{status_of, given_for, IsAccepted};
+ghost use Rattle.tool_run.specs.Run.{status_of, given_for, IsAccepted, IsThere};
 ghost use Rattle.tool_run.specs.Stage.{IsOutside, IsEarly, IsQuiet, Writes, Computes, faults_then};
 ghost use Rattle.tool_run.specs.Words.{pair_of};
 ghost use Rattle.grid_run.specs.Verdict.{verdict_of, output_in, computed_in};
@@ -45,6 +45,9 @@ pub fn run_grid<H: Shelf, K: Sink, B: Bench>(
     ensures status { IfSome (files_of (H.contents shelf.old)) (λ files.
         IsOutside (stage_of result) ⊎ (result ≡ status_of (BlocksStatus.Of Status.Done) (verdict_of files (map string_bytes words.now)))) }
     ensures usage { (result ≡ BlocksStatus.Of Status.Usage) ↔ (pair_of (map string_bytes words.now) ≡ None) }
+    // Memory is wanted only where the market's file is there.
+    ensures there { IfSome (files_of (H.contents shelf.old)) (λ files.
+        result ≡ BlocksStatus.Of Status.NoMemory → IsThere (pair_of (map string_bytes words.now)) (λ pair. pair.market) files) }
 
     // What is accepted is done, where no fault is counted and memory is found.
     ensures complete { IfSome (files_of (H.contents shelf.old)) (λ files.

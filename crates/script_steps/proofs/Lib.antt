@@ -10,3 +10,4 @@ pub mod Named
 pub mod Past
 pub mod Plays
 pub mod Steps
+pub mod There

@@ -7,7 +7,7 @@ ghost use Rattle.desk_plan.specs.declared.status.FileRole.{FileRole};
 ghost use Rattle.desk_plan.specs.declared.status.Status.{Status};
 ghost use Rattle.desk_plan.specs.Found.{CanRun, run_in};
 ghost use Rattle.grid_shape.specs.Laws.{IsTaken};
-ghost use Rattle.tool_run.specs.Run.{Tells, faults_after};
+ghost use Rattle.tool_run.specs.Run.{Tells, IsThere, faults_after};
 ghost use Rattle.tool_run.specs.Stage.{IsBefore};
 ghost use Rattle.tool_run.specs.Words.{pair_of};
 ghost use Rattle.script_steps.specs.Status.{stage_of};
@@ -30,6 +30,8 @@ pub fn open_blocks<H: Shelf>(
 ) -> Result<ScriptRun, BlocksStatus>
     ensures tells { IfSome (files_of (H.contents shelf.old)) (λ files. Tells stage_of run_in result (verdict_of blocks files (map string_bytes words.now))) }
     ensures usage { IsErrOf result (BlocksStatus.Of Status.Usage) ↔ (pair_of (map string_bytes words.now) ≡ None) }
+    ensures there { IfSome (files_of (H.contents shelf.old)) (λ files.
+        IsErrOf result (BlocksStatus.Of Status.NoMemory) → IsThere (pair_of (map string_bytes words.now)) (λ pair. pair.market) files) }
     ensures can { IfOk result CanRun }
     ensures taken { IfOk result (λ run. IsTaken run.script) }
     ensures before { IfErr result (λ status. IsBefore (stage_of status)) }

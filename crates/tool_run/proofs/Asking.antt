@@ -1,8 +1,9 @@
 -- What is wanted, by words.
 use Rattle.std.proofs.Common.{◌≡◌, inl, inr, ℕ, ◌+◌, ◌≤◌, List, Option, Some, None, Result, Ok, Err, refl, sym, ◌∙◌, ap, subst, arith}
-use Rattle.std.specs.Prelude.{IfSome, option_map}
+use Rattle.std.specs.Prelude.{IfSome, IsSome, option_map}
+use Rattle.desk_edge.specs.Shelf.{file_at}
 use Rattle.market_loader.specs.Files.{Files}
-use Rattle.tool_run.specs.Run.{asked, calls_for, Tells}
+use Rattle.tool_run.specs.Run.{asked, calls_for, IsThere, Tells}
 use Rattle.tool_run.specs.Stage.{Stage}
 
 module _ {Request Found Wanted Status : Type 0} (stage : Status → Stage) (view : Found → Wanted) (usage : Status) (wanted_of : Request → Files → Result Wanted Status) where
@@ -28,3 +29,12 @@ module _ {Request : Type 0} (most : Request → Files → ℕ) where
       → IfSome told (λ files. calls ≤ calls + calls_for most words files)
   told_uncalled None words calls = tt
   told_uncalled (Some files) words calls = omega arith
+
+-- what is accepted begins with a file that is there
+module _ {Request Wanted Status : Type 0} (path : Request → List ℕ) (usage : Status) (wanted_of : Request → Files → Result Wanted Status)
+    (has : (request : Request) (files : Files) (wanted : Wanted) → wanted_of request files ≡ Ok wanted → IsSome (file_at files (path request))) where
+  pub told_there : (P : Type 0) (told : Option Files) (words : Option Request) (wanted : Wanted)
+      → IfSome told (λ files. asked usage wanted_of words files ≡ Ok wanted) → IfSome told (λ files. P → IsThere words path files)
+  told_there P None words wanted accepts = tt
+  told_there P (Some files) None wanted accepts = absurd (let none : Err usage ≡ Ok wanted = accepts in cc)
+  told_there P (Some files) (Some request) wanted accepts = λ p. has request files wanted accepts

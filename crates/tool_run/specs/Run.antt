@@ -1,6 +1,7 @@
 -- What a run does, over what a tool gives: what its words ask for, what its files say, its text, its computations (this
 -- project's profile). A tool has a type of what words ask for, one of what is wanted once files are read, and a status.
-use Rattle.std.specs.Prelude.{◌≡◌, ◌⊎◌, ℕ, List, [], Option, None, Some, Result, Ok, Err}
+use Rattle.std.specs.Prelude.{◌≡◌, ◌⊎◌, ℕ, List, [], Option, None, Some, IsSome, Result, Ok, Err}
+use Rattle.desk_edge.specs.Shelf.{file_at}
 use Rattle.market_loader.specs.Files.{Files}
 use Rattle.tool_run.specs.Stage.{Stage, IsOutside, faults_then}
 
@@ -13,6 +14,11 @@ asked usage wanted_of (Some request) files = wanted_of request files
 abbrev pub calls_for : {Request : Type 0} → (Request → Files → ℕ) → Option Request → Files → ℕ
 calls_for most None files = 0
 calls_for most (Some request) files = most request files
+
+-- the words are a request, and the file that it is to begin with is there
+abbrev pub IsThere : {Request : Type 0} → Option Request → (Request → List ℕ) → Files → Type 0
+IsThere None path files = ⊥
+IsThere (Some request) path files = IsSome (file_at files (path request))
 
 -- the status of a verdict, where nothing fails outside
 abbrev pub status_of : {Wanted Status : Type 0} → Status → Result Wanted Status → Status

@@ -7,7 +7,7 @@ ghost use Rattle.desk_edge.specs.Shelf.{files_of};
 ghost use Rattle.market_file.specs.Standing.{IsReady, AreLimited};
 ghost use Rattle.market_loader.specs.declared.faults.MarketRole.{MarketRole};
 ghost use Rattle.tool_run.specs.Market.{wanted_in, wanted_from, calls_from};
-ghost use Rattle.tool_run.specs.Run.{Tells, asked, calls_for, faults_after};
+ghost use Rattle.tool_run.specs.Run.{Tells, IsThere, asked, calls_for, faults_after};
 ghost use Rattle.tool_run.specs.Stage.{IsBefore};
 ghost use Rattle.tool_run.specs.Status.{stage_of};
 
@@ -61,6 +61,8 @@ pub fn find<'a, R: MarketRequest<'a>, H: Shelf>(
     ensures tells { IfSome (files_of (H.contents shelf.old)) (λ files. Tells stage_of (wanted_in R.meaning) result
         (asked MarketStatus.Usage (wanted_from R.path) (R.request_of (map string_bytes words.now)) files)) }
     ensures usage { IsErrOf result MarketStatus.Usage ↔ (R.request_of (map string_bytes words.now) ≡ None) }
+    ensures there { IfSome (files_of (H.contents shelf.old)) (λ files.
+        IsErrOf result MarketStatus.NoMemory → IsThere (R.request_of (map string_bytes words.now)) R.path files) }
     ensures ready { IfOk result (λ found. IsReady found.market.names found.market.made.items) }
     ensures limited { IfOk result (λ found. All (λ entry. AreLimited entry.1) found.market.made.items) }
     ensures taken { IfOk result (λ found. R.IsTaken found.request) }

@@ -5,7 +5,7 @@ ghost use Rattle.desk_edge.specs.Count.{Rose};
 ghost use Rattle.desk_edge.specs.Shelf.{files_of};
 ghost use Rattle.market_loader.specs.declared.faults.MarketRole.{MarketRole};
 ghost use Rattle.tool_run.specs.Market.{wanted_in};
-ghost use Rattle.tool_run.specs.Run.{status_of, given_for, IsAccepted};
+ghost use Rattle.tool_run.specs.Run.{status_of, given_for, IsAccepted, IsThere};
 ghost use Rattle.tool_run.specs.Stage.{IsOutside, IsEarly, IsQuiet, Writes, faults_then};
 ghost use Rattle.tool_run.specs.Status.{stage_of};
 ghost use Rattle.yield_run.specs.Named.{IsTaken};
@@ -35,6 +35,9 @@ pub fn run_yield<H: Shelf, K: Sink>(
     ensures status { IfSome (files_of (H.contents shelf.old)) (λ files.
         IsOutside (stage_of result) ⊎ (result ≡ status_of MarketStatus.Done (verdict_of files (map string_bytes words.now)))) }
     ensures usage { (result ≡ MarketStatus.Usage) ↔ (request_of (map string_bytes words.now) ≡ None) }
+    // Memory is wanted only where the market's file is there.
+    ensures there { IfSome (files_of (H.contents shelf.old)) (λ files.
+        result ≡ MarketStatus.NoMemory → IsThere (request_of (map string_bytes words.now)) (λ request. request.market) files) }
 
     // What is accepted is done, where no fault is counted and memory is found.
     ensures complete { IfSome (files_of (H.contents shelf.old)) (λ files.

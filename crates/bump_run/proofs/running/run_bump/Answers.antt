@@ -1,10 +1,14 @@
 use Rattle.std.proofs.Common.{inr, refl, [], pos}
+use Rattle.std.specs.Prelude.{map}
+use Rattle.std.specs.String.{string_bytes}
+use Rattle.desk_edge.specs.Shelf.{files_of}
 use Rattle.bump_model.specs.Asking.{Made, MadeFront}
 use Rattle.bump_model.proofs.Calls.{front_none}
 use Rattle.tool_run.specs.Market.{wanted_in}
 use Rattle.tool_run.specs.Status.{stage_of}
-use Rattle.tool_run.specs.Words.{pair_in}
+use Rattle.tool_run.specs.Words.{Pair, pair_in, pair_of}
 use Rattle.tool_run.proofs.Early.{early_or_none}
+use Rattle.tool_run.proofs.There.{wanted_there}
 use Rattle.bump_run.specs.Verdict.{Wanted, output_in, computed_in}
 use Rattle.bump_run.proofs.running.run_bump.Goals as goal
 
@@ -37,3 +41,8 @@ returns-in-Ok-lines_of-clause-carried g c =
 
 pub returns-clause-carried : goal.returns-clause-carried
 returns-clause-carried g c = inr (wanted_in pair_in c.in-Ok.found, refl, c.in-Err-lines_of.ensures.calls)
+
+pub returns-clause-there : goal.returns-clause-there
+returns-clause-there g c =
+    wanted_there (λ (request : Pair). request.market) _ (files_of (g.H.Shelf.contents c.args.shelf.now))
+    (pair_of (map string_bytes c.args.words.now)) (wanted_in pair_in c.in-Ok.found) c.in-Ok.ensures.tells

@@ -1,11 +1,15 @@
 use Rattle.std.proofs.Common.{inr, refl, [], pos, true}
+use Rattle.std.specs.Prelude.{map}
+use Rattle.std.specs.String.{string_bytes}
+use Rattle.desk_edge.specs.Shelf.{files_of}
 use Rattle.bump_model.specs.Asking.{Made, MadeFront}
 use Rattle.bump_model.proofs.Calls.{front_none}
 use Rattle.tool_run.specs.Market.{wanted_in}
 use Rattle.tool_run.specs.Status.{stage_of}
 use Rattle.tool_run.proofs.Early.{early_or_none}
+use Rattle.tool_run.proofs.There.{wanted_there}
 use Rattle.curve_run.specs.Verdict.{Wanted, output_in, computed_in}
-use Rattle.curve_run.specs.Words.{request_in}
+use Rattle.curve_run.specs.Words.{Request, request_in, request_of}
 use Rattle.curve_run.proofs.running.run_curve.Goals as goal
 
 -- some wanted thing: memory ran out before anything was known of it
@@ -40,3 +44,8 @@ returns-in-Ok-lines_of-clause-carried g c =
 
 pub returns-clause-carried : goal.returns-clause-carried
 returns-clause-carried g c = inr (wanted_in request_in c.in-Ok.found, refl, c.in-Err-lines_of.ensures.calls)
+
+pub returns-clause-there : goal.returns-clause-there
+returns-clause-there g c =
+    wanted_there (λ (request : Request). request.market) _ (files_of (g.H.Shelf.contents c.args.shelf.now))
+    (request_of (map string_bytes c.args.words.now)) (wanted_in request_in c.in-Ok.found) c.in-Ok.ensures.tells

@@ -1,11 +1,20 @@
 use Rattle.std.proofs.Common.{inr, refl, [], pos}
+use Rattle.std.specs.Prelude.{map}
+use Rattle.std.specs.String.{string_bytes}
+use Rattle.desk_edge.specs.Shelf.{files_of}
+use Rattle.desk_plan.specs.declared.status.Status.TheVariants.{Usage}
 use Rattle.desk_plan.specs.Found.{run_in}
 use Rattle.desk_plan.specs.Status.{stage_of}
 use Rattle.desk_plan.specs.Verdict.{ScriptRun}
+use Rattle.desk_plan.proofs.There.{run_there}
 use Rattle.script_steps.specs.Calls.{Makes, Begins}
 use Rattle.script_steps.proofs.Calling.{begins_none}
+use Rattle.tool_run.specs.Words.{Pair}
+use Rattle.tool_run.proofs.Asking.{told_there}
 use Rattle.tool_run.proofs.Early.{early_or_none}
 use Rattle.graph_run.specs.Drawing.{output_in, computed_in}
+use Rattle.graph_run.specs.Verdict.{wanted_of, verdict_of}
+use Rattle.graph_run.specs.Words.{paths_of}
 use Rattle.graph_run.proofs.running.run_graph.Goals as goal
 
 -- some script: memory ran out before anything was known of it
@@ -37,3 +46,9 @@ returns-in-Ok-text_of-clause-carried g c =
 
 pub returns-clause-carried : goal.returns-clause-carried
 returns-clause-carried g c = inr (run_in c.in-Ok.run', refl, c.in-Err-text_of.ensures.calls)
+
+pub returns-clause-there : goal.returns-clause-there
+unfolding verdict_of
+returns-clause-there g c =
+    told_there (λ (paths : Pair). paths.market) Usage wanted_of (λ paths. run_there paths.market paths.other) _
+    (files_of (g.H.Shelf.contents c.args.shelf.now)) (paths_of (map string_bytes c.args.words.now)) (run_in c.in-Ok.run') c.in-Ok.ensures.tells

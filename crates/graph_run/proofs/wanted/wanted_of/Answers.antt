@@ -44,3 +44,6 @@ unfolding reading_calls
 returns-in-Err-clause-calls g c =
     told_calls wanted_calls (files_of (g.H.Shelf.contents c.args.shelf.now)) (paths_of (map string_bytes c.args.words.now))
     (pair_in c.in-Some.paths) _ _ (sym c.in-Some.ensures) c.in-Err.ensures.reads.calls
+
+pub returns-in-Err-clause-there : goal.returns-in-Err-clause-there
+returns-in-Err-clause-there g c = rw (sym c.in-Some.ensures) c.in-Err.ensures.there

@@ -1,8 +1,13 @@
 use Rattle.std.proofs.Common.{inr, refl, [], pos}
+use Rattle.std.specs.Prelude.{map}
+use Rattle.std.specs.String.{string_bytes}
+use Rattle.desk_edge.specs.Shelf.{files_of}
 use Rattle.desk_plan.specs.Found.{run_in}
 use Rattle.desk_plan.specs.Verdict.{ScriptRun}
 use Rattle.script_steps.specs.Calls.{Makes, Begins}
+use Rattle.grid_shape.specs.declared.shape.Blocks.TheVariants.{Scenarios}
 use Rattle.script_steps.proofs.Calling.{begins_none}
+use Rattle.script_steps.proofs.There.{blocks_there}
 use Rattle.tool_run.proofs.Early.{early_or_none}
 use Rattle.script_steps.specs.Status.{stage_of}
 use Rattle.grid_run.specs.Verdict.{output_in, computed_in}
@@ -37,3 +42,8 @@ returns-in-Ok-lines_of-clause-carried g c =
 
 pub returns-clause-carried : goal.returns-clause-carried
 returns-clause-carried g c = inr (run_in c.in-Ok.run', refl, c.in-Err-lines_of.ensures.calls)
+
+pub returns-clause-there : goal.returns-clause-there
+returns-clause-there g c =
+    blocks_there _ Scenarios (files_of (g.H.Shelf.contents c.args.shelf.now)) (map string_bytes c.args.words.now) (run_in c.in-Ok.run')
+    c.in-Ok.ensures.tells

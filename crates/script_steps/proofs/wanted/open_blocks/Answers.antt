@@ -10,6 +10,7 @@ use Rattle.script_steps.specs.declared.status.BlocksStatus.TheVariants.{Of}
 use Rattle.script_steps.specs.Status.{stage_of}
 use Rattle.script_steps.specs.Verdict.{wanted_of, wanted_calls, verdict_of, reading_calls}
 use Rattle.script_steps.proofs.Shaping.{told_taken, told_shape, told_lost}
+use Rattle.script_steps.proofs.There.{halted_there}
 use Rattle.script_steps.proofs.wanted.open_blocks.Goals as goal
 
 pub returns-in_default-clause-tells : goal.returns-in_default-clause-tells
@@ -54,3 +55,8 @@ unfolding reading_calls
 returns-in-None-clause-calls g c =
     told_calls wanted_calls (files_of (g.H.Shelf.contents c.args.shelf.now)) (pair_of (map string_bytes c.args.words.now))
     (pair_in c.in-Some.pair) _ _ (sym c.in-Some.ensures) c.in-Ok.ensures.reads.calls
+
+pub returns-in-Err-clause-there : goal.returns-in-Err-clause-there
+returns-in-Err-clause-there g c =
+    halted_there (files_of (g.H.Shelf.contents c.args.shelf.now)) (pair_of (map string_bytes c.args.words.now)) (pair_in c.in-Some.pair)
+    c.in-Err.status (sym c.in-Some.ensures) c.in-Err.ensures.there

@@ -4,6 +4,7 @@ use Rattle.std.specs.String.{string_bytes}
 use Rattle.desk_edge.specs.Shelf.{files_of}
 use Rattle.tool_run.specs.Market.{calls_from}
 use Rattle.tool_run.proofs.Asking.{told_calls}
+use Rattle.tool_run.proofs.There.{halted_there}
 use Rattle.tool_run.proofs.Wanted.{wanted_none, wanted_found, wanted_lost}
 use Rattle.tool_run.proofs.finding.find.Goals as goal
 
@@ -40,3 +41,9 @@ returns-in-Err-clause-calls g c =
     told_calls (calls_from request.path) (files_of (g.H.Shelf.contents c.args.shelf.now))
     (request.request_of (map string_bytes c.args.words.now)) (request.meaning c.in-Some.request) _ _
     (sym c.in-Some.ensures.request) (rw c.market.ensures at c.in-Err.ensures.reads.calls)
+
+pub returns-in-Err-clause-there : goal.returns-in-Err-clause-there
+returns-in-Err-clause-there g c =
+    let request = g.R.MarketRequest in
+    halted_there request.path _ (files_of (g.H.Shelf.contents c.args.shelf.now)) (request.request_of (map string_bytes c.args.words.now))
+    (request.meaning c.in-Some.request) c.in-Err.status (sym c.in-Some.ensures.request) (rw c.market.ensures at c.in-Err.ensures.there)

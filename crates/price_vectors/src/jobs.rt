@@ -1,4 +1,4 @@
-// The price of an instrument on a market's curve.
+// The price of an instrument on a market's curve, by a bench that keeps a log of its calls.
 ghost use Rattle.std.specs.Prelude.{◌≡◌, IsTrue, option_copied};
 ghost use Rattle.std.specs.List.{list_all};
 ghost use Rattle.desk_terms.specs.Reading.{reading_of, IsWellFormed, IsIndexOf, index_reading, curve_count};
@@ -7,21 +7,23 @@ ghost use Rattle.price_vectors.specs.Inputs.{is_curve};
 use crate::instruments::Instrument;
 use curve_points::{CurveValue, copy_curve};
 use day_number::Day;
+use desk_bench::{ListBench, LogEntry};
 use desk_names::ObjId;
-use desk_terms::{Input, InputList, Job, Terms, Value};
-use discount_engines::price;
+use desk_terms::{Bench, BenchFault, Input, InputList, Job, Terms, Value};
 use fixed_amount::Amount;
 use flow_terms::{Fixings, FlowTerms, IndexTerms, IndexUse, expired, needs_forecast};
 use instrument_terms::flows_terms;
 use row_markets::Market;
 use std::alloc::Global;
 
-// The numbers of the instrument, its index and its engine.
+// The numbers of the instrument, its index and its engine, and of a composite of the instrument alone.
 const INSTRUMENT: ObjId = ObjId(4);
 
 const INDEX: ObjId = ObjId(2);
 
 const ENGINE: ObjId = ObjId(3);
+
+const COMPOSITE: ObjId = ObjId(5);
 
 /// The value of an instrument on a market's curve, which discounts its flows and gives its index. None where it is
 /// refused.
@@ -71,9 +73,31 @@ fn priced<'x>(
     if !is_well_formed(&job) {
         return None;
     }
-    match price(alloc, &job).ok()? {
-        Value::Money(amount) => Some(amount),
-        Value::Curve(_) => None,
+    let mut bench = ListBench::with_room(alloc, 1).ok()?;
+    let amount = match bench.price(alloc, &job).ok()? {
+        Value::Money(amount) => amount,
+        Value::Curve(_) => return None,
+    };
+    let value = once(&mut bench, amount).ok()?;
+    if tells_both(bench.log().as_slice()) {
+        Some(value)
+    } else {
+        None
+    }
+}
+
+// The value of a composite that holds an instrument of this value once.
+fn once(bench: &mut ListBench, amount: Amount) -> Result<Amount, BenchFault> {
+    bench.price_sum(COMPOSITE, amount.units())
+}
+
+// Whether a log tells of the price of the instrument, and then of that of the composite.
+fn tells_both(log: &[LogEntry]) -> bool {
+    match log {
+        [first, last] => {
+            first.priced && last.priced && first.object == INSTRUMENT && last.object == COMPOSITE
+        }
+        _ => false,
     }
 }
 

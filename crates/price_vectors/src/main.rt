@@ -2,15 +2,18 @@
 //! `curves.csv`, which are QuantLib's nodes rounded to units of 10^-12. Each row of `instruments.csv` has QuantLib's value,
 //! the value in whole units over these nodes, and the gap between the two: half a unit for each rounding of a known amount
 //! or of the value, and for each floating amount what half a unit of 10^-9 of its rate is worth. Prints each row that
-//! differs, and how many agree. A row that cannot be read is an error.
+//! differs, and how many agree. Then compares what instruments of `flows.csv` still pay after a day, and what bonds are worth
+//! on it at a yield, with an independent model's figures. A row that cannot be read is an error.
 #![tactic(auto)]
 
 mod instruments;
 mod jobs;
 mod numbers;
+mod paid;
 mod rows;
 
 use anyhow::Result;
+use paid::compare_flows;
 use row_markets::Markets;
 use rows::compare_values;
 use std::fs;
@@ -19,5 +22,7 @@ fn main(rt: HostRuntime) -> Result<()> {
     let curves = fs::read_to_string(&rt, "curves.csv")?;
     let markets = Markets::read(rt.alloc(), &curves)?;
     let instruments = fs::read_to_string(&rt, "instruments.csv")?;
-    compare_values(&rt, rt.alloc(), &markets, &instruments)
+    compare_values(&rt, rt.alloc(), &markets, &instruments)?;
+    let flows = fs::read_to_string(&rt, "flows.csv")?;
+    compare_flows(&rt, rt.alloc(), &markets, &flows)
 }

@@ -12,9 +12,9 @@ returns-then-is_some c =
     let number = c.loop-number.number in
     let within : number < length session.of_object = let end = c.numbers-number-end.ensures.numbers in let less = c.loop-number-test.true in omega (arith, end, less) in
     let same : (slice_index_or session.of_object number 0 == c.args.name) ≡ true =
-        ap (λ (n : ℕ). n == c.args.name) (sym c.name_of.ensures) ∙ sym c.eq.ensures ∙ c.if-eq.true in
+    ap (λ (n : ℕ). n == c.args.name) (sym c.name_of.ensures) ∙ sym c.eq.ensures ∙ c.if-eq.true in
     let live : is_some (kind_in (slot_at session.state.market number)) ≡ true =
-        ap (λ (s : State). is_some (kind_at s.market number)) (sym c.desk.ensures) ∙ ap is_some (sym c.kind.ensures) ∙ sym c.is_some.ensures ∙ c.if-is_some.true in
+    ap (λ (s : State). is_some (kind_at s.market number)) (sym c.desk.ensures) ∙ ap is_some (sym c.kind.ensures) ∙ sym c.is_some.ensures ∙ c.if-is_some.true in
     sym (c.loop-number.invariant ∙ named_here session.state.market c.args.name number session.of_object within same live)
 
 pub loop-number-preserved : goal.loop-number-preserved

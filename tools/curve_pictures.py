@@ -53,14 +53,15 @@ def picture(today, curves):
     span = max([1] + [abs((d - first).days) for d, _ in points])
     lowest = min([10**12] + [f for _, f in points])
     highest = max([10**12] + [f for _, f in points])
-    # the least step of 1, 2, 5 times a power of ten of which eight reach from the lowest to the highest
-    steps = [m * 10**e for e in range(8, 12) for m in (1, 2, 5)]
-    step = next(s for s in steps if 8 * s >= highest - lowest or s == steps[-1])
-    years = [m * 10**e for e in range(0, 4) for m in (1, 2, 5)]
-    year = next(y for y in years if 36525 * y >= 1000 * span or y == years[-1])
+    # the least step of 1, 2 or 5 times a power of ten, from 0.0000001 on, of which ten reach from the lowest to the highest
+    steps = [(m * 10**e, 12 - e) for e in range(5, 12) for m in (1, 2, 5)]
+    step, places = next(s for s in steps if 10 * s[0] >= highest - lowest or s == steps[-1])
     low = lowest // step * step
-    top = (highest // step + 1) * step
+    top = max(-(-highest // step) * step, low + step)
     rise = top - low
+    # days where ten steps of a hundred reach the end, else years; the length of one in hundredths of a day
+    unit, of = (100, "days") if span <= 1000 else (36525, "years of 365.25 days")
+    stride = next(n for n in (1, 2, 5, 10, 20, 50, 100) if 10 * n * unit >= 100 * span)
 
     def x(d):
         return 7000 + 70000 * abs((d - first).days) // span
@@ -69,24 +70,22 @@ def picture(today, curves):
         return 40000 - 35000 * max(0, f - low) // rise
 
     out = [
-        "<svg xmlns='http://www.w3.org/2000/svg' width='800' height='500' viewBox='0 0 800 500' font-family='sans-serif' font-size='12'>",
-        "<rect width='800' height='500' fill='white'/>",
+        "<svg xmlns='http://www.w3.org/2000/svg' width='800' height='520' viewBox='0 0 800 520' font-family='sans-serif' font-size='12'>",
+        "<rect width='800' height='520' fill='white'/>",
         f"<text x='70' y='32' font-size='18'>Discount factors on {today}</text>",
-        f"<text x='420' y='436' text-anchor='middle'>years of 365.25 days from {first}</text>",
+        f"<text x='420' y='436' text-anchor='middle'>{of} from {first}</text>",
     ]
-    mark = 0
-    while mark * year * 36525 <= span * 10000:
-        at = hundredths(7000 + 70000 * mark * year * 36525 // (span * 10000))
-        whole, rest = divmod(mark * year, 100)
-        label = f"{whole}.{rest:02d}" if rest else str(whole)
+    for count in range(0, 11 * stride, stride):
+        if count * unit > span * 100:
+            break
+        at = hundredths(7000 + 70000 * count * unit // (span * 100))
         out.append(f"<path d='M{at} 50V400' stroke='#dddddd'/>")
-        out.append(f"<text x='{at}' y='418' text-anchor='middle'>{label}</text>")
-        mark += 1
+        out.append(f"<text x='{at}' y='418' text-anchor='middle'>{count}</text>")
     for value in range(low, top + 1, step):
         at = hundredths(40000 - 35000 * (value - low) // rise)
-        units = value // 10**8
+        whole, rest = divmod(value // 10 ** (12 - places), 10**places)
         out.append(f"<path d='M70 {at}H770' stroke='#dddddd'/>")
-        out.append(f"<text x='64' y='{at}' dy='4' text-anchor='end'>{units // 10**4}.{units % 10**4:04d}</text>")
+        out.append(f"<text x='64' y='{at}' dy='4' text-anchor='end'>{whole}.{rest:0{places}d}</text>")
     out.append("<rect x='70' y='50' width='700' height='350' fill='none' stroke='#666666'/>")
     for k, (name, ps) in enumerate(curves):
         colour = "#" + COLOURS[k % 8]
@@ -96,7 +95,7 @@ def picture(today, curves):
         out.append(f"<polyline fill='none' stroke-width='2' points='{line}'/>")
         for (a, b), (d, f) in zip(places, ps):
             out.append(f"<circle cx='{a}' cy='{b}' r='3'><title>{d} {factor(f)}</title></circle>")
-        left, foot = 7000 + 35000 * (k % 2), 45400 + 1400 * (k // 2)
+        left, foot = 7000 + 35000 * (k % 2), 45600 + 1600 * (k // 2)
         out.append(f"<path stroke-width='2' d='M{hundredths(left)} {hundredths(foot)}h24'/>")
         out.append(f"<text stroke='none' fill='black' dy='4' x='{hundredths(left + 3200)}' y='{hundredths(foot)}'>{name}</text>")
         out.append("</g>")

@@ -14,9 +14,9 @@ day_place scale day = LEFT + days_from scale.first day * WIDTH / scale.span
 unfoldable pub factor_place : Scale → ℤ → ℕ
 factor_place scale factor = FOOT - (units_of factor - scale.low) * HEIGHT / scale.rise
 
--- where a mark of the axis of years lies from the left: the first is 0, a year has 365.25 days
-unfoldable pub year_place : Scale → ℕ → ℕ
-year_place scale mark = LEFT + mark * (scale.years * 36_525) * WIDTH / (scale.span * 10_000)
+-- where a mark of the axis of days lies from the left: the first is 0
+unfoldable pub stride_place : Scale → ℕ → ℕ
+stride_place scale mark = LEFT + mark * (scale.stride * scale.unit) * WIDTH / (scale.span * 100)
 
 -- where a mark of the axis of factors lies from above: the first is 0
 unfoldable pub step_place : Scale → ℕ → ℕ

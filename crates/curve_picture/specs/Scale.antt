@@ -1,9 +1,9 @@
 -- What lies where in a picture of curves: all whole numbers (this project's profile).
-use Rattle.std.specs.Prelude.{ℕ, ℤ, ◌+◌, ◌-◌, ◌*◌, ◌%◌, ◌≤◌, Bool, ◌&&◌, nat_le, if◌then◌else◌, List, [], ◌∷◌}
+use Rattle.std.specs.Prelude.{ℕ, ℤ, ◌+◌, ◌-◌, ◌*◌, ◌%◌, ◌≤◌, max, Bool, ◌&&◌, nat_le, if◌then◌else◌, List, [], ◌∷◌}
 use Rattle.std.specs.Int.{div_ceil}
 use Rattle.curve_points.specs.declared.curves.CurveNode.{CurveNode}
 use Rattle.curve_picture.specs.declared.scale.Scale.{Scale}
-use Rattle.curve_picture.specs.declared.scale.TheConstants.{STEPS, MOST_STEP, YEARS, MOST_YEARS}
+use Rattle.curve_picture.specs.declared.scale.TheConstants.{STEPS, MOST_STEP, STRIDES, MOST_STRIDE, DAY, YEAR, MOST_DAYS}
 use Rattle.curve_picture.specs.Points.{first_day, span_from, lowest, highest}
 
 -- the first of these steps that is at least so long, or else the last
@@ -11,24 +11,33 @@ unfoldable pub first_from : ℕ → List ℕ → ℕ → ℕ
 first_from need [] last = last
 first_from need (step ∷ steps) last = if nat_le need step then step else first_from need steps last
 
--- the step of the axis of factors: at most eight steps reach so many units
+-- the step of the axis of factors: at most ten steps reach so many units
 abbrev pub step_for : ℕ → ℕ
-step_for reach = first_from (div_ceil reach 8) STEPS MOST_STEP
+step_for reach = first_from (div_ceil reach 10) STEPS MOST_STEP
 
--- the step of the axis of years in hundredths: at most ten steps reach so many days, a year having 365.25 days
-abbrev pub years_for : ℕ → ℕ
-years_for span = first_from (div_ceil (span * 1000) 36_525) YEARS MOST_YEARS
+-- what the axis of days counts, by how many it spans, in hundredths of a day: days, or where those are many, years of 365.25
+abbrev pub unit_for : ℕ → ℕ
+unit_for span = if nat_le span MOST_DAYS then DAY else YEAR
+
+-- how many of these lie between two marks: at most ten times as many reach so many days
+abbrev pub stride_for : ℕ → ℕ → ℕ
+stride_for span unit = first_from (div_ceil (span * 10) unit) STRIDES MOST_STRIDE
+
+-- the least multiple of a step that reaches so many units, and at least the step
+abbrev pub multiple_from : ℕ → ℕ → ℕ
+multiple_from reach step = max (reach + (step - reach % step) % step) step
 
 -- The axis of days from a day on; that of factors from the greatest multiple of its step that is not above the lowest, to
--- the least that is above the highest.
+-- the least that is not below the highest.
 abbrev pub scale_from : ℤ → ℕ → ℕ → ℕ → ℕ → Scale
 scale_from first span step low reach = record {
   first = first;
   span = span;
-  years = years_for span;
+  unit = unit_for span;
+  stride = stride_for span (unit_for span);
   low = low;
   step = step;
-  rise = reach + (step - reach % step);
+  rise = multiple_from reach step;
 }
 
 abbrev pub scale_by : ℤ → ℕ → ℕ → ℕ → ℕ → Scale
@@ -49,8 +58,10 @@ is_step step = nat_le 1 step && nat_le step 1_000_000_000_000
 pub record IsScale (scale : Scale) : Type 0 where
   pub some : 1 ≤ scale.span
   pub span : scale.span ≤ 110_000
-  pub year : 1 ≤ scale.years
-  pub years : scale.years ≤ 1_000_000_000_000
+  pub day : 1 ≤ scale.unit
+  pub year : scale.unit ≤ 100_000
+  pub some_stride : 1 ≤ scale.stride
+  pub stride : scale.stride ≤ 1_000_000_000_000
   pub low : scale.low ≤ 1_000_000_000_000
   pub unit : 1 ≤ scale.step
   pub step : scale.step ≤ 1_000_000_000_000

@@ -1,49 +1,53 @@
--- THE PICTURE as text: an SVG of 800 by 500 pixels, whose plot is 700 by 350 (this project's profile, after the World Wide
+-- THE PICTURE as text: an SVG of 800 by 520 pixels, whose plot is 700 by 350 (this project's profile, after the World Wide
 -- Web Consortium's Scalable Vector Graphics 1.1). `names` are the texts of the names by their numbers, `of_object` the names
 -- of the objects by theirs. The pieces of text stand in `src/texts.rt`. A name is made of letters, digits and `_`, so nothing in it has
 -- to be escaped.
-use Rattle.std.specs.Prelude.{ℕ, zero, suc, ℤ, pos, ◌+◌, ◌*◌, ◌/◌, ◌%◌, ◌==◌, if◌then◌else◌, List, [], ◌∷◌, ◌++◌, codes}
+use Rattle.std.specs.Prelude.{ℕ, zero, suc, ℤ, pos, ◌+◌, ◌-◌, ◌*◌, ◌/◌, ◌%◌, ◌^◌, ◌==◌, nat_le, if◌then◌else◌, List, [], ◌∷◌, ◌++◌, codes}
 use Rattle.day_number.specs.Day.{day_text}
 use Rattle.fixed_amount.specs.Decimal.{decimal_text}
 use Rattle.price_report.specs.Namer.{object_text}
 use Rattle.curve_points.specs.declared.curves.CurveNode.{CurveNode}
 use Rattle.curve_points.specs.Curve.{Curve, points}
-use Rattle.curve_picture.specs.declared.texts.TheConstants.{BELOW, BESIDE, CENTRED, CONTENT, DISK, DISK_DOWN, DISK_END, ENTRY, ENTRY_DOWN, ENTRY_NAME, FILLED, FLUSH, FOOTER, FRAME, GROUP, GROUP_END, HEAD, LINE, LINE_END, OPENED, RIGHTWARDS, TEXT_END, TITLE, UPWARDS, YEARS_FROM}
+use Rattle.curve_picture.specs.declared.texts.TheConstants.{BELOW, BESIDE, CENTRED, CONTENT, DAYS_FROM, DISK, DISK_DOWN, DISK_END, ENTRY, ENTRY_DOWN, ENTRY_NAME, FILLED, FLUSH, FOOTER, FRAME, GROUP, GROUP_END, HEAD, LINE, LINE_END, OPENED, RIGHTWARDS, TEXT_END, TITLE, UPWARDS, YEARS_FROM}
 use Rattle.curve_picture.specs.declared.scale.Scale.{Scale}
-use Rattle.curve_picture.specs.Places.{placed, day_place, factor_place, year_place, step_place}
+use Rattle.curve_picture.specs.declared.scale.TheConstants.{DAY}
+use Rattle.curve_picture.specs.Places.{placed, day_place, factor_place, stride_place, step_place}
 use Rattle.curve_picture.specs.Points.{all_points, point_text}
 use Rattle.curve_picture.specs.Scale.{scale_of}
 
 -- ---- the axes
 
--- how many marks the axis of years has: as many as lie within the span
-abbrev pub year_count : Scale → ℕ
-year_count scale = scale.span * 10_000 / (scale.years * 36_525) + 1
+-- how many marks the axis of days has: as many as lie within the span
+abbrev pub stride_count : Scale → ℕ
+stride_count scale = scale.span * 100 / (scale.stride * scale.unit) + 1
 
--- hundredths of a year as years: a whole number where they are one
-unfoldable pub years_text : ℕ → List ℕ
-years_text hundredths =
-    if hundredths % 100 == 0 then decimal_text (pos (hundredths / 100)) 0 else decimal_text (pos hundredths) 2
-
--- a mark of the axis of years: a line upwards, and how many years lie there
-unfoldable pub year_mark : Scale → ℕ → List ℕ
-year_mark scale mark =
-    placed UPWARDS.now (year_place scale mark)
-    ++ placed BELOW.now (year_place scale mark)
-    ++ CENTRED.now ++ years_text (mark * scale.years) ++ TEXT_END.now
+-- a mark of the axis of days: a line upwards, and how many days or years lie there
+unfoldable pub stride_mark : Scale → ℕ → List ℕ
+stride_mark scale mark =
+    placed UPWARDS.now (stride_place scale mark)
+    ++ placed BELOW.now (stride_place scale mark)
+    ++ CENTRED.now ++ decimal_text (pos (mark * scale.stride)) 0 ++ TEXT_END.now
 
 -- the first marks, as many as are given
-unfoldable pub years_below : Scale → ℕ → List ℕ
-years_below scale zero = []
-years_below scale (suc mark) = years_below scale mark ++ year_mark scale mark
+unfoldable pub strides_below : Scale → ℕ → List ℕ
+strides_below scale zero = []
+strides_below scale (suc mark) = strides_below scale mark ++ stride_mark scale mark
 
 -- how many marks the axis of factors has
 abbrev pub step_count : Scale → ℕ
 step_count scale = scale.rise / scale.step + 1
 
--- the factor at a mark, with four places
+-- how many places the factors at the marks have: as many as the step, which is 1, 2 or 5 times a power of ten
+abbrev pub places_for : ℕ → ℕ
+places_for step =
+    if nat_le 100_000_000_000 step then 1 else if nat_le 10_000_000_000 step then 2
+    else if nat_le 1_000_000_000 step then 3 else if nat_le 100_000_000 step then 4
+    else if nat_le 10_000_000 step then 5 else if nat_le 1_000_000 step then 6 else 7
+
+-- the factor at a mark
 unfoldable pub mark_text : Scale → ℕ → List ℕ
-mark_text scale mark = decimal_text (pos ((scale.low + mark * scale.step) / 100_000_000)) 4
+mark_text scale mark =
+    decimal_text (pos ((scale.low + mark * scale.step) / 10 ^ (12 - places_for scale.step))) (places_for scale.step)
 
 -- a mark of the axis of factors: a line to the right, and the factor there
 unfoldable pub step_mark : Scale → ℕ → List ℕ
@@ -59,7 +63,7 @@ steps_below scale (suc mark) = steps_below scale mark ++ step_mark scale mark
 
 -- the marks of both axes
 unfoldable pub axes_text : Scale → List ℕ
-axes_text scale = years_below scale (year_count scale) ++ steps_below scale (step_count scale)
+axes_text scale = strides_below scale (stride_count scale) ++ steps_below scale (step_count scale)
 
 -- ---- the curves
 
@@ -92,13 +96,13 @@ unfoldable pub disks_text : Scale → List CurveNode → List ℕ
 disks_text scale [] = []
 disks_text scale (point ∷ points) = disk_text scale point ++ disks_text scale points
 
--- where the entry of a curve in the legend lies: two beside one another, the first pair at 454 pixels, a pair 14 below
+-- where the entry of a curve in the legend lies: two beside one another, the first pair at 456 pixels, a pair 16 below
 -- another
 unfoldable pub entry_left : ℕ → ℕ
 entry_left k = 7_000 + k % 2 * 35_000
 
 unfoldable pub entry_foot : ℕ → ℕ
-entry_foot k = 45_400 + k / 2 * 1_400
+entry_foot k = 45_600 + k / 2 * 1_600
 
 -- a name as the content of an element
 unfoldable pub name_content : List ℕ → List ℕ
@@ -133,15 +137,21 @@ curves_text names of_object scale k (curve ∷ curves) =
 
 -- ---- the whole
 
--- the heading with the day of the market, and below the plot the day from which the years count
-unfoldable pub heading_text : ℤ → ℤ → List ℕ
-heading_text today first =
-    HEAD.now ++ day_text today ++ YEARS_FROM.now
-    ++ day_text first ++ TEXT_END.now
+-- what is counted below the plot
+unfoldable pub counted : ℕ → List ℕ
+counted unit = if nat_le unit DAY then DAYS_FROM.now else YEARS_FROM.now
+
+-- and from which day
+unfoldable pub counted_text : ℤ → ℕ → List ℕ
+counted_text first unit = counted unit ++ day_text first ++ TEXT_END.now
+
+-- the heading with the day of the market, and below the plot what is counted
+unfoldable pub heading_text : ℤ → ℤ → ℕ → List ℕ
+heading_text today first unit = HEAD.now ++ day_text today ++ counted_text first unit
 
 unfoldable pub picture_on : List (List ℕ) → List ℕ → ℤ → Scale → List Curve → List ℕ
 picture_on names of_object today scale curves =
-    heading_text today scale.first ++ axes_text scale ++ FRAME.now ++ curves_text names of_object scale 0 curves
+    heading_text today scale.first scale.unit ++ axes_text scale ++ FRAME.now ++ curves_text names of_object scale 0 curves
     ++ FOOTER.now
 
 -- THE PICTURE of curves on the day of their market

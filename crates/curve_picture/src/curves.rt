@@ -207,5 +207,5 @@ fn entry_foot(at: usize) -> u128
     ensures value { result ≡ entry_foot at }
     ensures few { result < 2 ^ 100 }
 {
-    45_400 + (at / 2) as u128 * 1_400
+    45_600 + (at / 2) as u128 * 1_600
 }

@@ -1,4 +1,4 @@
-//! Discount curves as a picture and as a table: the text of an SVG of 800 by 500 pixels with the factors by day, and the
+//! Discount curves as a picture and as a table: the text of an SVG of 800 by 520 pixels with the factors by day, and the
 //! nodes as lines of comma-separated values. Both are whole numbers and fixed decimals, worked out by whole-number
 //! arithmetic that the definitions state.
 //! Offers `picture` and `table`.

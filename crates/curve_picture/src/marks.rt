@@ -1,9 +1,9 @@
 // The axes.
-ghost use Rattle.std.specs.Prelude.{◌≡◌, ◌≤◌, ◌<◌, ◌^◌, ◌++◌, OnOk};
+ghost use Rattle.std.specs.Prelude.{◌≡◌, ◌≤◌, ◌<◌, ◌-◌, ◌^◌, ◌++◌, OnOk};
 ghost use Rattle.curve_picture.specs.Scale.{IsScale};
-ghost use Rattle.curve_picture.specs.Svg.{year_count, year_mark, years_below, years_text, step_count, mark_text, step_mark, steps_below, axes_text};
+ghost use Rattle.curve_picture.specs.Svg.{stride_count, stride_mark, strides_below, step_count, places_for, mark_text, step_mark, steps_below, axes_text};
 
-use crate::places::{product, push_placed, signed, step_place, year_place};
+use crate::places::{product, push_placed, signed, step_place, stride_place};
 use crate::scale::Scale;
 use crate::texts::{BELOW, BESIDE, CENTRED, FLUSH, RIGHTWARDS, TEXT_END, UPWARDS};
 use fixed_amount::print_decimal;
@@ -15,17 +15,17 @@ pub(crate) fn push_axes(alloc: Global, scale: &Scale, out: &mut Vec<u8>) -> Resu
     requires { IsScale scale.now }
     ensures { OnOk result (out.new.items ≡ out.old.items ++ axes_text scale.now) }
 {
-    push_years(alloc, scale, year_count(scale), out)?;
+    push_strides(alloc, scale, stride_count(scale), out)?;
     push_steps(alloc, scale, step_count(scale), out)
 }
 
-// How many marks the axis of years has.
-fn year_count(scale: &Scale) -> u128
+// How many marks the axis of days has.
+fn stride_count(scale: &Scale) -> u128
     requires { IsScale scale.now }
-    ensures value { result ≡ year_count scale.now }
+    ensures value { result ≡ stride_count scale.now }
     ensures few { result ≤ 2 ^ 49 }
 {
-    scale.span * 10_000 / (scale.years * 36_525) + 1
+    scale.span * 100 / (scale.stride * scale.unit) + 1
 }
 
 // How many marks the axis of factors has.
@@ -37,8 +37,8 @@ fn step_count(scale: &Scale) -> u128
     scale.rise / scale.step + 1
 }
 
-// Appends the first marks of the axis of years, as many as are given.
-fn push_years(
+// Appends the first marks of the axis of days, as many as are given.
+fn push_strides(
     alloc: Global,
     scale: &Scale,
     count: u128,
@@ -46,40 +46,32 @@ fn push_years(
 ) -> Result<(), AllocError>
     requires scale { IsScale scale.now }
     requires few { count ≤ 2 ^ 49 }
-    ensures { OnOk result (out.new.items ≡ out.old.items ++ years_below scale.now count) }
+    ensures { OnOk result (out.new.items ≡ out.old.items ++ strides_below scale.now count) }
 {
     for mark in 0..count {
-        push_year(alloc, scale, mark, out)?;
+        push_stride(alloc, scale, mark, out)?;
     }
     Ok(())
 }
 
 // Appends a mark of the axis of years: a line upwards, and how many years lie there.
-#[tactic(auto, unfolding(crate::specs::Svg::year_mark))]
-fn push_year(alloc: Global, scale: &Scale, mark: u128, out: &mut Vec<u8>) -> Result<(), AllocError>
+#[tactic(auto, unfolding(crate::specs::Svg::stride_mark))]
+fn push_stride(
+    alloc: Global,
+    scale: &Scale,
+    mark: u128,
+    out: &mut Vec<u8>,
+) -> Result<(), AllocError>
     requires scale { IsScale scale.now }
     requires few { mark < 2 ^ 49 }
-    ensures { OnOk result (out.new.items ≡ out.old.items ++ year_mark scale.now mark) }
+    ensures { OnOk result (out.new.items ≡ out.old.items ++ stride_mark scale.now mark) }
 {
-    let place = year_place(scale, mark);
+    let place = stride_place(scale, mark);
     push_placed(alloc, UPWARDS, place, out)?;
     push_placed(alloc, BELOW, place, out)?;
     out.extend_from_slice(CENTRED)?;
-    push_hundredths(alloc, product(mark, scale.years), out)?;
+    print_decimal(alloc, signed(product(mark, scale.stride)), 0, out)?;
     out.extend_from_slice(TEXT_END)
-}
-
-// Appends hundredths of a year as years: a whole number where they are one.
-#[tactic(auto, unfolding(crate::specs::Svg::years_text))]
-fn push_hundredths(alloc: Global, hundredths: u128, out: &mut Vec<u8>) -> Result<(), AllocError>
-    requires { hundredths < 2 ^ 107 }
-    ensures { OnOk result (out.new.items ≡ out.old.items ++ years_text hundredths) }
-{
-    if hundredths % 100 == 0 {
-        print_decimal(alloc, signed(hundredths / 100), 0, out)
-    } else {
-        print_decimal(alloc, signed(hundredths), 2, out)
-    }
 }
 
 // Appends the first marks of the axis of factors, as many as are given.
@@ -122,5 +114,37 @@ fn push_mark(alloc: Global, scale: &Scale, mark: u128, out: &mut Vec<u8>) -> Res
     ensures { OnOk result (out.new.items ≡ out.old.items ++ mark_text scale.now mark) }
 {
     let factor = scale.low + product(mark, scale.step);
-    print_decimal(alloc, signed(factor / 100_000_000), 4, out)
+    let places = places_for(scale.step);
+    print_decimal(alloc, signed(factor / unit_of(places)), places, out)
+}
+
+// How many places the factors at the marks have: as many as the step.
+fn places_for(step: u128) -> u8
+    ensures value { result ≡ places_for step }
+    ensures few { result ≤ 7 }
+{
+    if step >= 100_000_000_000 {
+        1
+    } else if step >= 10_000_000_000 {
+        2
+    } else if step >= 1_000_000_000 {
+        3
+    } else if step >= 100_000_000 {
+        4
+    } else if step >= 10_000_000 {
+        5
+    } else if step >= 1_000_000 {
+        6
+    } else {
+        7
+    }
+}
+
+// The unit of the last of so many places, in units of 10^-12.
+fn unit_of(places: u8) -> u128
+    requires { places ≤ 12 }
+    ensures value { result ≡ 10 ^ (12 - places) }
+    ensures some { 1 ≤ result }
+{
+    10u128.pow(u32::from(12 - places))
 }

@@ -2,7 +2,7 @@
 ghost use Rattle.std.specs.Prelude.{◌≡◌, ◌≤◌, ◌<◌, ◌*◌, ◌/◌, ◌^◌, ◌++◌, pos, OnOk};
 ghost use Rattle.fixed_amount.specs.Decimal.{decimal_text};
 ghost use Rattle.curve_picture.specs.Scale.{IsScale};
-ghost use Rattle.curve_picture.specs.Places.{day_place, factor_place, year_place, step_place, px, placed};
+ghost use Rattle.curve_picture.specs.Places.{day_place, factor_place, stride_place, step_place, px, placed};
 
 use crate::points::{days_from, units_of};
 use crate::scale::Scale;
@@ -44,16 +44,16 @@ pub(crate) fn factor_place(scale: &Scale, factor: Discount) -> u128
     FOOT.saturating_sub(share(above, HEIGHT, scale.rise))
 }
 
-// Where a mark of the axis of years lies from the left.
-#[tactic(auto, unfolding(crate::specs::Places::year_place))]
-pub(crate) fn year_place(scale: &Scale, mark: u128) -> u128
+// Where a mark of the axis of days lies from the left.
+#[tactic(auto, unfolding(crate::specs::Places::stride_place))]
+pub(crate) fn stride_place(scale: &Scale, mark: u128) -> u128
     requires scale { IsScale scale.now }
     requires mark { mark < 2 ^ 50 }
-    ensures value { result ≡ year_place scale.now mark }
+    ensures value { result ≡ stride_place scale.now mark }
     ensures few { result < 2 ^ 127 }
 {
-    let days = product(mark, scale.years * 36_525);
-    LEFT + share(days, WIDTH, scale.span * 10_000)
+    let days = product(mark, scale.stride * scale.unit);
+    LEFT + share(days, WIDTH, scale.span * 100)
 }
 
 // Where a mark of the axis of factors lies from above.

@@ -1,14 +1,23 @@
 // What lies where in a picture of curves.
 ghost use Rattle.std.specs.Prelude.{◌≡◌, ◌≤◌, true};
 ghost use Rattle.std.specs.List.{list_all};
-ghost use Rattle.curve_picture.specs.Scale.{IsScale, is_step, first_from, years_for, step_for, scale_of};
+ghost use Rattle.curve_picture.specs.Scale.{IsScale, is_step, first_from, unit_for, stride_for, step_for, multiple_from, scale_of};
 
 use crate::points::{first_day, highest, lowest, span_from};
 use curve_points::CurveNode;
 use day_number::Day;
 
-// The steps that the axis of factors may have, in units of 10^-12, from 0.0001 on.
-pub(crate) const STEPS: [u128; 11] = [
+// The steps that the axis of factors may have, in units of 10^-12, from 0.0000001 on.
+pub(crate) const STEPS: [u128; 20] = [
+    100_000,
+    200_000,
+    500_000,
+    1_000_000,
+    2_000_000,
+    5_000_000,
+    10_000_000,
+    20_000_000,
+    50_000_000,
     100_000_000,
     200_000_000,
     500_000_000,
@@ -25,19 +34,29 @@ pub(crate) const STEPS: [u128; 11] = [
 // The greatest of them.
 pub(crate) const MOST_STEP: u128 = 500_000_000_000;
 
-// The steps that the axis of years may have, in hundredths of a year.
-pub(crate) const YEARS: [u128; 11] = [1, 2, 5, 10, 20, 50, 100, 200, 500, 1_000, 2_000];
+// A day and a year of 365.25 days in hundredths of a day.
+pub(crate) const DAY: u128 = 100;
 
-// The greatest of them.
-pub(crate) const MOST_YEARS: u128 = 5_000;
+pub(crate) const YEAR: u128 = 36_525;
 
-// What lies where: the axis of days begins at `first` and reaches `span` days on, with a mark every `years` hundredths of
-// a year; that of factors begins at `low` units and reaches `rise` units on, with a mark every `step` units.
+// How many days the axis of days counts at most: a longer one counts years.
+pub(crate) const MOST_DAYS: u128 = 1_000;
+
+// How many days, or years, may lie between two marks.
+pub(crate) const STRIDES: [u128; 6] = [1, 2, 5, 10, 20, 50];
+
+// The most of them.
+pub(crate) const MOST_STRIDE: u128 = 100;
+
+// What lies where: the axis of days begins at `first` and reaches `span` days on, and counts in units of so many hundredths
+// of a day, with a mark every `stride` units; that of factors begins at `low` units and reaches `rise` units on, with a mark
+// every `step` units.
 #[derive(Clone, Copy)]
 pub(crate) struct Scale {
     pub(crate) first: Day,
     pub(crate) span: u128,
-    pub(crate) years: u128,
+    pub(crate) unit: u128,
+    pub(crate) stride: u128,
     pub(crate) low: u128,
     pub(crate) step: u128,
     pub(crate) rise: u128,
@@ -55,34 +74,57 @@ pub(crate) fn scale_of(today: Day, points: &[CurveNode]) -> Scale
     let highest = highest(points);
     let step = step_for(highest.saturating_sub(lowest));
     let low = lowest - lowest % step;
-    let reach = highest.saturating_sub(low);
+    let unit = unit_for(span);
     Scale {
         first,
         span,
-        years: years_for(span),
+        unit,
+        stride: stride_for(span, unit),
         low,
         step,
-        rise: reach + (step - reach % step),
+        rise: multiple_from(highest.saturating_sub(low), step),
     }
 }
 
-// The step of the axis of factors: at most eight steps reach so many units.
+// The step of the axis of factors: at most ten steps reach so many units.
 fn step_for(reach: u128) -> u128
     ensures value { result ≡ step_for reach }
     ensures low { 1 ≤ result }
     ensures high { result ≤ 1_000_000_000_000 }
 {
-    first_from(reach.div_ceil(8), &STEPS, MOST_STEP)
+    first_from(reach.div_ceil(10), &STEPS, MOST_STEP)
 }
 
-// The step of the axis of years: at most ten steps reach so many days, a year having 365.25 days.
-fn years_for(span: u128) -> u128
-    requires { span ≤ 110_000 }
-    ensures value { result ≡ years_for span }
+// What the axis of days counts: days, or where those are many, years.
+fn unit_for(span: u128) -> u128
+    ensures value { result ≡ unit_for span }
+    ensures low { 1 ≤ result }
+    ensures high { result ≤ 100_000 }
+{
+    if span <= MOST_DAYS { DAY } else { YEAR }
+}
+
+// How many of these lie between two marks: at most ten times as many reach so many days.
+fn stride_for(span: u128, unit: u128) -> u128
+    requires span { span ≤ 110_000 }
+    requires unit { 1 ≤ unit }
+    ensures value { result ≡ stride_for span unit }
     ensures low { 1 ≤ result }
     ensures high { result ≤ 1_000_000_000_000 }
 {
-    first_from((span * 1000).div_ceil(36_525), &YEARS, MOST_YEARS)
+    first_from((span * 10).div_ceil(unit), &STRIDES, MOST_STRIDE)
+}
+
+// The least multiple of a step that reaches so many units, and at least the step.
+fn multiple_from(reach: u128, step: u128) -> u128
+    requires reach { reach ≤ 4_000_000_000_000 }
+    requires low { 1 ≤ step }
+    requires high { step ≤ 1_000_000_000_000 }
+    ensures value { result ≡ multiple_from reach step }
+    ensures low { 1 ≤ result }
+    ensures high { result ≤ 10_000_000_000_000 }
+{
+    (reach + (step - reach % step) % step).max(step)
 }
 
 // The first of these steps that is at least so long, or else the last.

@@ -2,9 +2,12 @@
 
 // What a picture begins with, up to the day of the market.
 pub(crate) const HEAD: &[u8] =
-    b"<svg xmlns='http://www.w3.org/2000/svg' width='800' height='500' viewBox='0 0 800 500' font-family='sans-serif' font-size='12'>\n<rect width='800' height='500' fill='white'/>\n<text x='70' y='32' font-size='18'>Discount factors on ";
+    b"<svg xmlns='http://www.w3.org/2000/svg' width='800' height='520' viewBox='0 0 800 520' font-family='sans-serif' font-size='12'>\n<rect width='800' height='520' fill='white'/>\n<text x='70' y='32' font-size='18'>Discount factors on ";
 
-// Behind the day of the market, up to the day from which the years count.
+// Behind the day of the market, up to the day from which days or years count.
+pub(crate) const DAYS_FROM: &[u8] =
+    b"</text>\n<text x='420' y='436' text-anchor='middle'>days from ";
+
 pub(crate) const YEARS_FROM: &[u8] =
     b"</text>\n<text x='420' y='436' text-anchor='middle'>years of 365.25 days from ";
 

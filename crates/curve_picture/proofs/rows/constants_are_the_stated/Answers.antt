@@ -1,13 +1,14 @@
 use Rattle.std.proofs.Common.{refl}
 use Rattle.std.specs.Fmt.{digits}
 use Rattle.day_number.specs.Day.{civil_number, date_in_year, date_after, date_of}
-use Rattle.curve_picture.specs.Svg.{heading_text}
+use Rattle.curve_picture.specs.Svg.{counted, counted_text, heading_text}
 use Rattle.curve_picture.proofs.rows.constants_are_the_stated.Goals as goal
 
 pub returns : goal.returns
-unfolding digits civil_number date_in_year date_after date_of heading_text
+unfolding digits civil_number date_in_year date_after date_of counted counted_text heading_text
 returns c = record {
   heading = refl;
+  in_days = refl;
   frame = refl;
   footer = refl;
   left = refl;
@@ -16,6 +17,9 @@ returns c = record {
   height = refl;
   steps = refl;
   most_step = refl;
-  years = refl;
-  most_years = refl;
+  day = refl;
+  year = refl;
+  most_days = refl;
+  strides = refl;
+  most_stride = refl;
 }

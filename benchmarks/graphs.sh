@@ -80,6 +80,14 @@ class Reader:
         return pairs
 
     def statement(self):
+        if self.tokens[0] == ("key", "subgraph"):
+            self.take("key")
+            self.take("id")
+            self.take("mark", "{")
+            while not self.has("mark", "}"):
+                self.statement()
+            self.take("mark", "}")
+            return
         if self.tokens[0][0] == "key":
             self.take("key")
             self.attributes()
@@ -99,20 +107,23 @@ class Reader:
 
 
 def read(text):
-    """How many nodes and arrows a graph has."""
+    """How many nodes and arrows a graph has, but for its legend, whose nodes have names with blanks."""
     graph = Reader(text)
-    assert all(node["label"].split("\\n")[0] == name for name, node in graph.nodes.items())
-    assert all(end in graph.nodes for arrow in graph.arrows for end in arrow)
-    assert len(set(graph.arrows)) == len(graph.arrows)
-    return len(graph.nodes), len(graph.arrows)
+    nodes = {name: node for name, node in graph.nodes.items() if " " not in name}
+    arrows = [arrow for arrow in graph.arrows if " " not in arrow[0]]
+    assert len(graph.nodes) == len(nodes) + 11 and len(graph.arrows) == len(arrows) + 5
+    assert all(node["label"].split("\\n")[0] == name for name, node in nodes.items())
+    assert all(end in nodes for arrow in arrows for end in arrow)
+    assert len(set(arrows)) == len(arrows)
+    return len(nodes), len(arrows)
 
 
 def draw(text):
-    """How many nodes and arrows Graphviz draws of it."""
+    """How many nodes and arrows Graphviz draws of it, but for the eleven nodes of its legend, whose arrows are not seen."""
     ran = subprocess.run(["dot", "-Tsvg"], input=text, capture_output=True, text=True)
     assert ran.returncode == 0 and not ran.stderr, ran.stderr
     groups = [group.get("class") for group in tree.fromstring(ran.stdout).iter(SVG + "g")]
-    return groups.count("node"), groups.count("edge")
+    return groups.count("node") - 11, groups.count("edge")
 
 
 for name in ("graph_by_hand", "graph_sessions"):

@@ -21,7 +21,7 @@ TOP = pathlib.Path(__file__).resolve().parent.parent
 CASES = [TOP / "crates/script_vectors/data" / name for name in ("graph_by_hand", "graph_sessions")]
 
 HEAD = """\
-// An arrow goes from an object to what it observes; that of a registration is dashed.
+// An arrow goes from an object to what it observes; that of a registration is dashed, that to `today` is light.
 // Ellipses are sources, hexagons pass notices on, boxes are priced, dotted octagons are watchers.
 // A box is green where its value is fresh, grey where it is not current, blue where it is frozen, orange where it is late,
 // yellow where something beneath it is held, red where it is held and has no value.
@@ -30,6 +30,28 @@ digraph session {
   rankdir=LR;
   node [fontname="sans-serif", fontsize=11, style=filled, fillcolor=white];
   edge [arrowsize=0.7];
+  subgraph cluster_legend {
+    label="An arrow leads to what an object observes: dashed\\lto what a watcher is registered with, light to today.\\l";
+    fontname="sans-serif"; fontsize=10; labeljust=l; color="#c8c8c8";
+    node [fontsize=10, height=0.3];
+    edge [style=invis];
+    "a source" [shape=ellipse];
+    "a deferred source" [shape=ellipse, peripheries=2];
+    "it passes notices on" [shape=hexagon];
+    "it is priced" [shape=box];
+    "a watcher" [shape=octagon, style="filled,dotted"];
+    "it is fresh" [shape=box, fillcolor="#b7e1a1", label="fresh"];
+    "it is not current" [shape=box, fillcolor="#d9d9d9", label="not current"];
+    "it is frozen" [shape=box, fillcolor="#a9cdf2", label="frozen"];
+    "it is late" [shape=box, fillcolor="#ffc680", label="late"];
+    "it is held" [shape=box, fillcolor="#fff2a8", label="held"];
+    "it is unpriced" [shape=box, fillcolor="#f4a6a6", label="frozen or late, unpriced"];
+    "it is fresh" -> "a source";
+    "it is not current" -> "a deferred source";
+    "it is frozen" -> "it passes notices on";
+    "it is late" -> "it is priced";
+    "it is held" -> "a watcher";
+  }
 """
 COLOURS = {"fresh": "b7e1a1", "frozen": "a9cdf2", "late": "ffc680", "held": "fff2a8", "not current": "d9d9d9", "unpriced": "f4a6a6"}
 SHAPES = {
@@ -40,7 +62,7 @@ SHAPES = {
 }
 SHAPE_OF = {kind: shape for shape, kinds in SHAPES.items() for kind in kinds}
 WORDS = {"today": "evaluation date", "sum": "derived quote", "difference": "derived quote", "implied": "implied curve"}
-WORDS |= dict.fromkeys(["bond", "swap", "fra"], "cash flows")
+WORDS |= {"fra": "forward rate agreement"}
 
 
 # ---- the text of a session
@@ -54,6 +76,8 @@ def decimal(units, places):
 
 def last_value(model, state, o):
     """The lines of a label for the value that an object has."""
+    if state.objs[o].kind == "today":
+        return [model.days.text(state.today)]
     if state.objs[o].kind == "quote":
         rate = state.objs[o].value
         return ["unset" if rate is None else decimal(rate, 9)]
@@ -94,8 +118,13 @@ def node(model, state, o):
 
 def arrows(state, o):
     registered = sorted(subject for watcher, subject in state.registered if watcher == o)
-    pairs = [(x, "") for x in state.edges(o)] + [(x, " [style=dashed]") for x in registered]
-    return "".join(f'  "{state.objs[o].name.decode()}" -> "{state.objs[x].name.decode()}"{end};\n' for x, end in pairs)
+    signs = [(x, []) for x in state.edges(o)] + [(x, ["style=dashed"]) for x in registered]
+    lines = ""
+    for x, own in signs:
+        own = own + ['color="#c8c8c8"', "constraint=false"] if state.objs[x].kind == "today" else own
+        end = f" [{', '.join(own)}]" if own else ""
+        lines += f'  "{state.objs[o].name.decode()}" -> "{state.objs[x].name.decode()}"{end};\n'
+    return lines
 
 
 def graph(model, state):

@@ -2,7 +2,8 @@
 -- `names` are the texts of the names by their numbers, `of_object` the names of the objects by theirs. The pieces of text
 -- stand in `src/texts.rt`. Names are written within quotes, as a word of DOT may be one; `Plain` says why nothing in them
 -- has to be escaped.
-use Rattle.std.specs.Prelude.{ℕ, Bool, true, false, List, [], ◌∷◌, ◌++◌, codes}
+use Rattle.std.specs.Prelude.{ℕ, ℤ, Bool, true, false, ◌==◌, List, [], ◌∷◌, ◌++◌, codes, Option, None, Some}
+use Rattle.day_number.specs.Day.{day_text}
 use Rattle.fixed_amount.specs.Decimal.{decimal_text}
 use Rattle.price_report.specs.Namer.{object_text}
 use Rattle.price_report.specs.Line.{point_text}
@@ -16,10 +17,12 @@ use Rattle.desk_terms.specs.Asked.{mark_word}
 use Rattle.graph_dot.specs.declared.node.Finding.{Finding}
 use Rattle.graph_dot.specs.declared.node.Finding.TheVariants.{Unasked, NotCurrent, Kept, Missing}
 use Rattle.graph_dot.specs.declared.node.Shown.{Shown}
-use Rattle.graph_dot.specs.declared.node.Shown.TheVariants.{Nothing, Unset, Rate, Money, Point}
+use Rattle.graph_dot.specs.declared.node.Shown.TheVariants.{Nothing, Date, Unset, Rate, Money, Point}
+use Rattle.graph_dot.specs.declared.node.FlowKind.{FlowKind}
+use Rattle.graph_dot.specs.declared.node.FlowKind.TheVariants.{Bond, Swap, Agreement}
 use Rattle.graph_dot.specs.declared.node.GraphNode.{GraphNode}
 use Rattle.graph_dot.specs.declared.node.GraphEdge.{GraphEdge}
-use Rattle.graph_dot.specs.declared.texts.TheConstants.{HEAD, FOOT, NODE, SHAPE, DEFERRED, LABEL, NODE_END, LINE, ARROW, ARROW_END, DASHED_END}
+use Rattle.graph_dot.specs.declared.texts.TheConstants.{HEAD, FOOT, NODE, SHAPE, DEFERRED, LABEL, NODE_END, LINE, ARROW, ARROW_END, DASHED_END, LIGHT_END, LIGHT_DASHED_END}
 
 -- ---- the nodes
 
@@ -38,6 +41,16 @@ kind_word kind.Stock = codes "stock"
 kind_word kind.Composite = codes "composite"
 kind_word kind.Flows = codes "cash flows"
 kind_word kind.Watcher = codes "watcher"
+
+-- the word of what an instrument of flows is
+abbrev pub flow_word : FlowKind → List ℕ
+flow_word Bond = codes "bond"
+flow_word Swap = codes "swap"
+flow_word Agreement = codes "forward rate agreement"
+
+abbrev pub node_word : Kind → Option FlowKind → List ℕ
+node_word kind None = kind_word kind
+node_word kind (Some flows) = flow_word flows
 
 -- a shape for each role
 abbrev pub shape_in : Role → List ℕ
@@ -69,6 +82,10 @@ border_of false = []
 unfoldable pub line : List ℕ → List ℕ
 line text = LINE.now ++ text
 
+-- the evaluation date
+unfoldable pub date_line : ℤ → List ℕ
+date_line day = line (day_text day)
+
 -- the last point of a curve: the day, and the discount factor there with twelve places
 unfoldable pub point_line : CurveNode → List ℕ
 point_line point = line (point_text point.day point.factor)
@@ -76,6 +93,7 @@ point_line point = line (point_text point.day point.factor)
 -- what is shown of a value: a rate with nine places, money with six
 abbrev pub shown_lines : Shown → List ℕ
 shown_lines Nothing = []
+shown_lines (Date day) = date_line day
 shown_lines Unset = line (codes "unset")
 shown_lines (Rate rate) = line (decimal_text rate 9)
 shown_lines (Money amount) = line (decimal_text amount 6)
@@ -95,7 +113,7 @@ deferred_lines false = []
 -- the label of an object: its name, its kind, its value, what an ask would find, and whether it is a deferred source
 unfoldable pub label_text : List ℕ → GraphNode → List ℕ
 label_text name node =
-    name ++ line (kind_word node.kind) ++ shown_lines node.shown ++ finding_lines node.finding
+    name ++ line (node_word node.kind node.flows) ++ shown_lines node.shown ++ finding_lines node.finding
     ++ deferred_lines node.is_deferred
 
 unfoldable pub node_text : List (List ℕ) → List ℕ → GraphNode → List ℕ
@@ -110,15 +128,22 @@ nodes_text names of_object (node ∷ nodes) = node_text names of_object node ++ 
 
 -- ---- the arrows
 
-abbrev pub arrow_end : Bool → List ℕ
-arrow_end true = DASHED_END.now
-arrow_end false = ARROW_END.now
+-- object 0 is `today`
+abbrev pub is_today : ℕ → Bool
+is_today object = object == 0
+
+-- the arrow of a registration is dashed, one to `today` is light, and moves no object to another column
+abbrev pub arrow_end : Bool → Bool → List ℕ
+arrow_end true true = LIGHT_DASHED_END.now
+arrow_end true false = DASHED_END.now
+arrow_end false true = LIGHT_END.now
+arrow_end false false = ARROW_END.now
 
 -- an arrow from an object to one that it observes
 unfoldable pub edge_text : List (List ℕ) → List ℕ → GraphEdge → List ℕ
 edge_text names of_object edge =
     NODE.now ++ object_text names of_object edge.observer ++ ARROW.now ++ object_text names of_object edge.subject
-    ++ arrow_end edge.is_registration
+    ++ arrow_end edge.is_registration (is_today edge.subject)
 
 unfoldable pub edges_text : List (List ℕ) → List ℕ → List GraphEdge → List ℕ
 edges_text names of_object [] = []
@@ -126,7 +151,7 @@ edges_text names of_object (edge ∷ edges) = edge_text names of_object edge ++ 
 
 -- ---- the whole
 
--- THE GRAPH of these nodes and edges
+-- THE GRAPH of these nodes and edges, behind a legend of its signs
 unfoldable pub graph_text : List (List ℕ) → List ℕ → List GraphNode → List GraphEdge → List ℕ
 graph_text names of_object nodes edges =
     HEAD.now ++ nodes_text names of_object nodes ++ edges_text names of_object edges ++ FOOT.now

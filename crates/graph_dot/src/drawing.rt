@@ -9,7 +9,7 @@ use crate::texts::{FOOT, HEAD};
 use price_report::Namer;
 use std::alloc::{AllocError, Global};
 
-/// Appends the graph of these nodes and edges, in their orders. An object is named as `namer` says. After want of memory
+/// Appends the graph of these nodes and edges, in their orders, with a legend of its signs. An object is named as `namer` says. After want of memory
 /// `out` has its old bytes.
 pub fn graph(
     alloc: Global,

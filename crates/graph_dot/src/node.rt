@@ -1,5 +1,6 @@
 // What is drawn of a session.
 use curve_points::CurveNode;
+use day_number::Day;
 use desk_names::ObjId;
 use desk_terms::{Kind, Mark};
 use fixed_amount::{Amount, Rate};
@@ -22,6 +23,8 @@ pub enum Finding {
 pub enum Shown {
     /// It has none.
     Nothing,
+    /// The evaluation date.
+    Date(Day),
     /// A quote without a value.
     Unset,
     /// The rate of a quote.
@@ -32,11 +35,22 @@ pub enum Shown {
     Point(CurveNode),
 }
 
+/// What an instrument is whose terms are a list of flows.
+#[derive(Clone, Copy)]
+pub enum FlowKind {
+    Bond,
+    Swap,
+    /// A forward rate agreement.
+    Agreement,
+}
+
 /// An object.
 #[derive(Clone, Copy)]
 pub struct GraphNode {
     pub object: ObjId,
     pub kind: Kind,
+    /// What it is among the instruments of flows, if it is one.
+    pub flows: Option<FlowKind>,
     pub shown: Shown,
     pub finding: Finding,
     /// Whether it is a deferred source: it changed while notices are held back, and has told nobody yet.

@@ -1,13 +1,13 @@
 // The nodes.
 ghost use Rattle.std.specs.Prelude.{◌≡◌, ◌++◌, OnOk};
 ghost use Rattle.price_report.specs.Line.{point_text};
-ghost use Rattle.graph_dot.specs.Dot.{line, point_line, shown_lines, finding_lines, border_of, deferred_lines, label_text, node_text, nodes_text};
+ghost use Rattle.graph_dot.specs.Dot.{line, date_line, point_line, shown_lines, finding_lines, border_of, deferred_lines, label_text, node_text, nodes_text};
 
 use crate::node::{Finding, GraphNode, Shown};
 use crate::texts::{DEFERRED, LABEL, LINE, NODE, NODE_END, SHAPE};
-use crate::words::{colour_of, kind_word, shape_of};
+use crate::words::{colour_of, node_word, shape_of};
 use curve_points::CurveNode;
-use day_number::print_day;
+use day_number::{Day, print_day};
 use fixed_amount::print_decimal;
 use price_report::Namer;
 use std::alloc::{AllocError, Global};
@@ -69,7 +69,7 @@ fn push_label(
     ensures { OnOk result (out.new.items ≡ out.old.items ++ label_text name.now node.now) }
 {
     out.extend_from_slice(name)?;
-    push_line(kind_word(node.kind), out)?;
+    push_line(node_word(node.kind, node.flows), out)?;
     push_shown(alloc, node.shown, out)?;
     push_finding(node.finding, out)?;
     push_deferred(node.is_deferred, out)
@@ -91,6 +91,7 @@ fn push_shown(alloc: Global, shown: Shown, out: &mut Vec<u8>) -> Result<(), Allo
 {
     match shown {
         Shown::Nothing => Ok(()),
+        Shown::Date(day) => push_date(alloc, day, out),
         Shown::Unset => push_line(b"unset", out),
         Shown::Rate(rate) => {
             out.extend_from_slice(LINE)?;
@@ -102,6 +103,15 @@ fn push_shown(alloc: Global, shown: Shown, out: &mut Vec<u8>) -> Result<(), Allo
         }
         Shown::Point(point) => push_point(alloc, &point, out),
     }
+}
+
+// Appends a date.
+#[tactic(auto, unfolding(crate::specs::Dot::line, crate::specs::Dot::date_line))]
+fn push_date(alloc: Global, day: Day, out: &mut Vec<u8>) -> Result<(), AllocError>
+    ensures { OnOk result (out.new.items ≡ out.old.items ++ date_line day) }
+{
+    out.extend_from_slice(LINE)?;
+    print_day(alloc, day, out)
 }
 
 // Appends the last point of a curve.

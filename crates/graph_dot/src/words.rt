@@ -1,12 +1,24 @@
 // The words and signs of a node.
 ghost use Rattle.std.specs.Prelude.{◌≡◌};
-ghost use Rattle.graph_dot.specs.Dot.{kind_word, shape_of, colour_of};
+ghost use Rattle.graph_dot.specs.Dot.{kind_word, node_word, shape_of, colour_of};
 
-use crate::node::Finding;
+use crate::node::{Finding, FlowKind};
 use desk_terms::{Kind, Mark};
 
+// The word of an object of a kind, and of what it is among the instruments of flows.
+pub(crate) fn node_word(kind: Kind, flows: Option<FlowKind>) -> &'static [u8]
+    ensures { result.now ≡ node_word kind flows }
+{
+    match flows {
+        None => kind_word(kind),
+        Some(FlowKind::Bond) => b"bond",
+        Some(FlowKind::Swap) => b"swap",
+        Some(FlowKind::Agreement) => b"forward rate agreement",
+    }
+}
+
 // The word of a kind.
-pub(crate) fn kind_word(kind: Kind) -> &'static [u8]
+fn kind_word(kind: Kind) -> &'static [u8]
     ensures { result.now ≡ kind_word kind }
 {
     match kind {

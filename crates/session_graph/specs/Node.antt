@@ -1,12 +1,15 @@
 -- What is drawn of one object (this project's profile).
-use Rattle.std.specs.Prelude.{ℕ, ℤ, ◌-◌, length, Option, None, Some, slice_get}
+use Rattle.std.specs.Prelude.{ℕ, ℤ, ◌-◌, Bool, true, false, if◌then◌else◌, List, length, Option, None, Some, slice_get}
+use Rattle.std.specs.List.{list_any}
 use Rattle.curve_points.specs.declared.curves.CurveNode.{CurveNode}
 use Rattle.curve_points.specs.Curve.{Curve, origin}
 use Rattle.desk_terms.specs.declared.asked.Asked.{Asked}
 use Rattle.desk_terms.specs.declared.asked.Mark.{Mark}
 use Rattle.desk_terms.specs.declared.cause.Cause.{Cause}
 use Rattle.desk_terms.specs.declared.kind.Kind.{Kind}
+use Rattle.desk_terms.specs.declared.kind.Kind.TheVariants.{Today}
 use Rattle.desk_terms.specs.declared.terms.Terms.{Terms}
+use Rattle.desk_terms.specs.declared.terms.Terms.TheVariants as terms
 use Rattle.desk_terms.specs.declared.value.Value.{Value}
 use Rattle.desk_terms.specs.declared.value.Value.TheVariants as value
 use Rattle.desk_terms.specs.Kind.{Role, role}
@@ -14,10 +17,15 @@ use Rattle.desk_terms.specs.Kind.Role.{Source, Forwarder, Lazy, Watching}
 use Rattle.desk_model.specs.Market.{terms_at}
 use Rattle.desk_model.specs.State.{State, kept_at, is_source}
 use Rattle.object_store.specs.Objects.{quoted}
+use Rattle.flow_terms.specs.declared.flows.FlowTerm.{FlowTerm}
+use Rattle.flow_terms.specs.declared.flows.FlowTerm.TheVariants.{Known, Float, Forward}
+use Rattle.session_model.specs.Place.{is_kind}
 use Rattle.graph_dot.specs.declared.node.Finding.{Finding}
 use Rattle.graph_dot.specs.declared.node.Finding.TheVariants.{Unasked, NotCurrent, Kept, Missing}
 use Rattle.graph_dot.specs.declared.node.Shown.{Shown}
 use Rattle.graph_dot.specs.declared.node.Shown.TheVariants as shown
+use Rattle.graph_dot.specs.declared.node.FlowKind.{FlowKind}
+use Rattle.graph_dot.specs.declared.node.FlowKind.TheVariants.{Bond, Swap, Agreement}
 use Rattle.graph_dot.specs.declared.node.GraphNode.{GraphNode}
 
 -- ---- what an ask would find
@@ -73,6 +81,48 @@ quoted_in (Some terms) = quoted terms
 abbrev pub shown_at : State → ℕ → Shown
 shown_at state o = shown_as (quoted_in (terms_at state.market o)) (kept_at state o).last
 
+-- and of `today` the date
+abbrev pub shown_for : State → ℕ → Kind → Shown
+shown_for state o kind = if is_kind Today kind then shown.Date state.market.today else shown_at state o
+
+-- ---- what an instrument of flows is
+
+-- a redemption is an amount that accrues over no period
+abbrev pub is_redemption : FlowTerm → Bool
+is_redemption (Known paid amount None) = true
+is_redemption (Known paid amount (Some period)) = false
+is_redemption (Float paid notional spread parts fixing) = false
+is_redemption (Forward paid notional strike fixing) = false
+
+abbrev pub is_settlement : FlowTerm → Bool
+is_settlement (Known paid amount period) = false
+is_settlement (Float paid notional spread parts fixing) = false
+is_settlement (Forward paid notional strike fixing) = true
+
+-- a forward rate agreement is settled, a bond is redeemed, a swap is neither
+abbrev pub flow_kind : List FlowTerm → FlowKind
+flow_kind flows = if list_any is_settlement flows then Agreement else if list_any is_redemption flows then Bond else Swap
+
+-- of terms that are no flows it is none
+abbrev pub flows_of : Terms → Option FlowKind
+flows_of (terms.Quote value) = None
+flows_of (terms.Derived minus first second) = None
+flows_of (terms.Handle kind target) = None
+flows_of (terms.Curve terms) = None
+flows_of (terms.Implied curve reference) = None
+flows_of (terms.Index terms fixings) = None
+flows_of (terms.Engine curve) = None
+flows_of (terms.Stock quote) = None
+flows_of (terms.Composite parts) = None
+flows_of (terms.Flows flows engine) = Some (flow_kind flows.flows)
+
+abbrev pub flows_in : Option Terms → Option FlowKind
+flows_in None = None
+flows_in (Some terms) = flows_of terms
+
+abbrev pub flows_at : State → ℕ → Option FlowKind
+flows_at state o = flows_in (terms_at state.market o)
+
 -- ---- the node
 
 -- the node of an object of a kind, where this is what an ask answers without a computation
@@ -80,7 +130,8 @@ abbrev pub node_of : State → ℕ → Kind → Option Asked → GraphNode
 node_of state o kind held = record {
   object = o;
   kind = kind;
-  shown = shown_at state o;
+  flows = flows_at state o;
+  shown = shown_for state o kind;
   finding = finding_of (role kind) held;
   is_deferred = is_source state o;
 }

@@ -1,5 +1,5 @@
 -- A session drawn by hand: the stocks `s` and `t` on the quote `q`, and the watcher `w` of `s`.
-use Rattle.std.specs.Prelude.{◌≡◌, ℕ, Bool, true, false, [], ◌∷◌, ◌++◌, pos, codes, Some}
+use Rattle.std.specs.Prelude.{◌≡◌, ℕ, ℤ, Bool, true, false, List, [], ◌∷◌, ◌++◌, pos, codes, None, Some}
 use Rattle.desk_terms.specs.declared.terms.Terms.TheVariants.{Quote, Stock}
 use Rattle.desk_terms.specs.declared.kind.Kind.{Kind}
 use Rattle.desk_terms.specs.declared.kind.Kind.TheVariants as kind
@@ -8,11 +8,15 @@ use Rattle.desk_terms.specs.declared.asked.Mark.TheVariants.{Fresh, Frozen, Late
 use Rattle.desk_model.specs.State.{State}
 use Rattle.desk_model.specs.Effect.{watching, registered_with, with_kept, frozen_set, deferred, quote_set}
 use Rattle.session_model.specs.Standing.{Standing, start_with}
+use Rattle.flow_terms.specs.declared.flows.FlowTerm.{FlowTerm}
+use Rattle.flow_terms.specs.declared.flows.FlowTerm.TheVariants.{Known, Float, Forward}
+use Rattle.graph_dot.specs.declared.node.FlowKind.TheVariants.{Bond, Swap, Agreement}
 use Rattle.graph_dot.specs.declared.node.Finding.{Finding}
 use Rattle.graph_dot.specs.declared.node.Finding.TheVariants.{Unasked, NotCurrent, Kept, Missing}
 use Rattle.graph_dot.specs.declared.node.Shown.{Shown}
 use Rattle.graph_dot.specs.declared.node.Shown.TheVariants as shown
 use Rattle.graph_dot.specs.declared.node.GraphNode.{GraphNode}
+use Rattle.session_graph.specs.Node.{flow_kind}
 use Rattle.session_graph.specs.Edges.{edge}
 use Rattle.session_graph.specs.Graph.{nodes_in, edges_in}
 
@@ -40,17 +44,31 @@ held_back state = quote_set 1 (Some (pos 2_000_000_000)) (deferred (frozen_set 2
 
 abbrev pub node : ℕ → Kind → Shown → Finding → Bool → GraphNode
 node object kind shown finding is_deferred =
-    record { object = object; kind = kind; shown = shown; finding = finding; is_deferred = is_deferred }
+    record { object = object; kind = kind; flows = None; shown = shown; finding = finding; is_deferred = is_deferred }
+
+-- flows as a market makes them: a coupon of 3 and a redemption of 100; a fixed coupon that is paid against one on an index;
+-- a settlement
+abbrev pub bond_flows : List FlowTerm
+bond_flows = Known (pos 10) (pos 3_000_000) (Some (pos 0, pos 10)) ∷ Known (pos 10) (pos 100_000_000) None ∷ []
+
+abbrev pub swap_flows : ℤ → List FlowTerm
+swap_flows parts = Known (pos 10) (pos 3_000_000) (Some (pos 0, pos 10)) ∷ Float (pos 10) (pos 100_000_000) (pos 0) parts (pos 0) ∷ []
+
+abbrev pub agreed_flows : List FlowTerm
+agreed_flows = Forward (pos 10) (pos 100_000_000) (pos 30_000_000) (pos 8) ∷ []
 
 pub record IsDrawn : Type 0 where
+  pub bond : flow_kind bond_flows ≡ Bond
+  pub swap : (parts : ℤ) → flow_kind (swap_flows parts) ≡ Swap
+  pub agreement : flow_kind agreed_flows ≡ Agreement
   pub settled : nodes_in (watched_after with_value) ≡
-      node 0 kind.Today shown.Nothing Unasked false
+      node 0 kind.Today (shown.Date (pos 0)) Unasked false
       ∷ node 1 kind.Quote (shown.Rate (pos 1_000_000_000)) Unasked false
       ∷ node 2 kind.Stock (shown.Money (pos 1_500_000)) (Kept Fresh) false
       ∷ node 3 kind.Stock shown.Nothing NotCurrent false
       ∷ node 4 kind.Watcher shown.Nothing Unasked false ∷ []
   pub held : nodes_in (watched_after held_back) ≡
-      node 0 kind.Today shown.Nothing Unasked false
+      node 0 kind.Today (shown.Date (pos 0)) Unasked false
       ∷ node 1 kind.Quote (shown.Rate (pos 2_000_000_000)) Unasked true
       ∷ node 2 kind.Stock (shown.Money (pos 1_500_000)) (Kept Frozen) false
       ∷ node 3 kind.Stock shown.Nothing (Missing Late) false

@@ -6,6 +6,7 @@
 mod drawing;
 mod edges;
 mod finding;
+mod flowing;
 mod naming;
 mod nodes;
 mod rows;

@@ -5,6 +5,7 @@ ghost use Rattle.session_graph.specs.Node.{node_of};
 ghost use Rattle.session_graph.specs.Graph.{node_by, nodes_in};
 
 use crate::finding::finding_of;
+use crate::flowing::flows_at;
 use crate::shown::shown_of;
 use desk_names::ObjId;
 use desk_terms::{Asked, Kind};
@@ -59,6 +60,7 @@ fn node_of(desk: &Desk, object: ObjId, kind: Kind, held: Option<Asked>) -> Graph
     GraphNode {
         object,
         kind,
+        flows: flows_at(desk, object),
         shown: shown_of(desk, object, kind),
         finding: finding_of(kind, held),
         is_deferred: desk.is_source(object),

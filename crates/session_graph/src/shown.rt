@@ -1,9 +1,9 @@
 // What is shown of the value of an object.
 ghost use Rattle.std.specs.Prelude.{◌≡◌, option_copied, Some};
-ghost use Rattle.desk_terms.specs.declared.kind.Kind.TheVariants.{Quote};
+ghost use Rattle.desk_terms.specs.declared.kind.Kind.TheVariants.{Today, Quote};
 ghost use Rattle.desk_model.specs.Market.{kind_at};
 ghost use Rattle.session_model.specs.Place.{is_kind};
-ghost use Rattle.session_graph.specs.Node.{last_point, point_or_origin, rate_shown, value_shown, last_shown, shown_at};
+ghost use Rattle.session_graph.specs.Node.{last_point, point_or_origin, rate_shown, value_shown, last_shown, shown_at, shown_for};
 
 use curve_points::{CurveNode, CurveValue, ONE};
 use desk_names::ObjId;
@@ -12,8 +12,20 @@ use fixed_amount::{Discount, Rate};
 use graph_dot::Shown;
 use lazy_objects::Desk;
 
-// What is shown of an object of this kind: the rate of a quote, the last value of any other.
+// What is shown of an object of this kind: the date of `today`, the rate of a quote, the last value of any other.
 pub(crate) fn shown_of(desk: &Desk, object: ObjId, kind: Kind) -> Shown
+    requires { kind_at desk.now.market object ≡ Some kind }
+    ensures { result ≡ shown_for desk.now object kind }
+{
+    if is_today(kind) {
+        Shown::Date(desk.today())
+    } else {
+        value_of(desk, object, kind)
+    }
+}
+
+// The rate of a quote, the last value of any other.
+fn value_of(desk: &Desk, object: ObjId, kind: Kind) -> Shown
     requires { kind_at desk.now.market object ≡ Some kind }
     ensures { result ≡ shown_at desk.now object }
 {
@@ -22,6 +34,12 @@ pub(crate) fn shown_of(desk: &Desk, object: ObjId, kind: Kind) -> Shown
     } else {
         last_shown(desk.last(object))
     }
+}
+
+fn is_today(kind: Kind) -> bool
+    ensures { result ≡ is_kind Today kind }
+{
+    matches!(kind, Kind::Today)
 }
 
 fn is_quote(kind: Kind) -> bool

@@ -12,4 +12,4 @@ use Rattle.session_graph.proofs.rows.a_session_is_drawn.Goals as goal
 
 pub returns : goal.returns
 unfolding below_by place_of made watching registered_with notified revised quote_set frozen_set deferred is_frozen is_source is_late is_clear mark_of held_answer find with_objects named_from registrations_below nodes_below edges_below
-returns c = record { settled = refl; held = refl; edges = refl }
+returns c = record { bond = refl; swap = λ parts. refl; agreement = refl; settled = refl; held = refl; edges = refl }

@@ -1,5 +1,5 @@
 mod Lines
-mod Fronts
+pub mod Fronts
 mod Heard
 mod Pieces
 mod Ended

@@ -10,6 +10,11 @@ pub const MOST_LINE: usize = 65_536;
 
 /// Who answers lines, one after the other, to their end (this project's profile).
 pub trait Answerer {
+    /// What no line changes.
+    ghost Kept: { Type 0 };
+
+    ghost kept: { Self → Self.Kept };
+
     /// What it writes for lines that come from here on, and at their end.
     ghost told: { Self → List (List ℕ) → List ℕ };
 
@@ -22,6 +27,7 @@ pub trait Answerer {
     /// Appends what a line calls for. It fails for want of memory alone; a front of it was appended then.
     fn answer(&mut self, line: &[u8], answers: &mut Vec<u8>) -> Result<(), AllocError>
         requires can { can self.old }
+        ensures kept { kept self.new ≡ kept self.old }
         ensures can { OnOk result (can self.new) }
         ensures ok { OnOk result ((rest : List (List ℕ)) →
             answers.new.items ++ told self.new rest ≡ answers.old.items ++ told self.old (line.now ∷ rest)) }
@@ -34,6 +40,7 @@ pub trait Answerer {
     /// Appends what the end calls for, likewise.
     fn end(&mut self, answers: &mut Vec<u8>) -> Result<(), AllocError>
         requires can { can self.old }
+        ensures kept { kept self.new ≡ kept self.old }
         ensures ok { OnOk result (answers.new.items ≡ answers.old.items ++ told self.old []) }
         ensures calls { OnOk result (called self.new [] ≡ called self.old []) }
         ensures err { OnErr result (IsFrontOf answers.new.items (answers.old.items ++ told self.old [])) };

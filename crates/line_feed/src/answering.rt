@@ -51,6 +51,7 @@ pub fn answer_all<A: Answerer, F: Feed, K: Sink>(
 ) -> Result<(), AnswerFault>
     requires can { A.can answerer.old }
     requires sent { K.sent out.old ≡ K.bytes out.old }
+    ensures kept { A.kept answerer.new ≡ A.kept answerer.old }
     // However the feed is cut, at Ok the bytes are those for the lines of all that it holds, and were sent on; the bench was called for
     // them, and for no other. After a failure a front of the bytes was put.
     ensures written { OnOk result (IfSome (F.content feed.old) (λ content.
@@ -65,9 +66,10 @@ pub fn answer_all<A: Answerer, F: Feed, K: Sink>(
     ensures prompt { IsErrOf result AnswerFault.Read → IsPrompt (F.content feed.old) (F.content feed.new)
         (A.told answerer.old) (A.told answerer.new) (A.called answerer.old) (A.called answerer.new)
         (K.bytes out.old) (K.bytes out.new) (K.sent out.new) }
-    // A call that failed is the answer, and was the last.
+    // A call that failed is the answer, and was the last; where memory ran out, no more is waited for.
     ensures read { IsErrOf result AnswerFault.Read → (F.faults feed.new ≡ raised (F.faults feed.old)) × (K.faults out.new ≡ K.faults out.old) }
-    ensures write { IsErrOf result AnswerFault.Write → K.faults out.new ≡ raised (K.faults out.old) }
+    ensures write { IsErrOf result AnswerFault.Write → (F.faults feed.new ≡ F.faults feed.old) × (K.faults out.new ≡ raised (K.faults out.old)) }
+    ensures quiet { IsErrOf result AnswerFault.NoMemory → F.faults feed.new ≡ F.faults feed.old }
     ensures clean { OnOk result ((F.faults feed.new ≡ F.faults feed.old) × (K.faults out.new ≡ K.faults out.old)) }
 {
     let mut room = vec![in alloc; 0u8; ROOM]?;
@@ -113,6 +115,7 @@ fn finish<A: Answerer, K: Sink>(
     out: &mut K,
 ) -> Result<(), AnswerFault>
     requires can { A.can answerer.old }
+    ensures kept { A.kept answerer.new ≡ A.kept answerer.old }
     ensures ok { OnOk result ((part : List ℕ) → IsOpen part line.now
         → (K.bytes out.new ≡ appended (answers.old.items ++ A.told answerer.old (lines part)) (K.bytes out.old))
         × (A.called answerer.new [] ≡ A.called answerer.old (lines part))) }
@@ -136,6 +139,7 @@ fn close<A: Answerer, K: Sink>(
     out: &mut K,
 ) -> Result<(), AnswerFault>
     requires can { A.can answerer.old }
+    ensures kept { A.kept answerer.new ≡ A.kept answerer.old }
     ensures ok { OnOk result ((K.bytes out.new ≡ appended (answers.old.items ++ A.told answerer.old []) (K.bytes out.old))
         × (A.called answerer.new [] ≡ A.called answerer.old [])) }
     ensures err { OnErr result (PutsFront (answers.old.items ++ A.told answerer.old []) (K.bytes out.old) (K.bytes out.new)) }

@@ -28,6 +28,7 @@ pub(crate) fn hear<A: Answerer, K: Sink>(
     out: &mut K,
 ) -> Result<(), AnswerFault>
     requires can { A.can answerer.old }
+    ensures kept { A.kept answerer.new ≡ A.kept answerer.old }
     ensures can { OnOk result (A.can answerer.new) }
     ensures ok { OnOk result ((part : List ℕ) → IsOpen part line.old.items → (now : List ℕ) × IsOpen now line.new.items
         × Hears part piece.now now (A.told answerer.old) (A.told answerer.new) (A.called answerer.old) (A.called answerer.new)
@@ -78,6 +79,7 @@ pub(crate) fn answer_line<A: Answerer, K: Sink>(
     out: &mut K,
 ) -> Result<(), AnswerFault>
     requires can { A.can answerer.old }
+    ensures kept { A.kept answerer.new ≡ A.kept answerer.old }
     ensures can { OnOk result (A.can answerer.new) }
     ensures ok { OnOk result (Answers line.now (A.told answerer.old) (A.told answerer.new) (A.called answerer.old) (A.called answerer.new)
         (appended answers.old.items (K.bytes out.old)) (appended answers.new.items (K.bytes out.new))) }

@@ -15,6 +15,7 @@ use Rattle.line_feed.proofs.answering.answer_all.Goals as goal
 
 pub loop-init : goal.loop-init
 loop-init g c = record {
+  kept = refl;
   can = c.requires.can;
   none = c.new-answers.ensures.items;
   sent = c.requires.sent;
@@ -138,6 +139,7 @@ loop-preserved g c =
     let said = before.grows.0 ++ c.hear.ensures.grows.0 in
     let put = c.in_ok-send.ensures.ok in
     record {
+      kept = c.hear.ensures.kept ∙ before.kept;
       can = c.in_ok-hear.ensures.can;
       none = put.0;
       sent = c.in_ok-send.ensures.sent;

@@ -7,6 +7,7 @@ use Rattle.line_feed.proofs.answering.answer_all.Given as goal
 
 abbrev pub invariant-loop : goal.invariant-loop
 invariant-loop g l = record {
+  kept : g.A.Answerer.kept l.answerer ≡ g.A.Answerer.kept l.initial.answerer;
   can : g.A.Answerer.can l.answerer;
   none : l.answers.items ≡ [];
   sent : g.K.Sink.sent l.out ≡ g.K.Sink.bytes l.out;

@@ -52,6 +52,7 @@ loop-byte-preserved g c =
           let newline : get_or c.args.piece.now loop.byte-index 0 ≡ 10 = grind (arith, nat_tests, w.if-byte-eq10.true) in
           let more = w.answer_line.ensures.grows in
           rw (w.answerer-is, w.line-is, w.answers-is, w.out-is) (record {
+            kept = w.answer_line.ensures.kept ∙ loop.invariant.kept;
             can = w.in_ok-answer_line.ensures.can;
             heard = λ part begun.
                 let before = loop.invariant.heard part begun in (
@@ -71,6 +72,7 @@ loop-byte-preserved g c =
           let byte = get_or c.args.piece.now loop.byte-index 0 in
           let other : (byte == 10) ≡ false = grind (arith, nat_tests, w.if-byte-eq10.false) in
           rw (w.answerer-is, w.line-is, w.answers-is, w.out-is) (record {
+            kept = loop.invariant.kept;
             can = loop.invariant.can;
             heard = λ part begun.
                 let before = loop.invariant.heard part begun in (

@@ -6,6 +6,7 @@ use Rattle.line_feed.proofs.hearing.hear.Given as goal
 
 abbrev pub invariant-loop-byte : goal.invariant-loop-byte
 invariant-loop-byte g l = record {
+  kept : g.A.Answerer.kept l.answerer ≡ g.A.Answerer.kept l.initial.answerer;
   can : g.A.Answerer.can l.answerer;
   heard : (part : List ℕ) → IsOpen part l.initial.line.items → (now : List ℕ) × IsOpen now l.line.items
       × Hears part (take l.byte-index l.piece) now (g.A.Answerer.told l.initial.answerer) (g.A.Answerer.told l.answerer)

@@ -4,7 +4,7 @@ use Rattle.std.specs.Str.Lines.{lines, strip_carriage_return}
 use Rattle.desk_edge.specs.Sink.{appended}
 use Rattle.desk_edge.proofs.SinkLemmas.{appended-appended}
 use Rattle.line_feed.specs.Answers.{Told, Called, Answers, Hears, PutsFront}
-use Rattle.line_feed.specs.Hearing.{IsOpen}
+use Rattle.line_feed.specs.Hearing.{HasNoEnd}
 use Rattle.line_feed.proofs.Lines.{line_ends}
 use Rattle.line_feed.proofs.Fronts.{front_on}
 
@@ -14,13 +14,13 @@ module _ (told : Told) (called : Called) (part : List ℕ) (before : Option (Lis
   heard_none = record { bytes = λ rest. refl; calls = λ rest. refl }
 
   module _ (told_mid : Told) (called_mid : Called) (heard now : List ℕ) (mid : Option (List ℕ)) (hears : Hears part heard now told told_mid called called_mid before mid) where
-    -- a byte more that is no newline
-    pub heard_more : (byte : ℕ) → Hears part (heard ++ byte ∷ []) (now ++ byte ∷ []) told told_mid called called_mid before mid
-    heard_more byte = record {
-      bytes = λ rest. ap (λ (l : List ℕ). appended (told_mid (lines l)) mid) (append_assoc now (byte ∷ []) rest) ∙ hears.bytes (byte ∷ rest)
-          ∙ ap (λ (l : List ℕ). appended (told (lines (part ++ l))) before) (sym (append_assoc heard (byte ∷ []) rest));
-      calls = λ rest. ap (λ (l : List ℕ). called_mid (lines l)) (append_assoc now (byte ∷ []) rest) ∙ hears.calls (byte ∷ rest)
-          ∙ ap (λ (l : List ℕ). called (lines (part ++ l))) (sym (append_assoc heard (byte ∷ []) rest));
+    -- bytes more that are no newline
+    pub heard_more : (bytes : List ℕ) → Hears part (heard ++ bytes) (now ++ bytes) told told_mid called called_mid before mid
+    heard_more bytes = record {
+      bytes = λ rest. ap (λ (l : List ℕ). appended (told_mid (lines l)) mid) (append_assoc now bytes rest) ∙ hears.bytes (bytes ++ rest)
+          ∙ ap (λ (l : List ℕ). appended (told (lines (part ++ l))) before) (sym (append_assoc heard bytes rest));
+      calls = λ rest. ap (λ (l : List ℕ). called_mid (lines l)) (append_assoc now bytes rest) ∙ hears.calls (bytes ++ rest)
+          ∙ ap (λ (l : List ℕ). called (lines (part ++ l))) (sym (append_assoc heard bytes rest));
     }
 
     -- more bytes, behind which another line stands open
@@ -43,13 +43,21 @@ module _ (told : Told) (called : Called) (part : List ℕ) (before : Option (Lis
         ∙ ap (appended (told (lines (part ++ (heard ++ rest))))) is_before ∙ appended-appended waited (told (lines (part ++ (heard ++ rest)))) old)
         front
 
--- a newline ends the open line, of which so many bytes were kept
-pub heard_end : (told told_now : Told) (called called_now : Called) (part kept : List ℕ) (before after : Option (List ℕ)) → IsOpen part kept
-    → ((rest : List (List ℕ)) → (told (strip_carriage_return part ∷ rest) ≡ told (strip_carriage_return kept ∷ rest))
-    × (called (strip_carriage_return part ∷ rest) ≡ called (strip_carriage_return kept ∷ rest)))
-    → Answers (strip_carriage_return kept) told told_now called called_now before after → Hears part (10 ∷ []) [] told told_now called called_now before after
-heard_end told told_now called called_now part kept before after h alike answers = record {
+-- bytes and a newline end the open line
+ended : (part text rest : List ℕ) → HasNoEnd (part ++ text)
+    → lines (part ++ ((text ++ 10 ∷ []) ++ rest)) ≡ strip_carriage_return (part ++ text) ∷ lines rest
+ended part text rest none =
+    ap (λ (l : List ℕ). lines (part ++ l)) (append_assoc text (10 ∷ []) rest)
+    ∙ ap lines (sym (append_assoc part text (10 ∷ rest))) ∙ line_ends (part ++ text) rest none
+
+-- it is answered as another line
+pub heard_end : (told told_now : Told) (called called_now : Called) (part text line : List ℕ) (before after : Option (List ℕ)) → HasNoEnd (part ++ text)
+    → ((rest : List (List ℕ)) → (told (strip_carriage_return (part ++ text) ∷ rest) ≡ told (line ∷ rest))
+    × (called (strip_carriage_return (part ++ text) ∷ rest) ≡ called (line ∷ rest)))
+    → Answers line told told_now called called_now before after
+    → Hears part (text ++ 10 ∷ []) [] told told_now called called_now before after
+heard_end told told_now called called_now part text line before after none alike answers = record {
   bytes = λ rest. answers.bytes (lines rest) ∙ ap (λ (l : List ℕ). appended l before) (sym (alike (lines rest)).0)
-      ∙ ap (λ (l : List (List ℕ)). appended (told l) before) (sym (line_ends part rest h.unended));
-  calls = λ rest. answers.calls (lines rest) ∙ sym (alike (lines rest)).1 ∙ ap called (sym (line_ends part rest h.unended));
+      ∙ ap (λ (l : List (List ℕ)). appended (told l) before) (sym (ended part text rest none));
+  calls = λ rest. answers.calls (lines rest) ∙ sym (alike (lines rest)).1 ∙ ap called (sym (ended part text rest none));
 }

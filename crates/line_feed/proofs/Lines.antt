@@ -1,10 +1,13 @@
 -- The lines of a text that begins with one that stands open, and what is kept of that.
-use Rattle.std.proofs.Common.{◌≡◌, ◌∙◌, ap, sym, refl, ℕ, ◌+◌, ◌-◌, ◌<◌, ◌≤◌, ◌==◌, ◌⊎◌, inl, inr, Bool, true, false, cond, List, [], ◌∷◌, ◌++◌, length, take, arith, length-append, length-take, nat_lt}
-use Rattle.std.proofs.Math.Seq.{take_all, take-append-le}
+use Rattle.std.proofs.Common.{◌≡◌, ◌∙◌, ap, sym, subst, refl, ℕ, ◌+◌, ◌-◌, ◌<◌, ◌≤◌, ◌==◌, ◌⊎◌, inl, inr, Bool, true, false, cond, List, [], ◌∷◌, ◌++◌, length, take, drop, get_or, arith, length-take, append-nil, Some, None, position}
+use Rattle.std.proofs.Math.Seq.{take_all, take-append-le, take-append-add, get_or-take}
 use Rattle.std.proofs.lemmas.Bool.{cases_lt}
 use Rattle.std.proofs.lemmas.Bool.Decides.{nat_tests}
-use Rattle.std.proofs.lemmas.List.Elements.{All-push}
+use Rattle.std.proofs.lemmas.List.{take-append-drop, drop_more}
+use Rattle.std.proofs.lemmas.List.Elements.{All-append, All-from_get_or}
+use Rattle.std.proofs.lemmas.List.Quantifiers.{position-Some}
 use Rattle.std.proofs.lemmas.List.Splits.{slice_split_none, slice_split_at}
+use Rattle.std.proofs.lemmas.List.Sums.{fails_before_first}
 use Rattle.std.specs.List.{slice_split, onto_first}
 use Rattle.std.specs.Str.Lines.{lines, lines_of_parts, strip_carriage_return}
 use Rattle.line_feed.specs.declared.answerer.TheConstants.{MOST_LINE}
@@ -72,24 +75,39 @@ pub alike_told : (told : Told) (called : Called) (line other : List ℕ)
 alike_told told called line other long (inl both) rest = long both.0 other rest both.1
 alike_told told called line other long (inr is) rest = (ap (λ (l : List ℕ). told (l ∷ rest)) is, ap (λ (l : List ℕ). called (l ∷ rest)) is)
 
-kept_by : (most : ℕ) (part kept : List ℕ) (byte : ℕ) → kept ≡ take most part
-    → cond (nat_lt (length kept) most) (kept ++ byte ∷ []) kept ≡ take most (part ++ byte ∷ [])
-kept_by most part kept byte cut = elim (cases_lt (length kept) most) [
-  | inl few ↦
-      let test : nat_lt (length kept) most ≡ true = grind (arith, nat_tests, few) in
-      let short : length part < most = omega (arith, few, ap (λ (l : List ℕ). length l) cut, length-take {A = ℕ}) in
-      ap (λ (b : Bool). cond b (kept ++ byte ∷ []) kept) test
-      ∙ ap (λ (l : List ℕ). l ++ byte ∷ []) (cut ∙ take_all most part (omega (arith, short)))
-      ∙ sym (take_all most (part ++ byte ∷ []) (omega (arith, short, length-append part (byte ∷ []))))
-  | inr many ↦
-      let test : nat_lt (length kept) most ≡ false = grind (arith, nat_tests, many) in
-      let long : most ≤ length part = omega (arith, many, ap (λ (l : List ℕ). length l) cut, length-take {A = ℕ}) in
-      ap (λ (b : Bool). cond b (kept ++ byte ∷ []) kept) test ∙ cut ∙ sym (take-append-le most part (byte ∷ []) long)
+kept_by : (most : ℕ) (part kept bytes : List ℕ) → kept ≡ take most part
+    → kept ++ take (most - length kept) bytes ≡ take most (part ++ bytes)
+kept_by most part kept bytes cut = elim (cases_lt most (length part)) [
+  | inl long ↦
+      let full : most - length kept ≡ 0 = omega (arith, long, ap (λ (l : List ℕ). length l) cut, length-take {A = ℕ}) in
+      ap (λ (n : ℕ). kept ++ take n bytes) full ∙ append-nil kept ∙ cut ∙ sym (take-append-le most part bytes (omega (arith, long)))
+  | inr short ↦
+      let whole : kept ≡ part = cut ∙ take_all most part short in
+      let room : length part + (most - length part) ≡ most = omega (arith, short) in
+      ap (λ (l : List ℕ). l ++ take (most - length l) bytes) whole ∙ sym (take-append-add part bytes (most - length part))
+      ∙ ap (λ (n : ℕ). take n (part ++ bytes)) room
 ]
 
--- a byte more
-pub open_more : (part kept : List ℕ) (byte : ℕ) → IsOpen part kept → (byte == 10) ≡ false → IsOpen (part ++ byte ∷ []) (kept_with kept byte)
-open_more part kept byte h other = record {
-  unended = All-push (λ (b : ℕ). (b == 10) ≡ false) part byte h.unended other;
-  cut = kept_by most_kept part kept byte h.cut;
+-- bytes more
+pub open_more : (part kept bytes : List ℕ) → IsOpen part kept → HasNoEnd bytes → IsOpen (part ++ bytes) (kept_with kept bytes)
+open_more part kept bytes h none = record {
+  unended = All-append (λ (b : ℕ). (b == 10) ≡ false) part bytes h.unended none;
+  cut = kept_by most_kept part kept bytes h.cut;
 }
+
+-- the first newline among bytes, or none
+pub ends_nowhere : (bytes : List ℕ) → position is_end bytes ≡ None → HasNoEnd bytes
+ends_nowhere bytes none = λ k d within. fails_before_first is_end bytes k d (grind (arith, nat_tests, none, within))
+
+pub ends_at : (bytes : List ℕ) (at : ℕ) → position is_end bytes ≡ Some at → (at < length bytes) × HasNoEnd (take at bytes)
+    × (bytes ≡ take at bytes ++ 10 ∷ drop (at + 1) bytes)
+ends_at bytes at found =
+    let first = position-Some is_end bytes at 0 found in
+    let newline : get_or bytes at 0 ≡ 10 = grind (arith, nat_tests, first.1) in (
+      first.0,
+      All-from_get_or (λ (b : ℕ). (b == 10) ≡ false) (take at bytes) 0
+          (λ k within. let below : k < at = omega (arith, within, length-take at bytes) in
+          subst (λ (b : ℕ). (b == 10) ≡ false) (sym (get_or-take at bytes k 0 below)) (first.2 k below)),
+      sym (take-append-drop at bytes) ∙ ap (λ (l : List ℕ). take at bytes ++ l)
+          (drop_more bytes at 0 first.0 ∙ ap (λ (b : ℕ). b ∷ drop (at + 1) bytes) newline),
+    )

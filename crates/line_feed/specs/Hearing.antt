@@ -1,5 +1,5 @@
 -- The line that stands open behind what was heard.
-use Rattle.std.specs.Prelude.{◌≡◌, ℕ, ◌+◌, ◌==◌, nat_lt, if◌then◌else◌, false, List, [], ◌∷◌, ◌++◌, length, take}
+use Rattle.std.specs.Prelude.{◌≡◌, ℕ, ◌+◌, ◌-◌, ◌==◌, false, List, ◌++◌, length, take}
 use Rattle.std.specs.List.{All}
 use Rattle.line_feed.specs.declared.answerer.TheConstants.{MOST_LINE}
 
@@ -11,9 +11,9 @@ HasNoEnd bytes = All (λ byte. (byte == 10) ≡ false) bytes
 abbrev pub most_kept : ℕ
 most_kept = MOST_LINE + 2
 
--- what is kept with a byte more
-abbrev pub kept_with : List ℕ → ℕ → List ℕ
-kept_with kept byte = if nat_lt (length kept) most_kept then kept ++ byte ∷ [] else kept
+-- what is kept with these bytes more
+abbrev pub kept_with : List ℕ → List ℕ → List ℕ
+kept_with kept bytes = kept ++ take (most_kept - length kept) bytes
 
 -- these bytes are kept of a line that stands open
 pub record IsOpen (line kept : List ℕ) : Type 0 where

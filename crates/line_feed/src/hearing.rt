@@ -1,16 +1,17 @@
 // What a piece says.
-ghost use Rattle.std.specs.Prelude.{◌≡◌, ◌<◌, ◌∷◌, ◌++◌, ℕ, List, OnOk, OnErr, IsErrOf, [], length};
+ghost use Rattle.std.specs.Prelude.{◌≡◌, ◌<◌, ◌==◌, ◌∷◌, ◌++◌, ℕ, List, OnOk, OnErr, IsErrOf, [], length, position};
 ghost use Rattle.std.specs.Str.Lines.{lines, strip_carriage_return};
 ghost use Rattle.desk_edge.specs.Count.{raised};
 ghost use Rattle.desk_edge.specs.Sink.{appended};
 ghost use Rattle.line_feed.specs.Answers.{Answers, Hears, PutsFront};
-ghost use Rattle.line_feed.specs.Hearing.{IsOpen, kept_with};
+ghost use Rattle.line_feed.specs.Hearing.{HasNoEnd, IsOpen, kept_with};
 ghost use Rattle.line_feed.specs.declared.answerer.TheConstants.{MOST_LINE};
 
 use crate::putting::{put, put_front};
 use crate::{AnswerFault, Answerer, MOST_LINE};
 use desk_edge::Sink;
 use std::alloc::AllocError;
+use std::cmp::min;
 
 // How many bytes are kept of a line that has not ended. Of a longer one this front is longer than a line may be, even
 // without a carriage return at its end.
@@ -40,25 +41,61 @@ pub(crate) fn hear<A: Answerer, K: Sink>(
     ensures once { IsErrOf result AnswerFault.Write → K.faults out.new ≡ raised (K.faults out.old) }
     ensures no_read { IsErrOf result AnswerFault.Read → ⊥ }
 {
-    for byte in piece {
-        if *byte == b'\n' {
-            answer_line(answerer, without_return(line), answers, out)?;
-            line.clear();
-        } else {
-            keep(*byte, line)?;
-        }
+    let mut rest = piece;
+    while let Some(end) = end_of(rest) {
+        hear_line(answerer, &rest[..end], line, answers, out)?;
+        rest = &rest[end + 1..];
     }
+    keep(rest, line)?;
     Ok(())
 }
 
-// Adds a byte to a line that has not ended.
-fn keep(byte: u8, line: &mut Vec<u8>) -> Result<(), AllocError>
-    ensures { OnOk result (line.new.items ≡ kept_with line.old.items byte) }
+// The place of the first newline.
+fn end_of(bytes: &[u8]) -> Option<usize>
+    ensures { result ≡ position (λ byte. byte == 10) bytes.now }
 {
-    if line.len() < MOST_KEPT {
-        line.push(byte)?;
+    bytes.iter().position(|byte| *byte == b'\n')
+}
+
+// Answers a line that ends behind these bytes. Where nothing was kept of it, it is answered as it lies there.
+fn hear_line<A: Answerer, K: Sink>(
+    answerer: &mut A,
+    text: &[u8],
+    line: &mut Vec<u8>,
+    answers: &mut Vec<u8>,
+    out: &mut K,
+) -> Result<(), AnswerFault>
+    requires can { A.can answerer.old }
+    requires unended { HasNoEnd text.now }
+    ensures kept { A.kept answerer.new ≡ A.kept answerer.old }
+    ensures can { OnOk result (A.can answerer.new) }
+    ensures ok { OnOk result ((part : List ℕ) → IsOpen part line.old.items
+        → Hears part (text.now ++ 10 ∷ []) [] (A.told answerer.old) (A.told answerer.new) (A.called answerer.old) (A.called answerer.new)
+        (appended answers.old.items (K.bytes out.old)) (appended answers.new.items (K.bytes out.new))) }
+    ensures empty { OnOk result (line.new.items ≡ []) }
+    ensures err { OnErr result ((part : List ℕ) → IsOpen part line.old.items → (rest : List ℕ)
+        → PutsFront (answers.old.items ++ A.told answerer.old (lines (part ++ (text.now ++ 10 ∷ rest)))) (K.bytes out.old) (K.bytes out.new)) }
+    ensures grows { (said : List ℕ) × (K.bytes out.new ≡ appended said (K.bytes out.old)) }
+    ensures clean { OnOk result (K.faults out.new ≡ K.faults out.old) }
+    ensures once { IsErrOf result AnswerFault.Write → K.faults out.new ≡ raised (K.faults out.old) }
+    ensures no_read { IsErrOf result AnswerFault.Read → ⊥ }
+{
+    if line.is_empty() {
+        return answer_line(answerer, without_return(text), answers, out);
     }
+    keep(text, line)?;
+    answer_line(answerer, without_return(line), answers, out)?;
+    line.clear();
     Ok(())
+}
+
+// Adds bytes to a line that has not ended.
+fn keep(bytes: &[u8], line: &mut Vec<u8>) -> Result<(), AllocError>
+    ensures { OnOk result (line.new.items ≡ kept_with line.old.items bytes.now) }
+{
+    let room = MOST_KEPT.saturating_sub(line.len());
+    let count = min(room, bytes.len());
+    line.extend_from_slice(&bytes[..count])
 }
 
 // The line without one carriage return at its end.

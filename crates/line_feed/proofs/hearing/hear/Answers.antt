@@ -1,98 +1,99 @@
-use Rattle.std.proofs.Common.{◌≡◌, ◌∙◌, ap, sym, subst, refl, ℕ, ◌==◌, false, List, [], ◌∷◌, ◌++◌, get_or, arith}
-use Rattle.std.proofs.lemmas.Bool.Decides.{nat_tests}
+use Rattle.std.proofs.Common.{◌≡◌, ◌∙◌, ap, sym, subst, refl, ℕ, ◌+◌, ◌-◌, List, [], ◌∷◌, ◌++◌, length, take, drop, append_assoc, arith}
 use Rattle.std.proofs.Math.Seq.{take_all}
-use Rattle.std.specs.Str.Lines.{strip_carriage_return}
+use Rattle.std.proofs.lemmas.List.{length-drop}
+use Rattle.std.specs.Str.Lines.{lines}
 use Rattle.desk_edge.specs.Sink.{appended}
-use Rattle.line_feed.specs.Answers.{Answers, Hears, PutsFront}
+use Rattle.line_feed.specs.Answers.{Hears, PutsFront}
 use Rattle.line_feed.specs.Hearing.{IsOpen}
-use Rattle.line_feed.proofs.Lines.{open_more}
-use Rattle.line_feed.proofs.Fronts.{put_both}
-use Rattle.line_feed.proofs.Pieces.{LongAsThis, heard_byte, heard_line, fails_here, fails_line}
+use Rattle.line_feed.proofs.Lines.{open_more, ends_nowhere, ends_at}
+use Rattle.line_feed.proofs.Fronts.{put_both, put_none}
+use Rattle.line_feed.proofs.Heard.{heard_more, heard_then, heard_front}
 use Rattle.line_feed.proofs.Ended.{err_with, open_none}
-use Rattle.line_feed.proofs.hearing.hear.Goals.{then-byte-eq10+in_ok-answer_line, else-byte-eq10+in_ok-keep}
 use Rattle.line_feed.proofs.hearing.hear.Goals as goal
 
-pub returns-in_err-answer_line-clause-err : goal.returns-in_err-answer_line-clause-err
-returns-in_err-answer_line-clause-err g c =
-    let loop = c.loop-byte in
-    let told = g.A.Answerer.told loop.answerer in
-    let called = g.A.Answerer.called loop.answerer in
-    let is : c.without_return.result.now ≡ strip_carriage_return loop.line.items = c.without_return.ensures ∙ ap strip_carriage_return c.deref.ensures.value in
-    let newline : get_or c.args.piece.now loop.byte-index 0 ≡ 10 = grind (arith, nat_tests, c.if-byte-eq10.true) in
-    err_with c.from_residual.result (λ part begun rest.
-    let before = loop.invariant.heard part begun in
-    fails_line _ told _ called part before.0 c.args.answers.now.items loop.answers.items c.args.piece.now loop.byte-index (g.K.Sink.bytes c.args.out.now)
-    (g.K.Sink.bytes loop.out) before.2 loop.invariant.grows (g.K.Sink.bytes c.answer_line.new.out) rest loop.line.items c.loop-byte-test.true newline before.1
-    (subst (λ (l : List ℕ). LongAsThis told called l) is c.answer_line.ensures.long)
-    (λ more. subst (λ (l : List ℕ). PutsFront (loop.answers.items ++ told (l ∷ more)) (g.K.Sink.bytes loop.out) (g.K.Sink.bytes c.answer_line.new.out)) is
-    (c.in_err-answer_line.ensures.err more)))
+pub hear_line-requires-clause-unended : goal.hear_line-requires-clause-unended
+hear_line-requires-clause-unended g c = (ends_at c.loop-end.rest.now c.in-Some.end (sym c.end_of.ensures ∙ c.in-Some.is)).1
 
-pub returns-in_err-answer_line-clause-grows : goal.returns-in_err-answer_line-clause-grows
-returns-in_err-answer_line-clause-grows g c =
-    let before = c.loop-byte.invariant.grows in
-    let more = c.answer_line.ensures.grows in
+pub returns-in_err-hear_line-clause-err : goal.returns-in_err-hear_line-clause-err
+returns-in_err-hear_line-clause-err g c =
+    let loop = c.loop-end in
+    let i = loop.invariant in
+    let first = ends_at loop.rest.now c.in-Some.end (sym c.end_of.ensures ∙ c.in-Some.is) in
+    let text = take c.in-Some.end loop.rest.now in
+    let more = drop (c.in-Some.end + 1) loop.rest.now in
+    err_with c.from_residual.result (λ part begun rest.
+    let before = i.heard part begun in
+    let cut : i.done ++ (loop.rest.now ++ rest) ≡ c.args.piece.now ++ rest =
+    sym (append_assoc i.done loop.rest.now rest) ∙ ap (λ (l : List ℕ). l ++ rest) (sym i.whole) in
+    let split : text ++ 10 ∷ (more ++ rest) ≡ loop.rest.now ++ rest =
+    sym (append_assoc text (10 ∷ more) rest) ∙ ap (λ (l : List ℕ). l ++ rest) (sym first.2) in
+    subst (λ (l : List ℕ). PutsFront (c.args.answers.now.items ++ g.A.Answerer.told c.args.answerer.now (lines (part ++ l))) (g.K.Sink.bytes c.args.out.now)
+    (g.K.Sink.bytes c.hear_line.new.out)) cut
+    (heard_front (g.A.Answerer.told c.args.answerer.now) (g.A.Answerer.called c.args.answerer.now) part _ (g.A.Answerer.told loop.answerer)
+    (g.A.Answerer.called loop.answerer) i.done before.0 _ before.2 (g.K.Sink.bytes c.args.out.now) (g.K.Sink.bytes loop.out) (g.K.Sink.bytes c.hear_line.new.out)
+    loop.answers.items c.args.answers.now.items i.grows.0 _ (loop.rest.now ++ rest) refl refl i.grows.1
+    (ap (λ (l : List ℕ). g.A.Answerer.told loop.answerer (lines (before.0 ++ l))) (sym split))
+    (c.in_err-hear_line.ensures.err before.0 before.1 (more ++ rest))))
+
+pub returns-in_err-hear_line-clause-grows : goal.returns-in_err-hear_line-clause-grows
+returns-in_err-hear_line-clause-grows g c =
+    let before = c.loop-end.invariant.grows in
+    let more = c.hear_line.ensures.grows in
     (before.0 ++ more.0, put_both before.0 more.0 _ _ _ before.1 more.1)
+
+pub loop-end-preserved : goal.loop-end-preserved
+loop-end-preserved g c =
+    let loop = c.loop-end in
+    let i = loop.invariant in
+    let first = ends_at loop.rest.now c.in-Some.end (sym c.end_of.ensures ∙ c.in-Some.is) in
+    let text = take c.in-Some.end loop.rest.now in
+    let more = drop (c.in-Some.end + 1) loop.rest.now in
+    let grew = c.hear_line.ensures.grows in
+    let tail : take (length loop.rest.now - (c.in-Some.end + 1)) more ≡ more =
+    take_all _ more (omega (arith, length-drop (c.in-Some.end + 1) loop.rest.now)) in
+    record {
+      kept = c.hear_line.ensures.kept ∙ i.kept;
+      can = c.in_ok-hear_line.ensures.can;
+      done = i.done ++ (text ++ 10 ∷ []);
+      whole = i.whole ∙ ap (λ (l : List ℕ). i.done ++ l) (first.2 ∙ sym (append_assoc text (10 ∷ []) more)) ∙ sym (append_assoc i.done (text ++ 10 ∷ []) more)
+          ∙ ap (λ (l : List ℕ). (i.done ++ (text ++ 10 ∷ [])) ++ l) (sym tail);
+      heard = λ part begun.
+          let before = i.heard part begun in (
+            [],
+            open_none _ c.in_ok-hear_line.ensures.empty,
+            heard_then (g.A.Answerer.told c.args.answerer.now) (g.A.Answerer.called c.args.answerer.now) part _ (g.A.Answerer.told loop.answerer)
+                (g.A.Answerer.called loop.answerer) i.done before.0 _ before.2 _ _ (text ++ 10 ∷ []) [] _
+                (c.in_ok-hear_line.ensures.ok before.0 before.1),
+          );
+      grows = (i.grows.0 ++ grew.0, put_both i.grows.0 grew.0 _ _ _ i.grows.1 grew.1);
+      faults = c.in_ok-hear_line.ensures.clean ∙ i.faults;
+    }
 
 pub returns-in_err-keep-clause-err : goal.returns-in_err-keep-clause-err
 returns-in_err-keep-clause-err g c =
-    let loop = c.loop-byte in
+    let loop = c.loop-end in
+    let i = loop.invariant in
     err_with c.from_residual-in_err-keep.result (λ part begun rest.
-    let before = loop.invariant.heard part begun in
-    fails_here _ _ _ _ part before.0 c.args.answers.now.items loop.answers.items c.args.piece.now loop.byte-index (g.K.Sink.bytes c.args.out.now)
-    (g.K.Sink.bytes loop.out) before.2 loop.invariant.grows (g.K.Sink.bytes loop.out) rest refl)
-
-pub loop-byte-preserved : goal.loop-byte-preserved
-loop-byte-preserved g c =
-    let loop = c.loop-byte in
-    let told = g.A.Answerer.told loop.answerer in
-    let called = g.A.Answerer.called loop.answerer in
-    elim c.if-byte-eq10.branch [
-      | then-byte-eq10+in_ok-answer_line w ↦
-          let is : w.without_return.result.now ≡ strip_carriage_return loop.line.items = w.without_return.ensures ∙ ap strip_carriage_return w.deref.ensures.value in
-          let newline : get_or c.args.piece.now loop.byte-index 0 ≡ 10 = grind (arith, nat_tests, w.if-byte-eq10.true) in
-          let more = w.answer_line.ensures.grows in
-          rw (w.answerer-is, w.line-is, w.answers-is, w.out-is) (record {
-            kept = w.answer_line.ensures.kept ∙ loop.invariant.kept;
-            can = w.in_ok-answer_line.ensures.can;
-            heard = λ part begun.
-                let before = loop.invariant.heard part begun in (
-                  [],
-                  open_none _ w.clear.ensures.items,
-                  heard_line _ told _ called part before.0 c.args.answers.now.items loop.answers.items c.args.piece.now loop.byte-index
-                      (g.K.Sink.bytes c.args.out.now) (g.K.Sink.bytes loop.out) before.2 loop.line.items _ _ _ c.loop-byte-test.true newline before.1
-                      (subst (λ (l : List ℕ). LongAsThis told called l) is w.answer_line.ensures.long)
-                      (subst (λ (l : List ℕ). Answers l told (g.A.Answerer.told w.answer_line.new.answerer) called (g.A.Answerer.called w.answer_line.new.answerer)
-                      (appended loop.answers.items (g.K.Sink.bytes loop.out)) (appended w.answer_line.new.answers.items (g.K.Sink.bytes w.answer_line.new.out)))
-                      is w.in_ok-answer_line.ensures.ok),
-                );
-            grows = (loop.invariant.grows.0 ++ more.0, put_both loop.invariant.grows.0 more.0 _ _ _ loop.invariant.grows.1 more.1);
-            faults = w.in_ok-answer_line.ensures.clean ∙ loop.invariant.faults;
-          })
-      | else-byte-eq10+in_ok-keep w ↦
-          let byte = get_or c.args.piece.now loop.byte-index 0 in
-          let other : (byte == 10) ≡ false = grind (arith, nat_tests, w.if-byte-eq10.false) in
-          rw (w.answerer-is, w.line-is, w.answers-is, w.out-is) (record {
-            kept = loop.invariant.kept;
-            can = loop.invariant.can;
-            heard = λ part begun.
-                let before = loop.invariant.heard part begun in (
-                  before.0 ++ byte ∷ [],
-                  subst (λ (l : List ℕ). IsOpen (before.0 ++ byte ∷ []) l) (sym {A = List ℕ} w.in_ok-keep.ensures) (open_more before.0 loop.line.items byte before.1 other),
-                  heard_byte _ told _ called part before.0 c.args.answers.now.items loop.answers.items c.args.piece.now loop.byte-index
-                      (g.K.Sink.bytes c.args.out.now) (g.K.Sink.bytes loop.out) before.2 c.loop-byte-test.true,
-                );
-            grows = loop.invariant.grows;
-            faults = loop.invariant.faults;
-          })
-    ]
+    let before = i.heard part begun in
+    let cut : i.done ++ (loop.rest.now ++ rest) ≡ c.args.piece.now ++ rest =
+    sym (append_assoc i.done loop.rest.now rest) ∙ ap (λ (l : List ℕ). l ++ rest) (sym i.whole) in
+    subst (λ (l : List ℕ). PutsFront (c.args.answers.now.items ++ g.A.Answerer.told c.args.answerer.now (lines (part ++ l))) (g.K.Sink.bytes c.args.out.now)
+    (g.K.Sink.bytes loop.out)) cut
+    (heard_front (g.A.Answerer.told c.args.answerer.now) (g.A.Answerer.called c.args.answerer.now) part _ (g.A.Answerer.told loop.answerer)
+    (g.A.Answerer.called loop.answerer) i.done before.0 _ before.2 (g.K.Sink.bytes c.args.out.now) (g.K.Sink.bytes loop.out) (g.K.Sink.bytes loop.out)
+    loop.answers.items c.args.answers.now.items i.grows.0 _ (loop.rest.now ++ rest) refl refl i.grows.1 refl (put_none _ _)))
 
 pub returns-clause-ok : goal.returns-clause-ok
 returns-clause-ok g c = λ part begun.
-    let loop = c.loop-byte in
-    let before = loop.invariant.heard part begun in (
-      before.0,
-      before.1,
-      subst (λ (l : List ℕ). Hears part l before.0 (g.A.Answerer.told c.args.answerer.now) (g.A.Answerer.told loop.answerer)
+    let loop = c.loop-end in
+    let i = loop.invariant in
+    let before = i.heard part begun in
+    let none = ends_nowhere loop.rest.now (sym c.end_of.ensures ∙ c.in_default.is) in (
+      before.0 ++ loop.rest.now,
+      subst (λ (l : List ℕ). IsOpen (before.0 ++ loop.rest.now) l) (sym {A = List ℕ} c.in_ok-keep.ensures) (open_more before.0 loop.line.items loop.rest.now before.1 none),
+      subst (λ (l : List ℕ). Hears part l (before.0 ++ loop.rest.now) (g.A.Answerer.told c.args.answerer.now) (g.A.Answerer.told loop.answerer)
           (g.A.Answerer.called c.args.answerer.now) (g.A.Answerer.called loop.answerer) (appended c.args.answers.now.items (g.K.Sink.bytes c.args.out.now))
-          (appended loop.answers.items (g.K.Sink.bytes loop.out))) (take_all loop.byte-index c.args.piece.now (omega (arith, c.loop-byte-test.false))) before.2,
+          (appended loop.answers.items (g.K.Sink.bytes loop.out))) (sym i.whole)
+          (heard_more (g.A.Answerer.told c.args.answerer.now) (g.A.Answerer.called c.args.answerer.now) part _ (g.A.Answerer.told loop.answerer)
+          (g.A.Answerer.called loop.answerer) i.done before.0 _ before.2 loop.rest.now),
     )

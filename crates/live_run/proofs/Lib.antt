@@ -1,0 +1,4 @@
+mod Asked
+mod Ended
+mod Played
+mod Replied

@@ -1,0 +1,41 @@
+use Rattle.std.proofs.Common.{subst}
+use Rattle.std.proofs.lemmas.Result.{err_from_is_err_and}
+use Rattle.desk_terms.specs.Reading.{Calc}
+use Rattle.session_model.specs.Course.{Meaning}
+use Rattle.session_model.specs.Rounds.{transcript, calls_of}
+use Rattle.live_model.specs.Live.{Live}
+use Rattle.live_run.specs.Ends.{outside, ended, Ends}
+use Rattle.live_run.specs.Replies.{replies_of, played}
+use Rattle.live_run.proofs.Ended.{ends_early, ends_behind}
+use Rattle.live_run.proofs.conversing.converse_with.Goals as goal
+
+pub returns-in_err-play-clause-ends : goal.returns-in_err-play-clause-ends
+returns-in_err-play-clause-ends g c =
+    let m : Meaning g.row.P.Denot = record { calc = g.B.Bench.calc c.args.bench.now; at = g.P.Picker.at; after = g.P.Picker.after } in
+    let s = c.args.session.now in
+    let from = c.from_residual in
+    let p = err_from_is_err_and from.result from.ensures.1 in
+    rw (p.1, p.2) (ends_early m c.args.ready (transcript m s.running c.args.commands.now) (calls_of m s.running c.args.commands.now)
+    (replies_of m c.args.ready (played m s c.args.commands.now)) (g.F.Feed.content c.args.feed.now)
+    (outside (g.K.Sink.bytes c.args.out.now) (g.K.Sink.sent c.args.out.now) (g.B.Bench.count c.args.bench.now) (g.B.Bench.log c.args.bench.now))
+    (outside (g.K.Sink.bytes c.play.new.out) (g.K.Sink.sent c.play.new.out) (g.B.Bench.count c.play.new.bench) (g.B.Bench.log c.play.new.bench))
+    c.in_err-play.field-0.0 c.in_err-play.ensures.late c.in_err-play.ensures.front)
+
+pub returns-clause-ends : goal.returns-clause-ends
+returns-clause-ends g c =
+    let m : Meaning g.row.P.Denot = record { calc = g.B.Bench.calc c.args.bench.now; at = g.P.Picker.at; after = g.P.Picker.after } in
+    let s = c.args.session.now in
+    let commands = c.args.commands.now in
+    let ready = c.args.ready in
+    let content = g.F.Feed.content c.args.feed.now in
+    let left = g.F.Feed.content c.listen.new.feed in
+    let old = outside (g.K.Sink.bytes c.args.out.now) (g.K.Sink.sent c.args.out.now) (g.B.Bench.count c.args.bench.now) (g.B.Bench.log c.args.bench.now) in
+    let mid = outside (g.K.Sink.bytes c.play.new.out) (g.K.Sink.sent c.play.new.out) (g.B.Bench.count c.play.new.bench) (g.B.Bench.log c.play.new.bench) in
+    let new = outside (g.K.Sink.bytes c.listen.new.out) (g.K.Sink.sent c.listen.new.out) (g.B.Bench.count c.listen.new.bench) (g.B.Bench.log c.listen.new.bench) in
+    let status = ended c.listen.result in
+    let round = c.in_ok-play.ensures in
+    let same = subst (λ (k : Calc). Ends (record m { calc = k }) ready (replies_of (record m { calc = k }) ready c.play.new.session) content left mid new status)
+    c.play.ensures.same c.listen.ensures.ends in
+    let ends = subst (λ (l : Live g.row.P.Denot). Ends m ready (replies_of m ready l) content left mid new status) round.next same in
+    ends_behind (transcript m s.running commands) (calls_of m s.running commands) (replies_of m ready (played m s commands)) content left old mid new
+    round.written round.count round.log m ready status ends

@@ -1,0 +1,21 @@
+use Rattle.std.proofs.Common.{◌≡◌, false, drop}
+use Rattle.std.specs.Prelude.{All}
+use Rattle.desk_model.specs.Sound.{IsSound}
+use Rattle.session_model.specs.Standing.{IsKnown}
+use Rattle.live_run.specs.Ends.{outside}
+use Rattle.live_run.proofs.Played.{Progress}
+use Rattle.live_run.proofs.playing.play.Given as goal
+
+abbrev pub invariant-loop-command : goal.invariant-loop-command
+invariant-loop-command g l = record {
+  same : g.B.Bench.calc l.bench ≡ g.B.Bench.calc l.initial.bench;
+  progress : Progress (record { calc = g.B.Bench.calc l.initial.bench; at = g.P.Picker.at; after = g.P.Picker.after })
+      l.initial.session l.commands
+      (outside (g.K.Sink.bytes l.initial.out) (g.K.Sink.sent l.initial.out) (g.B.Bench.count l.initial.bench) (g.B.Bench.log l.initial.bench))
+      (drop l.command-index l.commands) l.session
+      (outside (g.K.Sink.bytes l.out) (g.K.Sink.sent l.out) (g.B.Bench.count l.bench) (g.B.Bench.log l.bench));
+  known : All (IsKnown l.session.running.standing) (drop l.command-index l.commands);
+  sound : IsSound (g.B.Bench.calc l.initial.bench) l.session.running.standing.state;
+  running : l.session.running.standing.stopped ≡ false;
+  faults : g.K.Sink.faults l.out ≡ g.K.Sink.faults l.initial.out;
+}

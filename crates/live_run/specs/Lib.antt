@@ -1,0 +1,5 @@
+pub mod Ends
+pub mod Replies
+pub mod Rows
+pub mod Verdict
+pub mod Words

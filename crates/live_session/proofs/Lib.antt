@@ -1,3 +1,4 @@
+pub mod Beside
 mod Done
 mod Learnt
 mod LinesRead

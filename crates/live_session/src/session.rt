@@ -7,10 +7,7 @@ ghost use Rattle.session_rounds.specs.Goes.{Does, Halts, Stays};
 ghost use Rattle.live_model.specs.Live.{live_from, said};
 ghost use Rattle.live_session.specs.Saying.{IsSaid, as_course, IsCutShort};
 
-use crate::SayFault;
-use crate::answering::answer;
-use crate::blocks::Blocks;
-use crate::reader::Reader;
+use crate::{Lines, SayFault};
 use desk_names::Names;
 use desk_terms::Bench;
 use session_commands::Command;
@@ -24,10 +21,7 @@ use watch_rounds::Picker;
 /// how many lines were said.
 pub struct LineSession<P> {
     session: WatchedSession<P>,
-    blocks: Blocks,
-    line: u64,
-    reader: Reader,
-    alloc: Global,
+    lines: Lines,
 }
 
 // Who lets a session go calls this at each exit, and does not let its parts go one by one.
@@ -35,24 +29,20 @@ impl<P: Drop> Drop for LineSession<P> {
     fn drop(self) {
         let LineSession {
             session: _,
-            blocks: _,
-            line: _,
-            reader: _,
-            alloc: _,
+            lines: _,
         } = self;
     }
 }
 
 impl<P> Model for LineSession<P> {
     ghost use Rattle.live_model.specs.Live.{Live};
-    ghost use Rattle.live_session.specs.Standing.{Stands};
+    ghost use Rattle.live_session.specs.Lines.{live_of, StandBy};
 
     ghost Value = { Live P };
 
-    ghost view = { λ s. record { running = s.session; begun = s.blocks.begun; block = s.blocks.block; line = s.line } };
+    ghost view = { λ s. live_of s.session s.lines };
 
-    ghost invariant = { λ s. Stands P (record { running = s.session; begun = s.blocks.begun; block = s.blocks.block; line = s.line })
-        s.reader.names s.reader.begun };
+    ghost invariant = { λ s. StandBy P s.session s.lines };
 }
 
 impl<P: Picker + Drop> LineSession<P> {
@@ -63,10 +53,7 @@ impl<P: Picker + Drop> LineSession<P> {
     {
         LineSession {
             session,
-            blocks: Blocks { begun, block: None },
-            line: 0,
-            reader: Reader::new(alloc),
-            alloc,
+            lines: Lines::new(alloc, begun),
         }
     }
 }
@@ -90,7 +77,7 @@ impl<P: Picker> LineSession<P> {
     pub fn line(&self) -> u64
         ensures { result ≡ self.now.line }
     {
-        self.line
+        self.lines.count()
     }
 
     /// The line at which the block began that stands open, if one does, counted from 1.
@@ -98,22 +85,14 @@ impl<P: Picker> LineSession<P> {
         ensures none { (result ≡ None) ↔ (self.now.block ≡ None) }
         ensures line { IfSome result (λ line. IfSome self.now.block (λ block. line ≡ block.line)) }
     {
-        match &self.blocks.block {
-            Some(block) => Some(block.line),
-            None => None,
-        }
+        self.lines.open_block()
     }
 
     /// How many actions it has, without the block that stands open.
     pub fn actions(&self) -> usize
         ensures { result ≡ length self.now.running.standing.actions }
     {
-        let begun = self.blocks.begun.len() as usize;
-        if self.blocks.is_open() {
-            begun - 1
-        } else {
-            begun
-        }
+        self.lines.actions(&self.session)
     }
 
     /// Runs the round of a command, as a session does that is not spoken to. No line is counted.
@@ -172,28 +151,6 @@ impl<P: Picker> LineSession<P> {
         ensures kept { IsErrOf result SayFault.Stopped ⊎ IsErrOf result SayFault.TooManyLines
             → (self.new ≡ self.old) × (out.new.items ≡ out.old.items) × (bench.new ≡ bench.old) }
     {
-        if self.session.is_stopped() {
-            return Err(SayFault::Stopped);
-        }
-        if self.line == u64::MAX {
-            return Err(SayFault::TooManyLines);
-        }
-        let done = answer(
-            self.alloc,
-            &mut self.session,
-            &mut self.blocks,
-            &mut self.reader,
-            self.line,
-            line,
-            bench,
-            out,
-        );
-        match done {
-            Ok(()) => {
-                self.line += 1;
-                Ok(())
-            }
-            Err(AllocError) => Err(SayFault::NoMemory),
-        }
+        self.lines.say(&mut self.session, line, bench, out)
     }
 }

@@ -1,9 +1,5 @@
-use Rattle.live_session.proofs.Learnt.{empty_copy}
+use Rattle.live_session.proofs.Beside.{begins_beside}
 use Rattle.live_session.proofs.session.LineSession.new.Goals as goal
 
 pub invariant_of-result : goal.invariant_of-result
-invariant_of-result g c = record {
-  copied = empty_copy _ _ c.new.ensures.names;
-  begun = empty_copy _ _ c.new.ensures.begun;
-  block = c.requires.named;
-}
+invariant_of-result g c = begins_beside g.row.P.Denot c.args.session c.args.begun _ c.new.ensures c.requires.named

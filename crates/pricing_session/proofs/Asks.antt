@@ -1,6 +1,7 @@
 -- An ask leaves every name with its object, and does what the turn of the command does.
 use Rattle.std.proofs.Common.{◌≡◌, ◌∙◌, ℕ, Bool, List, ℤ, Option, Result, Ok, Err, refl, sym, ap, subst}
 use Rattle.desk_terms.specs.declared.asked.Asked.{Asked}
+use Rattle.desk_terms.specs.declared.cause.Cause.{Cause}
 use Rattle.desk_terms.specs.declared.value.Value.{Value}
 use Rattle.desk_terms.specs.declared.value.Value.TheVariants.{Money, Curve}
 use Rattle.desk_terms.specs.Asked.{Shows}
@@ -18,9 +19,11 @@ use Rattle.session_model.specs.Standing.{Standing}
 use Rattle.session_model.specs.Turn.{step, effect_of, done_as, turn}
 use Rattle.session_core.specs.Pricing.{Prices}
 use Rattle.session_core.specs.Values.{value_found, value_of}
+use Rattle.pricing_session.specs.declared.answer.Worth.{Worth}
 use Rattle.pricing_session.specs.declared.fault.PriceFault.{PriceFault}
 use Rattle.pricing_session.specs.declared.fault.PriceFault.TheVariants as price
-use Rattle.pricing_session.specs.Asking.{IsAsked, AnswersPrice, price_in}
+use Rattle.pricing_session.specs.Asking.{IsAsked, IsAnswered, AnswersPrice, price_in}
+use Rattle.pricing_session.specs.Worth.{worth_in}
 
 -- the session after an ask of o
 abbrev pub after_ask : Calc → ℕ → Standing → Standing
@@ -83,3 +86,14 @@ module _ (calc : Calc) (name : ℕ) (old new : Standing) (answer : Asked) (count
       by_result (Err (price.Unpriced cause)) is = record { answer = answer; asked = was; price = is }
       by_result (Err price.NotMoney) is = record { answer = answer; asked = was; price = is }
       by_result (Err price.NoMemory) is = absurd (no_want outcome is)
+
+  -- what it shows is the worth
+  pub is_answered : (was : IsAsked calc name old new answer count_old count_new log_old log_new) (worth : Result Worth Cause)
+      → ((outcome : Outcome) → Shows answer.cause (value_of new name) outcome → worth ≡ worth_in outcome)
+      → IsAnswered calc name old new (record { worth = worth; mark = answer.mark; runs = answer.runs }) count_old count_new log_old log_new
+  is_answered was worth shows = record {
+    cause = answer.cause;
+    asked = was;
+    worth = shows (asking calc was.object old.state).outcome
+        (subst (λ (v : Option Value). Shows answer.cause v (asking calc was.object old.state).outcome) (sym was.value) was.prices.shown);
+  }

@@ -1,6 +1,7 @@
 -- What an ask by number answers, and what an object is worth.
 use Rattle.std.specs.Prelude.{◌≡◌, ℕ, Bool, List, ℤ, Option, Result, Ok, Err}
 use Rattle.desk_terms.specs.declared.asked.Asked.{Asked}
+use Rattle.desk_terms.specs.declared.cause.Cause.{Cause}
 use Rattle.desk_terms.specs.declared.value.Value.TheVariants.{Money, Curve}
 use Rattle.desk_terms.specs.Reading.{Outcome, Calc}
 use Rattle.desk_model.specs.State.{kept_at}
@@ -10,10 +11,12 @@ use Rattle.session_model.specs.Resolve.{find}
 use Rattle.session_model.specs.Standing.{Standing}
 use Rattle.session_core.specs.Pricing.{Prices, StopsShort}
 use Rattle.session_core.specs.Values.{value_of}
+use Rattle.pricing_session.specs.declared.answer.Answer.{Answer}
 use Rattle.pricing_session.specs.declared.fault.AskFault.{AskFault}
 use Rattle.pricing_session.specs.declared.fault.AskFault.TheVariants as ask
 use Rattle.pricing_session.specs.declared.fault.PriceFault.{PriceFault}
 use Rattle.pricing_session.specs.declared.fault.PriceFault.TheVariants as price
+use Rattle.pricing_session.specs.Worth.{worth_in}
 
 -- the live lazy object that has the name is asked, and its last value after it is the one by its name
 pub record IsAsked (calc : Calc) (name : ℕ) (old new : Standing) (answer : Asked) (count_old count_new : ℕ)
@@ -39,6 +42,13 @@ AnswersAsk calc name old new (Err (ask.Refused refusal)) count_old count_new log
     find Priced old name ≡ Err refusal
 AnswersAsk calc name old new (Err ask.NoMemory) count_old count_new log_old log_new =
     IsCutShort calc name old new count_old count_new log_old log_new
+
+-- an ask is answered with what the object is worth, how the answer stands to the market, and the number of computations
+pub record IsAnswered (calc : Calc) (name : ℕ) (old new : Standing) (answer : Answer) (count_old count_new : ℕ)
+    (log_old log_new : Option (List (ℕ × Bool))) : Type 0 where
+  pub cause : Option Cause
+  pub asked : IsAsked calc name old new (record { cause = cause; mark = answer.mark; runs = answer.runs }) count_old count_new log_old log_new
+  pub worth : answer.worth ≡ worth_in (asking calc asked.object old.state).outcome
 
 -- the price that an outcome is: an amount, which no curve is
 abbrev pub price_in : Outcome → Result ℤ PriceFault

@@ -29,6 +29,8 @@ impl<P: Picker + Drop, B: Bench + Drop> PricingSession<P, B> {
         ensures turns { OnOk result (self.new.running.standing
             ≡ (turn (B.calc self.old.bench) self.old.running.standing (Ask name)).next) }
         ensures rounds { self.new.running ≡ record self.old.running { standing = self.new.running.standing } }
+        ensures names { self.new.running.standing.names ≡ self.old.running.standing.names }
+        ensures actions { self.new.running.standing.actions ≡ self.old.running.standing.actions }
         ensures calc { B.calc self.new.bench ≡ B.calc self.old.bench }
         ensures same { (refusal : Refusal) → result ≡ Err (ask.Refused refusal) → self.new ≡ self.old }
     {
@@ -41,6 +43,8 @@ impl<P: Picker + Drop, B: Bench + Drop> PricingSession<P, B> {
         ensures answers { AnswersPrice (B.calc self.old.bench) name self.old.running.standing self.new.running.standing result
             (B.count self.old.bench) (B.count self.new.bench) (B.log self.old.bench) (B.log self.new.bench) }
         ensures rounds { self.new.running ≡ record self.old.running { standing = self.new.running.standing } }
+        ensures names { self.new.running.standing.names ≡ self.old.running.standing.names }
+        ensures actions { self.new.running.standing.actions ≡ self.old.running.standing.actions }
         ensures calc { B.calc self.new.bench ≡ B.calc self.old.bench }
         ensures same { (refusal : Refusal) → result ≡ Err (price.Refused refusal) → self.new ≡ self.old }
     {
@@ -64,6 +68,7 @@ fn asked<P: Picker + Drop, B: Bench + Drop>(
         (B.count bench.old) (B.count bench.new) (B.log bench.old) (B.log bench.new) }
     ensures turns { OnOk result (session.new.standing ≡ (turn (B.calc bench.old) session.old.standing (Ask name)).next) }
     ensures rounds { session.new ≡ record session.old { standing = session.new.standing } }
+    ensures names { session.new.standing.names ≡ session.old.standing.names }
     ensures actions { session.new.standing.actions ≡ session.old.standing.actions }
     ensures calc { B.calc bench.new ≡ B.calc bench.old }
     ensures sound { IsSound (B.calc bench.old) session.new.standing.state }

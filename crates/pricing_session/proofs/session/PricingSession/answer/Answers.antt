@@ -1,0 +1,13 @@
+use Rattle.std.proofs.Common.{Option, sym, subst}
+use Rattle.desk_terms.specs.declared.value.Value.{Value}
+use Rattle.desk_terms.specs.Asked.{Shows}
+use Rattle.pricing_session.proofs.Asks.{is_answered}
+use Rattle.pricing_session.proofs.session.PricingSession.answer.Goals as goal
+
+pub returns-in-Ok-clause-answers : goal.returns-in-Ok-clause-answers
+returns-in-Ok-clause-answers g c =
+    is_answered (g.B.Bench.calc c.args.self.now.bench) c.args.name c.args.self.now.running.standing c.ask.new.self.running.standing c.in-Ok.asked
+    (g.B.Bench.count c.args.self.now.bench) (g.B.Bench.count c.ask.new.self.bench) (g.B.Bench.log c.args.self.now.bench)
+    (g.B.Bench.log c.ask.new.self.bench) c.in-Ok.ensures.answers c.worth_of.result
+    (λ outcome shows. c.worth_of.ensures outcome
+    (subst (λ (v : Option Value). Shows c.in-Ok.asked.cause v outcome) (sym c.value.ensures) shows))

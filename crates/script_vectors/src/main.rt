@@ -2,13 +2,14 @@
 //! independent model of the session writes: prints each case that differs, and how many agree.
 //! Then runs one script with each call of the shelf and of the sink failing in turn, and compares how many calls were
 //! made, failed and missed, how many bytes were written, and the exit status with its line. Then the tools over whole cases
-//! of their own, and scripts that are printed and read back.
+//! of their own, the scripts said line by line, and scripts that are printed and read back.
 #![tactic(auto)]
 
 mod calls;
 mod cuts;
 mod endless;
 mod printed;
+mod spoken;
 mod tools;
 mod wholes;
 
@@ -17,6 +18,7 @@ use desk_edge::{CallList, FileList, MemoryFile, MemoryShelf, MemorySink, Shelf};
 use desk_top::{Status, run};
 use std::alloc::{AllocError, Global};
 use std::{fs, io};
+use wholes::Told;
 
 pub(crate) const MARKET: &[u8] = b"version = 1\ntoday = \"2024-01-02\"\n";
 
@@ -37,7 +39,7 @@ const ROOM: usize = 250_000;
 // in each run, `watchers` a thousand scripts with watchers and `watched_markets` the same over markets, each of these in
 // five orders, `hostile` sessions that work against themselves, `hostile_files` tables that are taken apart, and `large`
 // sessions at their limits.
-const FILES: [&str; 24] = [
+pub(crate) const FILES: [&str; 24] = [
     "scripts",
     "refused",
     "faults",
@@ -72,6 +74,7 @@ fn main(rt: HostRuntime) -> io::Result<()> {
     endless::compare(&rt)?;
     calls::compare(&rt)?;
     tools::compare(&rt)?;
+    spoken::compare(&rt)?;
     printed::compare(&rt)
 }
 
@@ -99,7 +102,7 @@ fn compare(rt: &HostRuntime, file: &str) -> io::Result<()> {
 // a script over the two-line market, and stands before `--` and a newline: so the script may lack its last newline.
 fn agrees(alloc: Global, common: &str, case: &str) -> Result<bool, AllocError> {
     if let Some((given, answers)) = case.split_once("-- shown") {
-        return wholes::agree(alloc, common, given, answers);
+        return wholes::agree(alloc, Told::Run, common, given, answers);
     }
     match case.split_once("--\n") {
         Some((script, text)) => {
@@ -138,7 +141,7 @@ fn ended(alloc: Global, bytes: &[u8], status: Status) -> Result<Vec<u8>, AllocEr
 }
 
 // A shelf of the market `m` and the script `s`.
-fn shelf(alloc: Global, script: &str) -> Result<MemoryShelf, AllocError> {
+pub(crate) fn shelf(alloc: Global, script: &str) -> Result<MemoryShelf, AllocError> {
     let files = files_of(alloc, script.as_bytes())?;
     Ok(MemoryShelf::new(files, 4096, CallList::new(alloc)))
 }

@@ -5,13 +5,22 @@
 // At the end of a file `\+` and a number stand for as many newlines as make it so long. In a file and in what is shown `\*`,
 // two whole numbers and a line stand for this line once for each number from the one to the other: in it `@` is the number,
 // `<` the one before it, and `;` a newline.
+use crate::spoken::says;
 use crate::{push_word, shows, texts};
 use desk_edge::{CallList, FileList, MemoryFile, MemoryShelf};
 use std::alloc::{AllocError, Global};
 
+// How a script is told: it is run, or said line by line.
+#[derive(Clone, Copy)]
+pub(crate) enum Told {
+    Run,
+    Said,
+}
+
 // What is given of a case.
 #[derive(Clone, Copy)]
 struct Given<'a> {
+    told: Told,
     // The lines of words.
     lines: &'a str,
     // Its own files, and then those for all cases.
@@ -22,6 +31,7 @@ struct Given<'a> {
 // Whether each run that a case asks for shows what the case says. `answers` begins behind the first `-- shown`.
 pub(crate) fn agree(
     alloc: Global,
+    told: Told,
     common: &str,
     given: &str,
     answers: &str,
@@ -31,7 +41,12 @@ pub(crate) fn agree(
     if lines.is_empty() {
         return Ok(false);
     }
-    let given = Given { lines, own, common };
+    let given = Given {
+        told,
+        lines,
+        own,
+        common,
+    };
     for answer in answers.split("-- shown") {
         let (orders, text) = parted(answer, "\n");
         if !orders_agree(alloc, given, orders, text)? {
@@ -82,7 +97,10 @@ fn words_agree(
     wanted: &[u8],
 ) -> Result<bool, AllocError> {
     let mut shelf = shelf(alloc, given)?;
-    shows(alloc, words, &mut shelf, wanted)
+    match given.told {
+        Told::Run => shows(alloc, words, &mut shelf, wanted),
+        Told::Said => says(alloc, words, &mut shelf, wanted),
+    }
 }
 
 // The words of a line, with an order behind them where one is named.

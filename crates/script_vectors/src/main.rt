@@ -2,12 +2,13 @@
 //! independent model of the session writes: prints each case that differs, and how many agree.
 //! Then runs one script with each call of the shelf and of the sink failing in turn, and compares how many calls were
 //! made, failed and missed, how many bytes were written, and the exit status with its line. Then the tools over whole cases
-//! of their own, the scripts said line by line, and scripts that are printed and read back.
+//! of their own, the scripts said line by line, live sessions, and scripts that are printed and read back.
 #![tactic(auto)]
 
 mod calls;
 mod cuts;
 mod endless;
+mod lives;
 mod printed;
 mod spoken;
 mod tools;
@@ -75,6 +76,7 @@ fn main(rt: HostRuntime) -> io::Result<()> {
     calls::compare(&rt)?;
     tools::compare(&rt)?;
     spoken::compare(&rt)?;
+    lives::compare(&rt)?;
     printed::compare(&rt)
 }
 

@@ -139,7 +139,11 @@ fn ended(
 }
 
 // The line of a status on standard error; none where the program is done.
-fn line<S: Ending>(alloc: Global, program: &str, status: S) -> Result<String, AllocError> {
+pub(crate) fn line<S: Ending>(
+    alloc: Global,
+    program: &str,
+    status: S,
+) -> Result<String, AllocError> {
     match status.words() {
         Some(words) => format!(in alloc; "{program}: {words}\n"),
         None => Ok(String::new(alloc)),

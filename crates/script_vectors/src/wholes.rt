@@ -159,7 +159,11 @@ fn push_expanded(alloc: Global, text: &str, out: &mut Vec<u8>) -> Result<(), All
 }
 
 // Appends a line once for each number: before it stand the first and the last.
-fn push_repeated(alloc: Global, line: &str, out: &mut Vec<u8>) -> Result<(), AllocError> {
+pub(crate) fn push_repeated(
+    alloc: Global,
+    line: &str,
+    out: &mut Vec<u8>,
+) -> Result<(), AllocError> {
     let (first, behind) = parted(line, " ");
     let (last, pattern) = parted(behind, " ");
     for at in number(first)..=number(last) {
@@ -191,7 +195,7 @@ fn push_filled(
 }
 
 // The text before a mark and the text behind it, which is empty where the mark is not there.
-fn parted<'a>(text: &'a str, mark: &str) -> (&'a str, &'a str) {
+pub(crate) fn parted<'a>(text: &'a str, mark: &str) -> (&'a str, &'a str) {
     match text.split_once(mark) {
         Some(parts) => parts,
         None => (text, ""),
@@ -199,7 +203,7 @@ fn parted<'a>(text: &'a str, mark: &str) -> (&'a str, &'a str) {
 }
 
 // The whole number that a text writes, or 0.
-fn number(text: &str) -> usize {
+pub(crate) fn number(text: &str) -> usize {
     text.parse().unwrap_or(0)
 }
 

@@ -11,7 +11,7 @@ import os, re, shutil, sys
 
 HERE = os.path.dirname(os.path.abspath(__file__))
 ROOTS = "session_rounds session_lang watch_rounds desk_bench load_maker desk_model session_commands script_words market_loader market_session scenario_grid desk_edge".split()
-SHIMS = ["rt_std", "slab", "itoa", "indexmap", "jiff", "jiff_core", "toml", "csv"]
+SHIMS = ["rt_std", "slab", "itoa", "indexmap", "jiff", "jiff_core", "toml", "csv", "clap"]
 WORD = re.compile(r"[A-Za-z_][A-Za-z_0-9]*")
 
 
@@ -133,12 +133,12 @@ def unchecked(text):
 def convert(text, path):
     text = strip(text)
     text = re.sub(r"^(\s*)//[/!]", r"\1//", text, flags=re.M)
-    for name in ("Model", "Drop"):
+    for name in ("Model", "Drop", "Termination"):
         text = without_impls(text, name)
     text = re.sub(r"#\[derive\(([^)]*)\)\]", derived, text)
     text = re.sub(r"^\s*#\[error\([^\n]*\)\]\n", "", text, flags=re.M)
     text = re.sub(r"^use thiserror::Error;\n", "", text, flags=re.M)
-    text = re.sub(r"^use std::marker::Model;\n", "", text, flags=re.M)
+    text = re.sub(r"^use std::(marker::Model|io::Eprint|process::\{ExitCode, Termination\});\n", "", text, flags=re.M)
     text = re.sub(r"\s*\+\s*Drop\b", "", text)
     text = re.sub(r"(<|, )([A-Z]\w*): Drop\b", r"\1\2", text)
     text = re.sub(r"(\btype [A-Z]\w*): Drop;", r"\1;", text)
@@ -149,7 +149,7 @@ def convert(text, path):
     text = re.sub(r"\.to_vec\(", ".to_vec_in(", text)
     text = re.sub(r"\.as_str\(\)", ".as_text()", text)
     text = re.sub(r"#\[cfg\(test\)\]\s*\n\s*mod \w+;\n", "", text)
-    text = re.sub(r"^(pub )?(mod|use) (file_shelf|out_sink)\b[^;]*;\n", "", text, flags=re.M)
+    text = re.sub(r"^(pub )?(mod|use) (file_shelf|out_sink|process)\b[^;]*;\n", "", text, flags=re.M)
     # Where a function has no body, its contract is a law.
     head = "#![no_std]\n#![allow(dead_code, unused)]\n#[macro_use]\nextern crate rt_std as std;\n" if path.endswith("lib.rt") else ""
     lines = text.split("\n")
@@ -196,7 +196,7 @@ def main():
         for folder, _, files in os.walk(source):
             for file in files:
                 # What reaches the system has no part in the lab.
-                if file.endswith(".rt") and "tests" not in file and file not in ("file_shelf.rt", "out_sink.rt"):
+                if file.endswith(".rt") and "tests" not in file and file not in ("file_shelf.rt", "out_sink.rt", "process.rt"):
                     path = os.path.join(folder, file)
                     rel = os.path.relpath(path, source)[:-3] + ".rs"
                     write(f"{out}/{name}/src/{rel}", convert(open(path).read(), path))

@@ -120,11 +120,10 @@ fn load(n: u32) {
 fn grid(market: &str, text: &[u8]) {
     let mut names = Names::new(Global);
     let mut files = Files { given: std::vec::Vec::new(), begun: std::vec::Vec::new(), at: 0 };
-    let Ok(texts) = market_loader::load_texts(Global, market, &mut files) else { return println!("desk_grid: no market") };
-    let Ok(_) = texts.market(Global, &mut names) else { return println!("desk_grid: no market") };
+    let Ok(market) = market_loader::load_market(Global, market, &mut files, &mut names) else { return println!("desk_grid: no market") };
     let Ok(script) = read_script(Global, text, &mut names) else { return println!("desk_grid: no script") };
     let mut bench = DeskBench::new();
-    let lines = scenario_grid::grid_lines(Global, &texts, &names, &script, &mut bench).unwrap();
+    let lines = scenario_grid::grid_lines(Global, &market, &names, &script, &mut bench).unwrap();
     unsafe { std::fs::File::from_raw_fd(1) }.write_all(&lines).unwrap();
 }
 

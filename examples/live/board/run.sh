@@ -1,0 +1,10 @@
+#!/usr/bin/env bash
+# An example, outside the gate and outside the proofs: the board of the example desk, with a tick each half second.
+#
+#   examples/live/board/run.sh [--port PORT] [--log FILE]
+set -euo pipefail
+here=$(cd "$(dirname "$0")" && pwd)
+cd "$here/../../.."
+export PATH="$PWD/crates/desk_live/out:$PATH"
+"$here/../ticks.py" examples/desk/quotes.csv 100000 0.5 |
+    "$here/board.py" examples/desk/market.toml --show book,state,floater,payer,spring,share,offer,euro "$@"

@@ -10,7 +10,7 @@ cargo builds only what did.
 import os, re, shutil, sys
 
 HERE = os.path.dirname(os.path.abspath(__file__))
-ROOTS = "session_rounds session_lang watch_rounds desk_bench load_maker desk_model session_commands script_words market_loader market_session scenario_grid desk_edge".split()
+ROOTS = "session_rounds session_lang watch_rounds desk_bench load_maker desk_model session_commands script_words market_loader market_session scenario_grid desk_edge live_run".split()
 SHIMS = ["rt_std", "slab", "itoa", "indexmap", "jiff", "jiff_core", "toml", "csv", "clap"]
 WORD = re.compile(r"[A-Za-z_][A-Za-z_0-9]*")
 

@@ -1,4 +1,4 @@
-//! The lab's program: `desk_lab run MARKET SCRIPT [ORDER]`, `desk_lab grid MARKET SCRIPT` and `desk_lab load N`.
+//! The lab's program: `desk_lab run MARKET SCRIPT [ORDER]`, `desk_lab live WORDS..`, `desk_lab grid MARKET SCRIPT` and `desk_lab load N`.
 use desk_bench::DeskBench;
 use desk_names::Names;
 use rt_std::Vec;
@@ -127,10 +127,39 @@ fn grid(market: &str, text: &[u8]) {
     unsafe { std::fs::File::from_raw_fd(1) }.write_all(&lines).unwrap();
 }
 
+// Standard input and output.
+struct Stream;
+impl desk_edge::Feed for Stream {
+    fn take(&mut self, buf: &mut [u8]) -> Result<usize, desk_edge::Failed> {
+        std::mem::ManuallyDrop::new(unsafe { std::fs::File::from_raw_fd(0) }).read(buf).map_err(|_| desk_edge::Failed)
+    }
+}
+impl desk_edge::Sink for Stream {
+    fn put(&mut self, piece: &[u8]) -> Result<usize, desk_edge::Failed> {
+        std::mem::ManuallyDrop::new(unsafe { std::fs::File::from_raw_fd(1) }).write(piece).map_err(|_| desk_edge::Failed)
+    }
+    fn flush(&mut self) -> Result<(), desk_edge::Failed> {
+        Ok(())
+    }
+}
+
+fn live(words: &[std::string::String]) -> i32 {
+    let mut texts = Vec::new(Global);
+    for word in words {
+        texts.push(rt_std::String::from_str(Global, word).unwrap()).unwrap();
+    }
+    let mut files = Files { given: std::vec::Vec::new(), begun: std::vec::Vec::new(), at: 0 };
+    let status = live_run::run_live(Global, &texts, &mut files, &mut Stream, &mut Stream, &mut DeskBench::new());
+    tool_process::Ending::code(&status) as i32
+}
+
 fn main() {
     let args: std::vec::Vec<std::string::String> = std::env::args().collect();
     if args[1] == "load" {
         return load(args[2].parse().unwrap());
+    }
+    if args[1] == "live" {
+        std::process::exit(live(&args[2..]));
     }
     if args[1] == "grid" {
         grid(&args[2], &file(&args[3]));

@@ -1,0 +1,165 @@
+-- The terms of an object of a kind, and what its workings are where they are written.
+use Rattle.std.proofs.Common.{◌≡◌, ℕ, ℤ, Bool, true, false, List, [], Option, Some, None, Result, Ok, Err, refl, sym}
+use Rattle.std.proofs.Common.{◌∙◌, ap, subst}
+use Rattle.std.specs.Prelude.{IsSome, IsOk}
+use Rattle.std.proofs.lemmas.Bool.{false≢true}
+use Rattle.curve_terms.specs.declared.terms.CurveTerms.{CurveTerms}
+use Rattle.flow_terms.specs.declared.flows.FlowTerms.{FlowTerms}
+use Rattle.desk_terms.specs.declared.terms.Part.{Part}
+use Rattle.desk_terms.specs.declared.terms.Terms.{Terms}
+use Rattle.desk_terms.specs.declared.terms.Terms.TheVariants as terms
+use Rattle.desk_terms.specs.declared.terms.HandleKind as handle
+use Rattle.desk_terms.specs.declared.kind.Kind.{Kind}
+use Rattle.desk_terms.specs.declared.kind.Kind.TheVariants as kind
+use Rattle.desk_terms.specs.declared.value.Value.{Value}
+use Rattle.desk_terms.specs.declared.value.Value.TheVariants as value
+use Rattle.desk_terms.specs.declared.value.Input as input
+use Rattle.desk_terms.specs.declared.cause.Cause.{Cause}
+use Rattle.desk_terms.specs.Kind.{role}
+use Rattle.desk_terms.specs.Terms.{kind_of}
+use Rattle.desk_model.specs.declared.slot.Slot.{Slot}
+use Rattle.desk_model.specs.declared.slot.Slot.TheVariants as slot
+use Rattle.desk_model.specs.Market.{slot_at, terms_in, terms_at, kind_in, kind_at, is_lazy}
+use Rattle.desk_model.specs.State.{kept_at}
+use Rattle.session_model.specs.Standing.{Standing}
+use Rattle.why_model.specs.Answer.{named, nodes_text, nodes_of, workings_over, workings_by}
+use Rattle.session_why.specs.Lasts.{CanWork, last_inputs, nodes_in, workings_in}
+
+-- what terms are by their kind
+abbrev pub OfKind : Kind → Terms → Type 0
+OfKind kind.Today t = Unit {0}
+OfKind kind.Quote t = Unit {0}
+OfKind kind.Derived t = Unit {0}
+OfKind kind.QuoteHandle t = Unit {0}
+OfKind kind.CurveHandle t = Unit {0}
+OfKind kind.Index t = Unit {0}
+OfKind kind.Engine t = Unit {0}
+OfKind kind.Curve t = (curve : CurveTerms) × (t ≡ terms.Curve curve)
+OfKind kind.Implied t = (curve : ℕ) × (reference : ℤ) × (t ≡ terms.Implied curve reference)
+OfKind kind.Stock t = Unit {0}
+OfKind kind.Composite t = (parts : List Part) × (t ≡ terms.Composite parts)
+OfKind kind.Flows t = (flows : FlowTerms) × (engine : Option ℕ) × (t ≡ terms.Flows flows engine)
+OfKind kind.Watcher t = Unit {0}
+
+of_kind : (t : Terms) → OfKind (kind_of t) t
+of_kind (terms.Quote value) = tt
+of_kind (terms.Derived minus first second) = tt
+of_kind (terms.Handle handle.TheVariants.Quote target) = tt
+of_kind (terms.Handle handle.TheVariants.Curve target) = tt
+of_kind (terms.Index index fixings) = tt
+of_kind (terms.Engine curve) = tt
+of_kind (terms.Curve curve) = (curve, refl)
+of_kind (terms.Implied curve reference) = (curve, reference, refl)
+of_kind (terms.Stock quote) = tt
+of_kind (terms.Composite parts) = (parts, refl)
+of_kind (terms.Flows flows engine) = (flows, engine, refl)
+
+same_kind : (a b : Kind) → Some a ≡ Some b → a ≡ b
+same_kind a b e = cc
+
+-- the terms of a priced object
+pub terms_of_kind : (s : Slot) (k : Kind) → kind_in s ≡ Some k → is_lazy (role k) ≡ true
+    → (t : Terms) × (terms_in s ≡ Some t) × OfKind k t
+terms_of_kind slot.Free k is lazy = absurd (cc)
+terms_of_kind slot.Today k is lazy =
+    absurd (false≢true (subst (λ (z : Kind). is_lazy (role z) ≡ true) (sym (same_kind kind.Today k is)) lazy))
+terms_of_kind slot.Watcher k is lazy =
+    absurd (false≢true (subst (λ (z : Kind). is_lazy (role z) ≡ true) (sym (same_kind kind.Watcher k is)) lazy))
+terms_of_kind (slot.Live t) k is lazy =
+    (t, refl, subst (λ (z : Kind). OfKind z t) (same_kind (kind_of t) k is) (of_kind t))
+
+-- what is there
+pub some_there : {A : Type 0} (o : Option A) → IsSome o → (x : A) × (o ≡ Some x)
+some_there None there = absurd (false≢true there)
+some_there (Some x) there = (x, refl)
+
+pub ok_there : {A E : Type 0} (r : Result A E) → IsOk r → (x : A) × (r ≡ Ok x)
+ok_there (Ok x) there = (x, refl)
+ok_there (Err e) there = absurd (false≢true there)
+
+-- THE WORKINGS of an object with these terms, where they are written
+pub record Working (p : Standing) (o : ℕ) (t : Terms) : Type 0 where
+  pub shown : Value
+  pub inputs : List input.Input
+  pub last : (kept_at p.state o).last ≡ Some shown
+  pub given : last_inputs p.state o ≡ Ok inputs
+  pub text : workings_in p o (terms_at p.state.market o) (kept_at p.state o).last ≡ workings_over p o t shown inputs
+
+pub working : (p : Standing) (o : ℕ) (t : Terms) → terms_at p.state.market o ≡ Some t → CanWork p.state o
+    → Working p o t
+working p o t are can =
+    let v = some_there (kept_at p.state o).last can.last in
+    let i = ok_there (last_inputs p.state o) can.inputs in
+    record {
+      shown = v.0;
+      inputs = i.0;
+      last = v.1;
+      given = i.1;
+      text = ap (λ (f : Option Terms). workings_in p o f (kept_at p.state o).last) are
+          ∙ ap (workings_in p o (Some t)) v.1
+          ∙ ap (workings_by p o t v.0) i.1;
+    }
+
+-- ---- a curve that is seen from another day
+
+shown_nodes : (v : Value) → nodes_in (Some v) ≡ nodes_of v
+shown_nodes (value.Money amount) = refl
+shown_nodes (value.Curve curve) = refl
+
+pub seen_text : (p : Standing) (o : ℕ) → kind_at p.state.market o ≡ Some kind.Implied → CanWork p.state o
+    → nodes_text (named p o) (nodes_in (kept_at p.state o).last)
+    ≡ workings_in p o (terms_at p.state.market o) (kept_at p.state o).last
+seen_text p o is can =
+    let t = terms_of_kind (slot_at p.state.market o) kind.Implied is refl in
+    let w = working p o (terms.Implied t.2.0 t.2.1) (t.1 ∙ ap Some t.2.2) can in
+    ap (λ (l : Option Value). nodes_text (named p o) (nodes_in l)) w.last
+    ∙ ap (nodes_text (named p o)) (shown_nodes w.shown)
+    ∙ sym w.text
+
+-- ---- an object that has none
+
+abbrev pub has_workings : Option Kind → Bool
+has_workings None = false
+has_workings (Some kind.Today) = false
+has_workings (Some kind.Quote) = false
+has_workings (Some kind.Derived) = false
+has_workings (Some kind.QuoteHandle) = false
+has_workings (Some kind.CurveHandle) = false
+has_workings (Some kind.Index) = false
+has_workings (Some kind.Engine) = false
+has_workings (Some kind.Curve) = true
+has_workings (Some kind.Implied) = true
+has_workings (Some kind.Stock) = false
+has_workings (Some kind.Composite) = true
+has_workings (Some kind.Flows) = true
+has_workings (Some kind.Watcher) = false
+
+module _ (p : Standing) (o : ℕ) where
+  over_none : (t : Terms) (v : Value) (inputs : List input.Input) → has_workings (Some (kind_of t)) ≡ false
+      → workings_over p o t v inputs ≡ []
+  over_none (terms.Quote value) v inputs is = refl
+  over_none (terms.Derived minus first second) v inputs is = refl
+  over_none (terms.Handle wanted target) v inputs is = refl
+  over_none (terms.Index index fixings) v inputs is = refl
+  over_none (terms.Engine curve) v inputs is = refl
+  over_none (terms.Curve curve) v inputs is = absurd (false≢true (sym is))
+  over_none (terms.Implied curve reference) v inputs is = absurd (false≢true (sym is))
+  over_none (terms.Stock quote) v inputs is = refl
+  over_none (terms.Composite parts) v inputs is = absurd (false≢true (sym is))
+  over_none (terms.Flows flows engine) v inputs is = absurd (false≢true (sym is))
+
+  by_none : (t : Terms) (v : Value) (r : Result (List input.Input) Cause) → has_workings (Some (kind_of t)) ≡ false
+      → workings_by p o t v r ≡ []
+  by_none t v (Ok inputs) is = over_none t v inputs is
+  by_none t v (Err cause) is = refl
+
+  in_none : (s : Slot) (l : Option Value) → has_workings (kind_in s) ≡ false → workings_in p o (terms_in s) l ≡ []
+  in_none slot.Free l is = refl
+  in_none slot.Today l is = refl
+  in_none slot.Watcher l is = refl
+  in_none (slot.Live t) None is = refl
+  in_none (slot.Live t) (Some v) is = by_none t v (last_inputs p.state o) is
+
+  pub text_absent : (k : Option Kind) → kind_at p.state.market o ≡ k → has_workings k ≡ false
+      → workings_in p o (terms_at p.state.market o) (kept_at p.state o).last ≡ []
+  text_absent k is none = in_none (slot_at p.state.market o) (kept_at p.state o).last (ap has_workings is ∙ none)

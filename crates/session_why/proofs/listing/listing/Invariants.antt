@@ -1,0 +1,18 @@
+use Rattle.std.proofs.Common.{◌≡◌, ◌+◌, length}
+use Rattle.why_model.specs.Listing.{rests_on}
+use Rattle.session_why.proofs.Walked.{open_cost}
+use Rattle.session_why.proofs.Waiting.{Walks}
+use Rattle.session_why.proofs.listing.listing.Given as goal
+
+-- what is listed, and behind it what waits as it is put there, is the listing
+abbrev pub invariant-loop-next : goal.invariant-loop-next
+invariant-loop-next g l = record {
+  same : l.session ≡ l.initial.session;
+  walks : Walks l.initial.session.standing.state l.fn.object l.list.keys l.waiting.items;
+}
+
+abbrev pub decreases-loop-next : goal.decreases-loop-next
+decreases-loop-next g l =
+    open_cost (rests_on l.initial.session.standing.state) l.list.keys
+    (length l.initial.session.standing.state.market.objects)
+    + length l.waiting.items

@@ -1,0 +1,14 @@
+use Rattle.std.proofs.Common.{◌≡◌, ◌++◌, ◌<◌, drop, length}
+use Rattle.std.specs.List.{All}
+use Rattle.desk_model.specs.Uses.{input_at}
+use Rattle.session_why.specs.Lasts.{rates_by}
+use Rattle.session_why.proofs.workings.rates_of.Given as goal
+
+-- the rates before the one at hand are there
+abbrev pub invariant-loop-quote : goal.invariant-loop-quote
+invariant-loop-quote g l = record {
+  same : l.session ≡ l.initial.session;
+  rates : l.rates.items ++ rates_by (input_at l.initial.session.standing.state.market) (drop l.quote-index l.quotes)
+      ≡ rates_by (input_at l.initial.session.standing.state.market) l.quotes;
+  within : All (λ quote. quote < length l.initial.session.standing.state.market.objects) (drop l.quote-index l.quotes);
+}

@@ -1,0 +1,21 @@
+use Rattle.std.proofs.Common.{refl, ap, ◌∙◌, ℤ, ◌*ℤ◌}
+use Rattle.discount_engines.proofs.Products.{amount_bound, times}
+use Rattle.session_why.proofs.workings.times.Goals as goal
+
+pub overflow_mul-result : goal.overflow_mul-result
+overflow_mul-result c =
+    (times c.args.weight c.worth.inside.0 c.worth.inside.0 c.requires
+    (amount_bound c.worth.inside.0 c.worth.invariant.0 c.worth.invariant.1)).fits
+
+pub returns-clause-value : goal.returns-clause-value
+returns-clause-value c =
+    (times c.args.weight c.worth.inside.0 _ c.requires
+    (amount_bound c.worth.inside.0 c.worth.invariant.0 c.worth.invariant.1)).value refl ∙ ap
+    (λ (a : ℤ). c.args.weight *ℤ a) c.worth.view_is
+
+pub returns-clause-bound : goal.returns-clause-bound
+returns-clause-bound c =
+    let p =
+    times c.args.weight c.worth.inside.0 _ c.requires
+    (amount_bound c.worth.inside.0 c.worth.invariant.0 c.worth.invariant.1) in
+    rw (p.value refl) p.bound

@@ -1,0 +1,4 @@
+pub mod Computed
+pub mod Curves
+pub mod Lasts
+pub mod Over

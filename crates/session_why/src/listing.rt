@@ -1,0 +1,123 @@
+// Which objects an answer lists, and in which order.
+ghost use Rattle.std.specs.Prelude.{◌≡◌, ◌<◌, ◌++◌, length, reverse, IfOk, OnOk};
+ghost use Rattle.desk_model.specs.Market.{edges, is_lazy};
+ghost use Rattle.desk_model.specs.Links.{is_lazy_at};
+ghost use Rattle.desk_terms.specs.Kind.{role};
+ghost use Rattle.why_model.specs.Listing.{shows_last, rests_on, listing};
+
+use desk_names::ObjId;
+use desk_terms::Kind;
+use indexmap::IndexSet;
+use lazy_objects::Desk;
+use session_graph::subjects_of;
+use session_rounds::WatchedSession;
+use std::alloc::{AllocError, Global};
+use watch_rounds::Picker;
+
+// The numbers of an object and of those on which it rests, depth first, each once.
+pub(crate) fn listing<P: Picker>(
+    alloc: Global,
+    session: &mut WatchedSession<P>,
+    object: ObjId,
+) -> Result<IndexSet<u32>, AllocError>
+    requires within { object < length session.old.standing.state.market.objects }
+    ensures list { IfOk result (λ list. list.keys ≡ listing session.old.standing.state object) }
+    ensures same { session.new ≡ session.old }
+{
+    session.session().shape();
+    let mut list = IndexSet::new(alloc);
+    let mut waiting: Vec<ObjId> = Vec::new(alloc);
+    waiting.push(object)?;
+    while let Some(next) = waiting.pop() {
+        let (_, is_new) = list.insert_full(next.0)?;
+        if is_new {
+            push_rest(alloc, session, next, &mut waiting)?;
+        }
+    }
+    Ok(list)
+}
+
+// Puts what an object's value rests on onto a stack, the first on top.
+fn push_rest<P: Picker>(
+    alloc: Global,
+    session: &mut WatchedSession<P>,
+    object: ObjId,
+    waiting: &mut Vec<ObjId>,
+) -> Result<(), AllocError>
+    ensures waiting { OnOk result (waiting.new.items
+        ≡ waiting.old.items ++ reverse (rests_on session.old.standing.state object)) }
+    ensures same { session.new ≡ session.old }
+{
+    if shows_last(session, object) {
+        return Ok(());
+    }
+    push_edges(alloc, session.session().desk(), object, waiting)
+}
+
+// Whether a priced object shows its last value, whatever stands beneath it: it is frozen or late.
+fn shows_last<P: Picker>(session: &mut WatchedSession<P>, object: ObjId) -> bool
+    ensures answer { result ≡ shows_last session.old.standing.state object }
+    ensures same { session.new ≡ session.old }
+{
+    if !is_priced(session.session().desk(), object) {
+        return false;
+    }
+    session.session().shape();
+    session.session().desk().is_frozen(object) || session.late(object).is_some()
+}
+
+// Whether an object is priced.
+pub(crate) fn is_priced(desk: &Desk, object: ObjId) -> bool
+    ensures { result ≡ is_lazy_at desk.now.market object }
+{
+    match desk.kind(object) {
+        None => false,
+        Some(kind) => is_priced_kind(kind),
+    }
+}
+
+fn is_priced_kind(kind: Kind) -> bool
+    ensures { result ≡ is_lazy (role kind) }
+{
+    match kind {
+        Kind::Curve | Kind::Implied | Kind::Stock | Kind::Composite | Kind::Flows => true,
+        Kind::Today
+        | Kind::Quote
+        | Kind::Derived
+        | Kind::QuoteHandle
+        | Kind::CurveHandle
+        | Kind::Index
+        | Kind::Engine
+        | Kind::Watcher => false,
+    }
+}
+
+// Puts what an object observes onto a stack, the first on top.
+fn push_edges(
+    alloc: Global,
+    desk: &Desk,
+    object: ObjId,
+    waiting: &mut Vec<ObjId>,
+) -> Result<(), AllocError>
+    ensures { OnOk result (waiting.new.items ≡ waiting.old.items ++ reverse (edges desk.now.market object)) }
+{
+    match desk.terms(object) {
+        None => Ok(()),
+        Some(terms) => {
+            let subjects = subjects_of(alloc, terms)?;
+            push_reversed(subjects.as_slice(), waiting)
+        }
+    }
+}
+
+// Puts objects onto a stack, the first on top.
+fn push_reversed(objects: &[ObjId], waiting: &mut Vec<ObjId>) -> Result<(), AllocError>
+    ensures { OnOk result (waiting.new.items ≡ waiting.old.items ++ reverse objects.now) }
+{
+    let mut at = objects.len();
+    while at > 0 {
+        at -= 1;
+        waiting.push(objects[at])?;
+    }
+    Ok(())
+}

@@ -1,0 +1,76 @@
+// The answer to what is wanted.
+ghost use Rattle.std.specs.Prelude.{◌≡◌, ◌++◌, false, All, IfOk};
+ghost use Rattle.desk_model.specs.Sound.{IsSound};
+ghost use Rattle.desk_model.specs.Visit.{log_of};
+ghost use Rattle.session_model.specs.Rounds.{calls_of};
+ghost use Rattle.session_model.specs.Standing.{IsKnown};
+ghost use Rattle.grid_model.specs.Scenario.{ordered, after};
+ghost use Rattle.why_model.specs.Answer.{why_text};
+ghost use Rattle.session_why.specs.Computed.{why_asking};
+ghost use Rattle.desk_plan.specs.Found.{CanRun};
+ghost use Rattle.script_steps.specs.Calls.{Calls};
+ghost use Rattle.why_run.specs.Answering.{output_in, computed_in};
+ghost use Rattle.why_run.specs.Verdict.{wanted_in};
+
+use crate::wanted::Wanted;
+use desk_terms::Bench;
+use market_session::begun;
+use script_steps::play_all;
+use session_commands::Command;
+use session_rounds::WatchedSession;
+use session_why::why;
+use std::alloc::{AllocError, Global};
+use watch_rounds::Order;
+
+// The answer for a name over the session of a script behind its last command.
+pub(crate) fn text_of<B: Bench>(
+    alloc: Global,
+    wanted: Wanted<'_>,
+    bench: &mut B,
+) -> Result<Vec<u8>, AllocError>
+    requires can { CanRun wanted.run }
+    ensures text { IfOk result (λ text. text.items ≡ output_in (B.calc bench.old) (wanted_in wanted.entry)) }
+    ensures calls { Calls (computed_in (B.calc bench.old) (wanted_in wanted.entry)) result
+        (B.count bench.old) (B.count bench.new) (B.log bench.old) (B.log bench.new) }
+    ensures same { B.calc bench.new ≡ B.calc bench.old }
+{
+    let Wanted { run, name } = wanted;
+    let (mut session, commands) = begun(
+        alloc,
+        run.market.names,
+        run.market.today,
+        run.market.made,
+        run.script,
+        Order::First,
+    )?;
+    answer_behind(
+        alloc,
+        &mut session,
+        commands.items(),
+        name.as_bytes(),
+        bench,
+    )
+}
+
+// The answer for a name over a session behind these commands. It has the session lent: a function that owns one lets it go at
+// each exit.
+fn answer_behind<B: Bench>(
+    alloc: Global,
+    session: &mut WatchedSession<Order>,
+    commands: &[Command],
+    name: &[u8],
+    bench: &mut B,
+) -> Result<Vec<u8>, AllocError>
+    requires running { session.old.standing.stopped ≡ false }
+    requires known { All (IsKnown session.old.standing) commands.now }
+    requires sound { IsSound (B.calc bench.old) session.old.standing.state }
+    ensures text { IfOk result (λ text. text.items
+        ≡ why_text (B.calc bench.old) (after (B.calc bench.old) commands.now session.old).standing name.now) }
+    ensures calls { Calls (calls_of (ordered (B.calc bench.old)) session.old commands.now
+        ++ log_of (why_asking (B.calc bench.old) (after (B.calc bench.old) commands.now session.old).standing name.now).calls) result
+        (B.count bench.old) (B.count bench.new) (B.log bench.old) (B.log bench.new) }
+    ensures same { B.calc bench.new ≡ B.calc bench.old }
+{
+    play_all(alloc, session, commands, bench)?;
+    why(alloc, session, name, bench)
+}

@@ -1,0 +1,18 @@
+//! What the program `desk_why` does: from words, a market with its tables and a script to the answer from what the price of
+//! an object was computed, over the session as it stands behind the last command, and a status, for every shelf of files,
+//! sink of bytes and bench of prices.
+//!
+//! `run_why`, `NAME`, `Status`.
+#![tactic(auto)]
+
+mod answering;
+mod rows;
+mod running;
+mod wanted;
+mod words;
+
+pub use desk_plan::Status;
+pub use running::run_why;
+
+/// The program's name.
+pub const NAME: &str = "desk_why";

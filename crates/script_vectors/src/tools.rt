@@ -1,5 +1,5 @@
-// The tools: runs `desk_bump`, `desk_curve`, `desk_explain`, `desk_graph`, `desk_grid` and `desk_yield` over whole cases, and compares the
-// bytes with those that an independent model writes.
+// The tools: runs `desk_bump`, `desk_curve`, `desk_explain`, `desk_graph`, `desk_grid`, `desk_why` and `desk_yield` over whole cases, and
+// compares the bytes with those that an independent model writes.
 use bump_run::run_bump;
 use curve_run::run_curve;
 use desk_bench::DeskBench;
@@ -11,6 +11,7 @@ use std::alloc::{AllocError, Global};
 use std::{fs, io};
 use tool_process::Ending;
 use whole_cases::{shelf, words};
+use why_run::run_why;
 use yield_run::run_yield;
 
 // The most bytes that a case may write.
@@ -24,6 +25,7 @@ enum Tool {
     Explain,
     Graph,
     Grid,
+    Why,
     Yield,
 }
 
@@ -52,6 +54,9 @@ pub(crate) fn compare(rt: &HostRuntime) -> io::Result<()> {
     compare_file(rt, Tool::Grid, "grid_markets")?;
     compare_file(rt, Tool::Grid, "grid_version_two")?;
     compare_file(rt, Tool::Grid, "grid_faults")?;
+    // Answers of which each shows one thing, and of scripts cut off at some command: every kind, mark and cause.
+    compare_file(rt, Tool::Why, "why_by_hand")?;
+    compare_file(rt, Tool::Why, "why_sessions")?;
     // Prices at the limits and beyond, days on and beside those of coupons.
     compare_file(rt, Tool::Yield, "yield_by_hand")?;
     compare_file(rt, Tool::Yield, "yield_bonds")
@@ -133,6 +138,11 @@ fn ended(
             alloc,
             grid_run::NAME,
             run_grid(alloc, words, shelf, out, &mut bench),
+        ),
+        Tool::Why => line(
+            alloc,
+            why_run::NAME,
+            run_why(alloc, words, shelf, out, &mut bench),
         ),
         Tool::Yield => line(alloc, yield_run::NAME, run_yield(alloc, words, shelf, out)),
     }

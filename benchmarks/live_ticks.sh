@@ -1,6 +1,6 @@
 #!/usr/bin/env bash
 # Says ticks and asks to one live session of the built program live_rows, or of the one that is given: 1,000 lines and then
-# 1,000,000, and compares the most memory that each of the two runs held. Fails where the second held more than 64 KiB more.
+# 1,000,000, and compares the most bytes of heap that each of the two runs held. Fails where the second held more.
 #
 #   (cd crates/live_rows && rt run)     # proves and builds the program
 #   benchmarks/live_ticks.sh [PROGRAM]
@@ -18,28 +18,57 @@ for k in range(331):
 print("action a\nfoo")
 MAKE
 cat > held.c <<'C'
+#define _GNU_SOURCE
+#include <errno.h>
+#include <malloc.h>
 #include <stdio.h>
-#include <string.h>
-/* what the process held at most, once it ends */
-__attribute__((destructor)) static void held(void) {
-    char line[256];
-    FILE *status = fopen("/proc/self/status", "r");
-    while (status && fgets(line, sizeof line, status))
-        if (!strncmp(line, "VmHWM:", 6)) fputs(line, stderr);
+#include <stdlib.h>
+extern void *__libc_malloc(size_t);
+extern void *__libc_calloc(size_t, size_t);
+extern void *__libc_realloc(void *, size_t);
+extern void *__libc_memalign(size_t, size_t);
+extern void __libc_free(void *);
+static size_t held, most;
+static void *kept(void *at) {
+    if (at) held += malloc_usable_size(at);
+    if (held > most) most = held;
+    return at;
 }
+void free(void *at) {
+    if (at) held -= malloc_usable_size(at);
+    __libc_free(at);
+}
+void *malloc(size_t bytes) { return kept(__libc_malloc(bytes)); }
+void *calloc(size_t count, size_t bytes) { return kept(__libc_calloc(count, bytes)); }
+void *realloc(void *at, size_t bytes) {
+    size_t old = at ? malloc_usable_size(at) : 0;
+    void *found = __libc_realloc(at, bytes);
+    if (found || !bytes) held -= old;
+    return kept(found);
+}
+void *memalign(size_t to, size_t bytes) { return kept(__libc_memalign(to, bytes)); }
+void *aligned_alloc(size_t to, size_t bytes) { return memalign(to, bytes); }
+int posix_memalign(void **at, size_t to, size_t bytes) {
+    void *found = memalign(to, bytes);
+    if (!found) return ENOMEM;
+    *at = found;
+    return 0;
+}
+/* what the heap held at most, once the program ends */
+__attribute__((destructor)) static void tell(void) { fprintf(stderr, "%zu %zu\n", most, held); }
 C
 cc -shared -fPIC -O1 -o held.so held.c
 
-# The most KiB that a run held; what it wrote goes to standard error.
+# The most bytes that the heap of a run held; what it wrote goes to standard error.
 most() {
     LD_PRELOAD=./held.so "$program" market.toml lines "$1" 2> held > said
     cat said >&2
-    awk '/^VmHWM:/ { print $2 }' held
+    awk '{ print $1 }' held
 }
 
 few=$(most 1) many=$(most 1000)
-echo "1,000 lines: $few KiB at most; 1,000,000 lines: $many KiB"
-if (( many > few + 64 )); then
-    echo "live_ticks.sh: memory grew" >&2
+echo "1,000 lines: $few bytes of heap at most; 1,000,000 lines: $many bytes"
+if (( few == 0 || many > few )); then
+    echo "live_ticks.sh: memory grew, or none was counted" >&2
     exit 1
 fi

@@ -24,8 +24,14 @@ pub trait Answerer {
     /// It can answer: what it must be for the calls below.
     ghost can: { Self → Type 0 };
 
-    /// Appends what a line calls for. It fails for want of memory alone; a front of it was appended then.
-    fn answer(&mut self, line: &[u8], answers: &mut Vec<u8>) -> Result<(), AllocError>
+    /// Appends what a line calls for. It fails for want of memory alone; a front of it was appended then. `words` is room for
+    /// parts of the line, so that it need not be made for each: what stands in it is not looked at, and not promised.
+    fn answer<'a>(
+        &mut self,
+        line: &'a [u8],
+        words: &mut Vec<&'a [u8]>,
+        answers: &mut Vec<u8>,
+    ) -> Result<(), AllocError>
         requires can { can self.old }
         ensures kept { kept self.new ≡ kept self.old }
         ensures can { OnOk result (can self.new) }

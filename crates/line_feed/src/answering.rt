@@ -8,7 +8,7 @@ ghost use Rattle.line_feed.specs.Answers.{IsPrompt, PutsFront};
 ghost use Rattle.line_feed.specs.Hearing.{IsOpen};
 
 use crate::Answerer;
-use crate::hearing::{answer_line, hear};
+use crate::hearing::{answer_alone, hear};
 use crate::putting::{put_front, send};
 use desk_edge::{Feed, Sink};
 use std::alloc::{AllocError, Global};
@@ -78,9 +78,10 @@ pub fn answer_all<A: Answerer, F: Feed, K: Sink>(
     for _ in 0..u64::MAX {
         let count = next_piece(feed, room.as_mut_slice())?;
         if count == 0 {
-            return finish(answerer, &line, &mut answers, out);
+            return finish(alloc, answerer, &line, &mut answers, out);
         }
         hear(
+            alloc,
             answerer,
             &room.as_slice()[..count],
             &mut line,
@@ -109,6 +110,7 @@ fn next_piece<F: Feed>(feed: &mut F, room: &mut [u8]) -> Result<usize, AnswerFau
 
 // At the end: the line that lacks its end, if there is one, and what the end calls for.
 fn finish<A: Answerer, K: Sink>(
+    alloc: Global,
     answerer: &mut A,
     line: &[u8],
     answers: &mut Vec<u8>,
@@ -127,7 +129,7 @@ fn finish<A: Answerer, K: Sink>(
     ensures no_read { IsErrOf result AnswerFault.Read → ⊥ }
 {
     if !line.is_empty() {
-        answer_line(answerer, line, answers, out)?;
+        answer_alone(alloc, answerer, line, answers, out)?;
     }
     close(answerer, answers, out)
 }

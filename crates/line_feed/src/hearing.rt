@@ -10,7 +10,7 @@ ghost use Rattle.line_feed.specs.declared.answerer.TheConstants.{MOST_LINE};
 use crate::putting::{put, put_front};
 use crate::{AnswerFault, Answerer, MOST_LINE};
 use desk_edge::Sink;
-use std::alloc::AllocError;
+use std::alloc::{AllocError, Global};
 use std::cmp::min;
 
 // How many bytes are kept of a line that has not ended. Of a longer one this front is longer than a line may be, even
@@ -22,6 +22,7 @@ const BATCH: usize = 4096;
 
 // Answers the lines that a piece ends, and keeps the line that it leaves open.
 pub(crate) fn hear<A: Answerer, K: Sink>(
+    alloc: Global,
     answerer: &mut A,
     piece: &[u8],
     line: &mut Vec<u8>,
@@ -41,9 +42,18 @@ pub(crate) fn hear<A: Answerer, K: Sink>(
     ensures once { IsErrOf result AnswerFault.Write → K.faults out.new ≡ raised (K.faults out.old) }
     ensures no_read { IsErrOf result AnswerFault.Read → ⊥ }
 {
+    let mut words = Vec::new(alloc);
     let mut rest = piece;
     while let Some(end) = end_of(rest) {
-        hear_line(answerer, &rest[..end], line, answers, out)?;
+        hear_line(
+            alloc,
+            answerer,
+            &rest[..end],
+            &mut words,
+            line,
+            answers,
+            out,
+        )?;
         rest = &rest[end + 1..];
     }
     keep(rest, line)?;
@@ -58,9 +68,11 @@ fn end_of(bytes: &[u8]) -> Option<usize>
 }
 
 // Answers a line that ends behind these bytes. Where nothing was kept of it, it is answered as it lies there.
-fn hear_line<A: Answerer, K: Sink>(
+fn hear_line<'a, A: Answerer, K: Sink>(
+    alloc: Global,
     answerer: &mut A,
-    text: &[u8],
+    text: &'a [u8],
+    words: &mut Vec<&'a [u8]>,
     line: &mut Vec<u8>,
     answers: &mut Vec<u8>,
     out: &mut K,
@@ -81,10 +93,10 @@ fn hear_line<A: Answerer, K: Sink>(
     ensures no_read { IsErrOf result AnswerFault.Read → ⊥ }
 {
     if line.is_empty() {
-        return answer_line(answerer, without_return(text), answers, out);
+        return answer_line(answerer, without_return(text), words, answers, out);
     }
     keep(text, line)?;
-    answer_line(answerer, without_return(line), answers, out)?;
+    answer_alone(alloc, answerer, without_return(line), answers, out)?;
     line.clear();
     Ok(())
 }
@@ -108,8 +120,9 @@ fn without_return(line: &[u8]) -> &[u8]
     }
 }
 
-// Answers one line. Where many answers wait, they are put.
-pub(crate) fn answer_line<A: Answerer, K: Sink>(
+// The same of a line that lies in no piece.
+pub(crate) fn answer_alone<A: Answerer, K: Sink>(
+    alloc: Global,
     answerer: &mut A,
     line: &[u8],
     answers: &mut Vec<u8>,
@@ -130,7 +143,34 @@ pub(crate) fn answer_line<A: Answerer, K: Sink>(
     ensures once { IsErrOf result AnswerFault.Write → K.faults out.new ≡ raised (K.faults out.old) }
     ensures no_read { IsErrOf result AnswerFault.Read → ⊥ }
 {
-    match answerer.answer(line, answers) {
+    let mut words = Vec::new(alloc);
+    answer_line(answerer, line, &mut words, answers, out)
+}
+
+// Answers one line. Where many answers wait, they are put.
+pub(crate) fn answer_line<'a, A: Answerer, K: Sink>(
+    answerer: &mut A,
+    line: &'a [u8],
+    words: &mut Vec<&'a [u8]>,
+    answers: &mut Vec<u8>,
+    out: &mut K,
+) -> Result<(), AnswerFault>
+    requires can { A.can answerer.old }
+    ensures kept { A.kept answerer.new ≡ A.kept answerer.old }
+    ensures can { OnOk result (A.can answerer.new) }
+    ensures ok { OnOk result (Answers line.now (A.told answerer.old) (A.told answerer.new) (A.called answerer.old) (A.called answerer.new)
+        (appended answers.old.items (K.bytes out.old)) (appended answers.new.items (K.bytes out.new))) }
+    ensures err { OnErr result ((rest : List (List ℕ))
+        → PutsFront (answers.old.items ++ A.told answerer.old (line.now ∷ rest)) (K.bytes out.old) (K.bytes out.new)) }
+    ensures long { MOST_LINE < length line.now → (other : List ℕ) (rest : List (List ℕ)) → MOST_LINE < length other
+        → (A.told answerer.old (other ∷ rest) ≡ A.told answerer.old (line.now ∷ rest))
+        × (A.called answerer.old (other ∷ rest) ≡ A.called answerer.old (line.now ∷ rest)) }
+    ensures grows { (said : List ℕ) × (K.bytes out.new ≡ appended said (K.bytes out.old)) }
+    ensures clean { OnOk result (K.faults out.new ≡ K.faults out.old) }
+    ensures once { IsErrOf result AnswerFault.Write → K.faults out.new ≡ raised (K.faults out.old) }
+    ensures no_read { IsErrOf result AnswerFault.Read → ⊥ }
+{
+    match answerer.answer(line, words, answers) {
         Ok(()) => {
             if answers.len() < BATCH {
                 return Ok(());

@@ -43,13 +43,19 @@ impl<P: Picker, B: Bench> Answerer for Talk<'_, P, B> {
       logged (B.log t.bench.now) (spoken (record { calc = B.calc t.bench.now; at = P.at; after = P.after }) t.ready t.session.now lines).calls,
     ) };
 
-    fn answer(&mut self, line: &[u8], answers: &mut Vec<u8>) -> Result<(), AllocError> {
+    fn answer<'b>(
+        &mut self,
+        line: &'b [u8],
+        words: &mut Vec<&'b [u8]>,
+        answers: &mut Vec<u8>,
+    ) -> Result<(), AllocError> {
         answer_line(
             self.alloc,
             self.session,
             self.bench,
             self.ready,
             line,
+            words,
             answers,
         )
     }
@@ -60,12 +66,13 @@ impl<P: Picker, B: Bench> Answerer for Talk<'_, P, B> {
 }
 
 // What a line says is done, and what it writes is appended, with the line that tells it as done.
-fn answer_line<P: Picker, B: Bench>(
+fn answer_line<'a, P: Picker, B: Bench>(
     alloc: Global,
     session: &mut LineSession<P>,
     bench: &mut B,
     ready: bool,
-    line: &[u8],
+    line: &'a [u8],
+    words: &mut Vec<&'a [u8]>,
     answers: &mut Vec<u8>,
 ) -> Result<(), AllocError>
     requires sound { IsSound (B.calc bench.old) session.old.running.standing.state }
@@ -83,7 +90,7 @@ fn answer_line<P: Picker, B: Bench>(
     ensures err { OnErr result ((rest : List (List ℕ)) → IsFrontOf answers.new.items
         (answers.old.items ++ conversation (record { calc = B.calc bench.old; at = P.at; after = P.after }) ready session.old (line.now ∷ rest))) }
 {
-    if session.say(line, bench, answers).is_err() {
+    if session.say(line, words, bench, answers).is_err() {
         return Err(AllocError);
     }
     tell_ready(alloc, ready, session.line(), answers)

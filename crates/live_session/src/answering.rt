@@ -18,13 +18,14 @@ use std::alloc::{AllocError, Global};
 use watch_rounds::Picker;
 
 // What a line says is done, or its fault is told, behind so many lines. The parts are those of a session that is spoken to.
-pub(crate) fn answer<P: Picker, B: Bench>(
+pub(crate) fn answer<'a, P: Picker, B: Bench>(
     alloc: Global,
     session: &mut WatchedSession<P>,
     blocks: &mut Blocks,
     reader: &mut Reader,
     before: u64,
-    line: &[u8],
+    line: &'a [u8],
+    words: &mut Vec<&'a [u8]>,
     bench: &mut B,
     out: &mut Vec<u8>,
 ) -> Result<(), AllocError>
@@ -55,6 +56,7 @@ pub(crate) fn answer<P: Picker, B: Bench>(
     match read(
         alloc,
         line,
+        words,
         &mut reader.names,
         &mut reader.begun,
         names,

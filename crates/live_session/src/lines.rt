@@ -114,11 +114,19 @@ impl Lines {
         Ok(name)
     }
 
+    /// Room for the words of lines, with none yet.
+    pub fn words<'a>(&self) -> Vec<&'a [u8]>
+        ensures { result.items ≡ [] }
+    {
+        Vec::new(self.alloc)
+    }
+
     /// What a line says is done in its session, as `LineSession::say` does it.
-    pub fn say<P: Picker, B: Bench>(
+    pub fn say<'a, P: Picker, B: Bench>(
         &mut self,
         session: &mut WatchedSession<P>,
-        line: &[u8],
+        line: &'a [u8],
+        words: &mut Vec<&'a [u8]>,
         bench: &mut B,
         out: &mut Vec<u8>,
     ) -> Result<(), SayFault>
@@ -155,6 +163,7 @@ impl Lines {
             &mut self.reader,
             self.line,
             line,
+            words,
             bench,
             out,
         );

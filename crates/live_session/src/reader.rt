@@ -36,9 +36,10 @@ impl Reader {
 // What a line says over these names and these names of actions, inside a block or not, or its first fault. It is read over
 // copies, in which its names are left.
 #[tactic(auto, unfolding(live_model::specs::Live::meaning))]
-pub(crate) fn read(
+pub(crate) fn read<'a>(
     alloc: Global,
-    line: &[u8],
+    line: &'a [u8],
+    words: &mut Vec<&'a [u8]>,
     copy: &mut Names,
     copy_begun: &mut Names,
     names: &Names,
@@ -59,8 +60,7 @@ pub(crate) fn read(
     }
     copy_of(alloc, copy, names)?;
     copy_of(alloc, copy_begun, begun)?;
-    let mut words = Vec::new(alloc);
-    let statement = read_line(line, &mut words, copy, copy_begun, inside)?;
+    let statement = read_line(line, words, copy, copy_begun, inside)?;
     if is_lacking(copy, copy_begun, &statement) {
         return Err(LineFault::Kind(ScriptKind::NoAction));
     }

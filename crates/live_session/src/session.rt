@@ -121,14 +121,16 @@ impl<P: Picker> LineSession<P> {
 
     /// What a line says is done, and what it writes is appended: the lines of its round, or that of its fault, which changes
     /// nothing else. `line` is without what ends it. Of one that is longer than `MOST_LINE` bytes, any front that is longer
-    /// says the same.
+    /// says the same. `words` is room for its words, so that it need not be made for each line: what stands in it is not looked at,
+    /// and not promised.
     ///
     /// Lines are counted from 1. A session that is stopped takes none, and none is taken behind line 2^64 - 1. After want of
     /// memory the line is not counted: a front of its lines was appended, and the session is stopped, where memory ran out in
     /// a round; else nothing was appended, and it is as it was, but for names that are new.
-    pub fn say<B: Bench>(
+    pub fn say<'a, B: Bench>(
         &mut self,
-        line: &[u8],
+        line: &'a [u8],
+        words: &mut Vec<&'a [u8]>,
         bench: &mut B,
         out: &mut Vec<u8>,
     ) -> Result<(), SayFault>
@@ -151,6 +153,6 @@ impl<P: Picker> LineSession<P> {
         ensures kept { IsErrOf result SayFault.Stopped ⊎ IsErrOf result SayFault.TooManyLines
             → (self.new ≡ self.old) × (out.new.items ≡ out.old.items) × (bench.new ≡ bench.old) }
     {
-        self.lines.say(&mut self.session, line, bench, out)
+        self.lines.say(&mut self.session, line, words, bench, out)
     }
 }

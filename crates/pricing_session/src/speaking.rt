@@ -40,7 +40,8 @@ impl<P: Picker + Drop, B: Bench + Drop> PricingSession<P, B> {
             → (self.new ≡ self.old) × (lines.new ≡ lines.old) × (out.new.items ≡ out.old.items) }
         ensures stands { StandBy P self.new.running lines.new }
     {
-        let done = lines.say(&mut self.session, line, &mut self.bench, out);
+        let mut words = lines.words();
+        let done = lines.say(&mut self.session, line, &mut words, &mut self.bench, out);
         self.actions = lines.actions(&self.session);
         done
     }

@@ -31,16 +31,16 @@ returns-then-is_empty-clause-err g c =
 pub returns-in_err-keep-clause-err : goal.returns-in_err-keep-clause-err
 returns-in_err-keep-clause-err g c = err_with c.from_residual.result (λ part begun rest. put_none _ _)
 
-pub returns-in_err-answer_line-clause-err : goal.returns-in_err-answer_line-clause-err
-returns-in_err-answer_line-clause-err g c =
+pub returns-in_err-answer_alone-clause-err : goal.returns-in_err-answer_alone-clause-err
+returns-in_err-answer_alone-clause-err g c =
     let kept : c.keep.new.line.items ≡ kept_with c.args.line.now.items c.args.text.now = c.in_ok-keep.ensures in
     let is : c.without_return-2.result.now ≡ strip_carriage_return (kept_with c.args.line.now.items c.args.text.now) =
     c.without_return-2.ensures ∙ ap strip_carriage_return (c.deref.ensures.value ∙ kept) in
-    err_with c.from_residual-in_err-answer_line.result (λ part begun rest.
+    err_with c.from_residual-in_err-answer_alone.result (λ part begun rest.
     let kept_open = open_more part c.args.line.now.items c.args.text.now begun c.requires.unended in
     line_fails (g.A.Answerer.told c.args.answerer.now) (g.A.Answerer.called c.args.answerer.now) part c.args.text.now c.without_return-2.result.now kept_open.unended
     (subst (λ (l : List ℕ). AreAlike l (strip_carriage_return (part ++ c.args.text.now))) (sym is) (stripped_alike (part ++ c.args.text.now) _ kept_open))
-    c.answer_line-2.ensures.long c.args.answers.now.items rest _ _ c.in_err-answer_line.ensures.err)
+    c.answer_alone.ensures.long c.args.answers.now.items rest _ _ c.in_err-answer_alone.ensures.err)
 
 pub returns-clause-ok : goal.returns-clause-ok
 returns-clause-ok g c = λ part begun.
@@ -50,4 +50,4 @@ returns-clause-ok g c = λ part begun.
     let kept_open = open_more part c.args.line.now.items c.args.text.now begun c.requires.unended in
     line_heard (g.A.Answerer.told c.args.answerer.now) (g.A.Answerer.called c.args.answerer.now) part c.args.text.now c.without_return-2.result.now kept_open.unended
     (subst (λ (l : List ℕ). AreAlike l (strip_carriage_return (part ++ c.args.text.now))) (sym is) (stripped_alike (part ++ c.args.text.now) _ kept_open))
-    c.answer_line-2.ensures.long _ _ _ _ c.in_ok-answer_line.ensures.ok
+    c.answer_alone.ensures.long _ _ _ _ c.in_ok-answer_alone.ensures.ok

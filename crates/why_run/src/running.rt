@@ -6,7 +6,7 @@ ghost use Rattle.desk_edge.specs.Shelf.{files_of};
 ghost use Rattle.desk_plan.specs.declared.status.FileRole.{FileRole};
 ghost use Rattle.desk_plan.specs.Status.{stage_of};
 ghost use Rattle.script_steps.specs.Calls.{Makes, Begins};
-ghost use Rattle.tool_run.specs.Run.{status_of, given_for, IsAccepted};
+ghost use Rattle.tool_run.specs.Run.{status_of, given_for, IsAccepted, IsThere};
 ghost use Rattle.tool_run.specs.Stage.{IsOutside, IsEarly, IsQuiet, Writes, Computes, faults_then};
 ghost use Rattle.why_run.specs.Answering.{output_in, computed_in};
 ghost use Rattle.why_run.specs.Verdict.{Wanted, verdict_of, reading_calls};
@@ -39,6 +39,9 @@ pub fn run_why<H: Shelf, K: Sink, B: Bench>(
     ensures status { IfSome (files_of (H.contents shelf.old)) (λ files.
         IsOutside (stage_of result) ⊎ (result ≡ status_of Status.Done (verdict_of files (map string_bytes words.now)))) }
     ensures usage { (result ≡ Status.Usage) ↔ (triple_of (map string_bytes words.now) ≡ None) }
+    // Memory is wanted only where the market's file is there.
+    ensures there { IfSome (files_of (H.contents shelf.old)) (λ files.
+        result ≡ Status.NoMemory → IsThere (triple_of (map string_bytes words.now)) (λ triple. triple.market) files) }
 
     // What is accepted is done, where no fault is counted and memory is found.
     ensures complete { IfSome (files_of (H.contents shelf.old)) (λ files.

@@ -6,7 +6,7 @@ ghost use Rattle.desk_edge.specs.Shelf.{files_of};
 ghost use Rattle.desk_plan.specs.declared.status.FileRole.{FileRole};
 ghost use Rattle.desk_plan.specs.Found.{CanRun};
 ghost use Rattle.desk_plan.specs.Status.{stage_of};
-ghost use Rattle.tool_run.specs.Run.{Tells, faults_after};
+ghost use Rattle.tool_run.specs.Run.{Tells, IsThere, faults_after};
 ghost use Rattle.tool_run.specs.Stage.{IsBefore};
 ghost use Rattle.why_run.specs.Verdict.{wanted_in, verdict_of, reading_calls};
 ghost use Rattle.why_run.specs.Words.{triple_of};
@@ -31,6 +31,8 @@ pub(crate) fn wanted_of<'a, H: Shelf>(
 ) -> Result<Wanted<'a>, Status>
     ensures tells { IfSome (files_of (H.contents shelf.old)) (λ files. Tells stage_of wanted_in result (verdict_of files (map string_bytes words.now))) }
     ensures usage { IsErrOf result Status.Usage ↔ (triple_of (map string_bytes words.now) ≡ None) }
+    ensures there { IfSome (files_of (H.contents shelf.old)) (λ files.
+        IsErrOf result Status.NoMemory → IsThere (triple_of (map string_bytes words.now)) (λ triple. triple.market) files) }
     ensures can { IfOk result (λ wanted. CanRun wanted.run) }
     ensures before { IfErr result (λ status. IsBefore (stage_of status)) }
     ensures files { files_of (H.contents shelf.new) ≡ files_of (H.contents shelf.old) }

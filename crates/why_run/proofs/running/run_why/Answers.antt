@@ -1,10 +1,17 @@
 use Rattle.std.proofs.Common.{inr, refl, [], pos}
+use Rattle.std.specs.Prelude.{map}
+use Rattle.std.specs.String.{string_bytes}
+use Rattle.desk_edge.specs.Shelf.{files_of}
+use Rattle.desk_plan.specs.declared.status.Status.TheVariants.{Usage}
 use Rattle.desk_plan.specs.Status.{stage_of}
 use Rattle.script_steps.specs.Calls.{Makes, Begins}
 use Rattle.script_steps.proofs.Calling.{begins_none}
+use Rattle.tool_run.proofs.Asking.{told_there}
 use Rattle.tool_run.proofs.Early.{early_or_none}
 use Rattle.why_run.specs.Answering.{output_in, computed_in}
-use Rattle.why_run.specs.Verdict.{Wanted, wanted_in}
+use Rattle.why_run.specs.Verdict.{Wanted, wanted_in, wanted_of, verdict_of}
+use Rattle.why_run.specs.Words.{Triple, triple_of}
+use Rattle.why_run.proofs.There.{wanted_there}
 use Rattle.why_run.proofs.running.run_why.Goals as goal
 
 -- some name over some script: memory ran out before anything was known of them
@@ -39,3 +46,10 @@ returns-in-Ok-text_of-clause-carried g c =
 
 pub returns-clause-carried : goal.returns-clause-carried
 returns-clause-carried g c = inr (wanted_in c.in-Ok.wanted, refl, c.in-Err-text_of.ensures.calls)
+
+pub returns-clause-there : goal.returns-clause-there
+unfolding verdict_of
+returns-clause-there g c =
+    told_there (λ (triple : Triple). triple.market) Usage wanted_of wanted_there _
+    (files_of (g.H.Shelf.contents c.args.shelf.now)) (triple_of (map string_bytes c.args.words.now)) (wanted_in c.in-Ok.wanted)
+    c.in-Ok.ensures.tells

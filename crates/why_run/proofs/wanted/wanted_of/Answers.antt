@@ -16,6 +16,7 @@ use Rattle.tool_run.proofs.Opening.{told_of}
 use Rattle.why_run.specs.declared.wanted.Wanted as given
 use Rattle.why_run.specs.Verdict.{Wanted, wanted_in, wanted_of, wanted_calls, verdict_of, reading_calls}
 use Rattle.why_run.specs.Words.{triple_in, triple_of}
+use Rattle.why_run.proofs.There.{lost_there}
 use Rattle.why_run.proofs.wanted.wanted_of.Goals as goal
 
 -- a name over a script that was read, or over one that was not
@@ -64,3 +65,8 @@ unfolding reading_calls
 returns-in-Err-clause-calls g c =
     told_calls wanted_calls (files_of (g.H.Shelf.contents c.args.shelf.now)) (triple_of (map string_bytes c.args.words.now))
     (triple_in c.in-Some.triple) _ _ (sym c.in-Some.ensures) c.in-Err.ensures.reads.calls
+
+pub returns-in-Err-clause-there : goal.returns-in-Err-clause-there
+returns-in-Err-clause-there g c =
+    rw (sym c.in-Some.ensures) (lost_there (files_of (g.H.Shelf.contents c.args.shelf.now)) c.in-Some.triple.market.now
+    c.in-Err.status c.in-Err.ensures.there)

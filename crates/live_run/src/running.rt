@@ -6,7 +6,7 @@ ghost use Rattle.desk_edge.specs.Shelf.{files_of};
 ghost use Rattle.desk_terms.specs.Bench.{counted, logged};
 ghost use Rattle.desk_plan.specs.declared.status.FileRole.{FileRole};
 ghost use Rattle.desk_plan.specs.Status.{stage_of};
-ghost use Rattle.tool_run.specs.Run.{status_of, given_for, IsAccepted};
+ghost use Rattle.tool_run.specs.Run.{status_of, given_for, IsAccepted, IsThere};
 ghost use Rattle.tool_run.specs.Stage.{IsOutside, IsBefore, IsQuiet};
 ghost use Rattle.live_run.specs.Ends.{outside, Ends, Writes, IsRefused};
 ghost use Rattle.live_run.specs.Replies.{ordered, replies_in, output_in, computed_in};
@@ -42,6 +42,9 @@ pub fn run_live<H: Shelf, F: Feed, K: Sink, B: Bench>(
     ensures status { IfSome (files_of (H.contents shelf.old)) (λ files.
         IsOutside (stage_of result) ⊎ (result ≡ status_of Status.Done (verdict_of files (map string_bytes words.now)))) }
     ensures usage { (result ≡ Status.Usage) ↔ (request_of (map string_bytes words.now) ≡ None) }
+    // Memory is wanted only where the market's file is there.
+    ensures there { IfSome (files_of (H.contents shelf.old)) (λ files.
+        result ≡ Status.NoMemory → IsThere (request_of (map string_bytes words.now)) (λ request. request.market) files) }
 
     // What is accepted is done, where no fault is counted and memory is found.
     ensures complete { IfSome (files_of (H.contents shelf.old)) (λ files.

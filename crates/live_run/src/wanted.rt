@@ -1,13 +1,13 @@
 // What words and files ask for.
-ghost use Rattle.std.specs.Prelude.{◌≡◌, ◌↔◌, ◌+◌, ◌≤◌, map, None, option_map, IfOk, IfErr, IfSome, IsErrOf};
+ghost use Rattle.std.specs.Prelude.{◌≡◌, ◌↔◌, ◌+◌, ◌≤◌, map, None, option_map, IfOk, IfErr, IfSome, IsErrOf, IsSome};
 ghost use Rattle.std.specs.String.{string_bytes};
 ghost use Rattle.desk_edge.specs.Count.{Rose};
-ghost use Rattle.desk_edge.specs.Shelf.{files_of};
+ghost use Rattle.desk_edge.specs.Shelf.{file_at, files_of};
 ghost use Rattle.market_loader.specs.Market.{market_calls};
 ghost use Rattle.market_loader.specs.Reads.{Reads, seen};
 ghost use Rattle.market_file.specs.Standing.{IsReady};
 ghost use Rattle.tool_run.specs.Market.{market_in};
-ghost use Rattle.tool_run.specs.Run.{Tells, faults_after};
+ghost use Rattle.tool_run.specs.Run.{Tells, IsThere, faults_after};
 ghost use Rattle.tool_run.specs.Stage.{IsBefore};
 ghost use Rattle.desk_plan.specs.declared.status.FileRole.{FileRole};
 ghost use Rattle.desk_plan.specs.Found.{CanRun, IsRefusal, run_in};
@@ -41,6 +41,8 @@ pub(crate) fn wanted_of<H: Shelf>(
 ) -> Result<Wanted, Status>
     ensures tells { IfSome (files_of (H.contents shelf.old)) (λ files. Tells stage_of live_in result (verdict_of files (map string_bytes words.now))) }
     ensures usage { IsErrOf result Status.Usage ↔ (request_of (map string_bytes words.now) ≡ None) }
+    ensures there { IfSome (files_of (H.contents shelf.old)) (λ files.
+        IsErrOf result Status.NoMemory → IsThere (request_of (map string_bytes words.now)) (λ request. request.market) files) }
     ensures can { IfOk result (λ wanted. CanRun wanted.run) }
     ensures before { IfErr result (λ status. IsBefore (stage_of status)) }
     ensures files { files_of (H.contents shelf.new) ≡ files_of (H.contents shelf.old) }
@@ -73,6 +75,7 @@ fn open<'x, H: Shelf>(
     ensures reads { Reads status_end run_in (run_for market.now (option_map (λ text. text.now) script.entry)) (run_calls_for market.now (option_map (λ text. text.now) script.entry))
         (seen (H.contents shelf.old) (H.faults shelf.old) (H.misses shelf.old) (H.calls shelf.old))
         (seen (H.contents shelf.new) (H.faults shelf.new) (H.misses shelf.new) (H.calls shelf.new)) result }
+    ensures there { IfSome (files_of (H.contents shelf.old)) (λ files. IsErrOf result Status.NoMemory → IsSome (file_at files market.now)) }
     ensures whole { IfOk result CanRun }
     ensures refused { IfErr result IsRefusal }
 {
@@ -87,6 +90,7 @@ fn open_bare<H: Shelf>(alloc: Global, shelf: &mut H, market: &str) -> Result<Scr
     ensures reads { Reads status_end run_in (run_for market.now None) (market_calls market.now)
         (seen (H.contents shelf.old) (H.faults shelf.old) (H.misses shelf.old) (H.calls shelf.old))
         (seen (H.contents shelf.new) (H.faults shelf.new) (H.misses shelf.new) (H.calls shelf.new)) result }
+    ensures there { IfSome (files_of (H.contents shelf.old)) (λ files. IsErrOf result Status.NoMemory → IsSome (file_at files market.now)) }
     ensures whole { IfOk result CanRun }
     ensures refused { IfErr result IsRefusal }
 {

@@ -1,5 +1,12 @@
 use Rattle.std.proofs.Common.{inr}
-use Rattle.live_run.specs.Verdict.{live_in}
+use Rattle.std.specs.Prelude.{map}
+use Rattle.std.specs.String.{string_bytes}
+use Rattle.desk_edge.specs.Shelf.{files_of}
+use Rattle.desk_plan.specs.declared.status.Status.TheVariants.{Usage}
+use Rattle.tool_run.proofs.Asking.{told_there}
+use Rattle.live_run.specs.Verdict.{live_in, wanted_of, verdict_of}
+use Rattle.live_run.specs.Words.{Request, request_of}
+use Rattle.live_run.proofs.Asked.{asked_there}
 use Rattle.live_run.proofs.running.run_live.Goals as goal
 
 pub returns-in-Ok-converse-clause-carried : goal.returns-in-Ok-converse-clause-carried
@@ -9,3 +16,9 @@ returns-in-Ok-converse-clause-carried g c =
 pub returns-in-Err-converse-clause-carried : goal.returns-in-Err-converse-clause-carried
 returns-in-Err-converse-clause-carried g c =
     inr (live_in c.in-Ok.wanted, c.in-Ok.ensures.tells, c.in-Ok.ensures.counted, c.in-Err-converse.ensures.ends)
+
+pub returns-in-Err-converse-clause-there : goal.returns-in-Err-converse-clause-there
+unfolding verdict_of
+returns-in-Err-converse-clause-there g c =
+    told_there (λ (request : Request). request.market) Usage wanted_of asked_there _
+    (files_of (g.H.Shelf.contents c.args.shelf.now)) (request_of (map string_bytes c.args.words.now)) (live_in c.in-Ok.wanted) c.in-Ok.ensures.tells

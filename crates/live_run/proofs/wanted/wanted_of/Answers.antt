@@ -7,7 +7,7 @@ use Rattle.desk_plan.specs.Status.{stage_of}
 use Rattle.tool_run.proofs.Asking.{told_usage, told_calls}
 use Rattle.live_run.specs.Verdict.{live_in, wanted_of, wanted_calls, verdict_of, reading_calls}
 use Rattle.live_run.specs.Words.{request_of, request_in}
-use Rattle.live_run.proofs.Asked.{asked_found, asked_lost}
+use Rattle.live_run.proofs.Asked.{asked_found, asked_lost, halted_there}
 use Rattle.live_run.proofs.wanted.wanted_of.Goals as goal
 
 pub returns-in_default-clause-tells : goal.returns-in_default-clause-tells
@@ -40,3 +40,8 @@ unfolding reading_calls
 returns-in-Err-clause-calls g c =
     told_calls wanted_calls (files_of (g.H.Shelf.contents c.args.shelf.now)) (request_of (map string_bytes c.args.words.now))
     (request_in c.in-Some.request) _ _ (sym c.in-Some.ensures) c.in-Err.ensures.reads.calls
+
+pub returns-in-Err-clause-there : goal.returns-in-Err-clause-there
+returns-in-Err-clause-there g c =
+    halted_there _ _ (files_of (g.H.Shelf.contents c.args.shelf.now)) (request_of (map string_bytes c.args.words.now))
+    (request_in c.in-Some.request) c.in-Err.status (sym c.in-Some.ensures) c.in-Err.ensures.there

@@ -29,7 +29,7 @@ counted_both count calls more =
 pub more_none : (out : Output) → out ≡ with_more [] [] out
 more_none out = λ i. record { lines = sym (append-nil out.lines) i; count = out.count; log = logged_none out.log i }
 
-more_more : (lines late : List ℕ) (calls more : List (ℕ × Bool)) (out : Output)
+pub more_more : (lines late : List ℕ) (calls more : List (ℕ × Bool)) (out : Output)
     → with_more late more (with_more lines calls out) ≡ with_more (lines ++ late) (calls ++ more) out
 more_more lines late calls more out = λ i. record {
   lines = append_assoc out.lines lines late i;

@@ -6,4 +6,5 @@ mod Known
 mod Larger
 mod Passing
 mod Plays
+pub mod Stopping
 mod Taken

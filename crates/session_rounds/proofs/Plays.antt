@@ -13,7 +13,7 @@ use Rattle.session_model.proofs.Ends.{all_done_left, eight_each}
 use Rattle.session_rounds.specs.Goes.{Output, Does, Halts, Goes, Runs}
 use Rattle.session_rounds.proofs.Going.{more_none, out_more, joined, goes_on, goes_halt, goes_end}
 
-drop_read : (commands : List Command) (i : ℕ) (c : Command) → slice_get commands i ≡ Some c
+pub drop_read : (commands : List Command) (i : ℕ) (c : Command) → slice_get commands i ≡ Some c
     → drop i commands ≡ c ∷ drop (i + 1) commands
 drop_read commands i c is = subst (λ (n : ℕ). drop i commands ≡ c ∷ drop n commands) (one i) (drop_suc commands i c is)
   where
@@ -76,7 +76,7 @@ plays_none {P} m r w out is = rw is (record { next = refl; out = more_none out }
 
 -- THE RUNS OF A ROUND
 module _ {P : Type 0} (m : Meaning P) where
-  some_due : (due : List DueWatcher) (at w : ℕ) → watcher_of (slice_get due at) ≡ Some w → (length due == 0) ≡ false
+  pub some_due : (due : List DueWatcher) (at w : ℕ) → watcher_of (slice_get due at) ≡ Some w → (length due == 0) ≡ false
   some_due [] zero w is = absurd (cc)
   some_due [] (suc at) w is = absurd (cc)
   some_due (entry ∷ due) at w is = ne_eqb (length (entry ∷ due)) 0 (λ none. absurd (omega arith))

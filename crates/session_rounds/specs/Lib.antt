@@ -1,3 +1,4 @@
 pub mod Fits
 pub mod Goes
 pub mod Quiet
+pub mod Stopped

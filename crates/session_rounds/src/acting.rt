@@ -1,13 +1,15 @@
 // What one command does in a round.
-ghost use Rattle.std.specs.Prelude.{◌≡◌, ◌≤◌, ◌+◌, true, false, [], length, is_ok, OnOk, OnErr};
+ghost use Rattle.std.specs.Prelude.{◌≡◌, ◌⊎◌, ◌∷◌, ◌≤◌, ◌+◌, true, false, [], length, is_ok, OnOk, OnErr};
 ghost use Rattle.desk_model.specs.Sound.{IsSound};
 ghost use Rattle.session_model.specs.Standing.{IsKnown};
 ghost use Rattle.session_model.specs.Resolve.{resolve};
 ghost use Rattle.session_model.specs.Turn.{turn};
 ghost use Rattle.session_model.specs.Course.{taken, course_of};
 ghost use Rattle.session_core.specs.Steps.{is_without_memory};
+ghost use Rattle.session_model.specs.Moments.{moment_of};
 ghost use Rattle.session_rounds.specs.Goes.{Does, Halts, Stays};
 ghost use Rattle.session_rounds.specs.Quiet.{IsQuiet};
+ghost use Rattle.session_rounds.specs.Stopped.{StopsWithin, StopsBehind, HaltsIn};
 
 use crate::WatchedSession;
 use crate::idle::forget_idle;
@@ -35,6 +37,9 @@ impl<P: Picker> WatchedSession<P> {
         ensures err { OnErr result (Halts P (course_of (record { calc = B.calc bench.old; at = P.at; after = P.after }) self.old command.now)
             (record { lines = lines.old.items; count = B.count bench.old; log = B.log bench.old })
             (record { lines = lines.new.items; count = B.count bench.new; log = B.log bench.new })) }
+        ensures so_far { OnErr result (HaltsIn (B.calc bench.old) (moment_of (record { calc = B.calc bench.old; at = P.at; after = P.after }) self.old command.now ∷ [])
+            (record { lines = lines.old.items; count = B.count bench.old; log = B.log bench.old })
+            (record { lines = lines.new.items; count = B.count bench.new; log = B.log bench.new })) }
         ensures stays { Stays (B.calc bench.old) self.old.standing self.new.standing }
         ensures running { OnOk result (self.new.standing.stopped ≡ false) }
         ensures ready { is_without_memory (resolve self.old.standing command.now) ≡ true
@@ -60,6 +65,13 @@ impl<P: Picker> WatchedSession<P> {
             self.new (record { lines = lines.old.items; count = B.count bench.old; log = B.log bench.old })
             (record { lines = lines.new.items; count = B.count bench.new; log = B.log bench.new })) }
         ensures err { OnErr result (Halts P (taken (turn (B.calc bench.old) self.old.standing command.now) self.old)
+            (record { lines = lines.old.items; count = B.count bench.old; log = B.log bench.old })
+            (record { lines = lines.new.items; count = B.count bench.new; log = B.log bench.new })) }
+        ensures so_far { OnErr result
+            (StopsWithin (B.calc bench.old) (moment_of (record { calc = B.calc bench.old; at = P.at; after = P.after }) self.old command.now)
+            (record { lines = lines.old.items; count = B.count bench.old; log = B.log bench.old })
+            (record { lines = lines.new.items; count = B.count bench.new; log = B.log bench.new })
+            ⊎ StopsBehind (B.calc bench.old) (moment_of (record { calc = B.calc bench.old; at = P.at; after = P.after }) self.old command.now)
             (record { lines = lines.old.items; count = B.count bench.old; log = B.log bench.old })
             (record { lines = lines.new.items; count = B.count bench.new; log = B.log bench.new })) }
         ensures stays { Stays (B.calc bench.old) self.old.standing self.new.standing }

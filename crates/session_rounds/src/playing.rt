@@ -4,7 +4,9 @@ ghost use Rattle.desk_model.specs.Sound.{IsSound};
 ghost use Rattle.watch_rounds.specs.Round.{runs_left, watcher_at, with_run};
 ghost use Rattle.session_model.specs.Standing.{IsKnown, name_of};
 ghost use Rattle.session_model.specs.Course.{course_of_all, action_of, runs_by};
+ghost use Rattle.session_model.specs.Moments.{moments_of_all, moments_of_runs};
 ghost use Rattle.session_rounds.specs.Goes.{Does, Halts, Stays, HasEnded};
+ghost use Rattle.session_rounds.specs.Stopped.{HaltsIn};
 
 use crate::WatchedSession;
 use desk_names::ObjId;
@@ -29,6 +31,10 @@ impl<P: Picker> WatchedSession<P> {
             (record { lines = lines.new.items; count = B.count bench.new; log = B.log bench.new })) }
         ensures err { OnErr result ((k : ℕ) → runs_left self.old.round ≤ k
             → Halts P (runs_by (record { calc = B.calc bench.old; at = P.at; after = P.after }) k self.old)
+            (record { lines = lines.old.items; count = B.count bench.old; log = B.log bench.old })
+            (record { lines = lines.new.items; count = B.count bench.new; log = B.log bench.new })) }
+        ensures so_far { OnErr result ((k : ℕ) → runs_left self.old.round ≤ k
+            → HaltsIn (B.calc bench.old) (moments_of_runs (record { calc = B.calc bench.old; at = P.at; after = P.after }) k self.old)
             (record { lines = lines.old.items; count = B.count bench.old; log = B.log bench.old })
             (record { lines = lines.new.items; count = B.count bench.new; log = B.log bench.new })) }
         ensures stays { Stays (B.calc bench.old) self.old.standing self.new.standing }
@@ -77,6 +83,10 @@ impl<P: Picker> WatchedSession<P> {
             (action_of self.old.standing (Some watcher)) self.old)
             (record { lines = lines.old.items; count = B.count bench.old; log = B.log bench.old })
             (record { lines = lines.new.items; count = B.count bench.new; log = B.log bench.new })) }
+        ensures so_far { OnErr result (HaltsIn (B.calc bench.old) (moments_of_all (record { calc = B.calc bench.old; at = P.at; after = P.after })
+            (action_of self.old.standing (Some watcher)) self.old)
+            (record { lines = lines.old.items; count = B.count bench.old; log = B.log bench.old })
+            (record { lines = lines.new.items; count = B.count bench.new; log = B.log bench.new })) }
         ensures stays { Stays (B.calc bench.old) self.old.standing self.new.standing }
         ensures running { OnOk result (self.new.standing.stopped ≡ false) }
     {
@@ -110,6 +120,10 @@ impl<P: Picker> WatchedSession<P> {
             self.new (record { lines = lines.old.items; count = B.count bench.old; log = B.log bench.old })
             (record { lines = lines.new.items; count = B.count bench.new; log = B.log bench.new })) }
         ensures err { OnErr result (Halts P (course_of_all (record { calc = B.calc bench.old; at = P.at; after = P.after })
+            (slice_index_or self.old.standing.actions action []) self.old)
+            (record { lines = lines.old.items; count = B.count bench.old; log = B.log bench.old })
+            (record { lines = lines.new.items; count = B.count bench.new; log = B.log bench.new })) }
+        ensures so_far { OnErr result (HaltsIn (B.calc bench.old) (moments_of_all (record { calc = B.calc bench.old; at = P.at; after = P.after })
             (slice_index_or self.old.standing.actions action []) self.old)
             (record { lines = lines.old.items; count = B.count bench.old; log = B.log bench.old })
             (record { lines = lines.new.items; count = B.count bench.new; log = B.log bench.new })) }

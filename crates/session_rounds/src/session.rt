@@ -4,9 +4,11 @@ ghost use Rattle.desk_terms.specs.Reading.{Calc};
 ghost use Rattle.desk_model.specs.Sound.{IsSound};
 ghost use Rattle.session_model.specs.Standing.{IsKnown};
 ghost use Rattle.session_model.specs.Course.{running, opened, round_of};
+ghost use Rattle.session_model.specs.Moments.{moments_of_round};
 ghost use Rattle.session_rounds.specs.Fits.{AreKnown};
 ghost use Rattle.session_rounds.specs.Goes.{Does, Halts, Stays, HasEnded};
 ghost use Rattle.session_rounds.specs.Quiet.{IsQuiet};
+ghost use Rattle.session_rounds.specs.Stopped.{HaltsIn};
 
 use crate::telling::drain;
 use desk_terms::Bench;
@@ -81,8 +83,8 @@ impl<P: Picker> WatchedSession<P> {
     }
 
     /// Runs the round of a command: the command with its notices, and the runs of the watchers that are due, one at a
-    /// time, until none is. After want of memory a front of the round's lines was appended, a front of its computations
-    /// was begun, all of which ended but the last one at most, and the session is stopped.
+    /// time, until none is. After want of memory the lines of what was done before were appended, a front of the round's
+    /// computations was begun, all of which ended but the last one at most, and the session is stopped.
     pub fn step<B: Bench>(
         &mut self,
         command: &Command,
@@ -98,6 +100,10 @@ impl<P: Picker> WatchedSession<P> {
             self.new (record { lines = lines.old.items; count = B.count bench.old; log = B.log bench.old })
             (record { lines = lines.new.items; count = B.count bench.new; log = B.log bench.new })) }
         ensures halts { OnErr result (Halts P (round_of (record { calc = B.calc bench.old; at = P.at; after = P.after }) self.old command.now)
+            (record { lines = lines.old.items; count = B.count bench.old; log = B.log bench.old })
+            (record { lines = lines.new.items; count = B.count bench.new; log = B.log bench.new })) }
+        // After want of memory the lines of all that was done before stand whole: memory ran out in one of the round's moments.
+        ensures so_far { OnErr result (HaltsIn (B.calc bench.old) (moments_of_round (record { calc = B.calc bench.old; at = P.at; after = P.after }) self.old command.now)
             (record { lines = lines.old.items; count = B.count bench.old; log = B.log bench.old })
             (record { lines = lines.new.items; count = B.count bench.new; log = B.log bench.new })) }
         // A command that takes no memory and is not refused, that makes no watcher due and calls for no `over` line, is done
@@ -131,6 +137,9 @@ impl<P: Picker> WatchedSession<P> {
             self.new (record { lines = lines.old.items; count = B.count bench.old; log = B.log bench.old })
             (record { lines = lines.new.items; count = B.count bench.new; log = B.log bench.new })) }
         ensures err { OnErr result (Halts P (round_of (record { calc = B.calc bench.old; at = P.at; after = P.after }) self.old command.now)
+            (record { lines = lines.old.items; count = B.count bench.old; log = B.log bench.old })
+            (record { lines = lines.new.items; count = B.count bench.new; log = B.log bench.new })) }
+        ensures so_far { OnErr result (HaltsIn (B.calc bench.old) (moments_of_round (record { calc = B.calc bench.old; at = P.at; after = P.after }) self.old command.now)
             (record { lines = lines.old.items; count = B.count bench.old; log = B.log bench.old })
             (record { lines = lines.new.items; count = B.count bench.new; log = B.log bench.new })) }
         ensures ready { IsQuiet P (record { calc = B.calc bench.old; at = P.at; after = P.after }) (opened self.old) command.now

@@ -1,4 +1,4 @@
-use Rattle.std.proofs.Common.{◌≡◌, ◌∙◌, length, sym, ap, subst, arith}
+use Rattle.std.proofs.Common.{◌≡◌, inl, inr, ◌∙◌, length, sym, ap, subst, arith}
 use Rattle.std.specs.Prelude.{true}
 use Rattle.std.proofs.lemmas.Result.{on_err_weaker}
 use Rattle.watch_rounds.specs.Round.{Round, RoundsView}
@@ -6,9 +6,10 @@ use Rattle.session_core.specs.Steps.{is_without_memory}
 use Rattle.session_model.specs.Standing.{Standing}
 use Rattle.session_model.specs.Resolve.{resolve}
 use Rattle.session_model.specs.Turn.{turn}
-use Rattle.session_model.specs.Course.{Running, taken}
+use Rattle.session_model.specs.Course.{Running, Meaning, taken}
 use Rattle.session_rounds.specs.Fits.{Fits}
 use Rattle.session_rounds.proofs.Going.{does_halts}
+use Rattle.session_rounds.proofs.Stopping.{stops_within, stops_at_once}
 use Rattle.session_model.proofs.Live.{acted_long}
 use Rattle.session_rounds.proofs.Taken.{does_taken, halts_taken, fits_acted, stopped_or_same, quiet_numbers}
 use Rattle.session_rounds.proofs.session.WatchedSession.act.Goals as goal
@@ -47,3 +48,17 @@ returns-in-Err-clause-err g c =
     let r : Running g.row.P.Denot = record { standing = c.self.inside.session; round = c.self.inside.rounds.round; picker = c.self.inside.picker } in
     rw (← c.self.view_is)
     (halts_taken (turn (g.B.Bench.calc c.args.bench.now) c.self.inside.session c.args.command.now) r _ _ _ _ _ _ _ _ _ c.in-Err.ensures.halts)
+
+pub returns-in-Ok-clause-so_far : goal.returns-in-Ok-clause-so_far
+returns-in-Ok-clause-so_far g c =
+    let m : Meaning g.row.P.Denot = record { calc = g.B.Bench.calc c.args.bench.now; at = g.P.Picker.at; after = g.P.Picker.after } in
+    let r : Running g.row.P.Denot = record { standing = c.self.inside.session; round = c.self.inside.rounds.round; picker = c.self.inside.picker } in
+    let t = turn (g.B.Bench.calc c.args.bench.now) c.self.inside.session c.args.command.now in
+    rw (← c.self.view_is) (on_err_weaker c.make_room.result (λ stopped. inr (stops_at_once m r c.args.command.now _ _
+    (does_taken t r _ _ _ _ _ _ c.act.new.self c.in-Ok.ensures.acts).out)) c.make_room.ensures.err)
+
+pub returns-in-Err-clause-so_far : goal.returns-in-Err-clause-so_far
+returns-in-Err-clause-so_far g c =
+    let m : Meaning g.row.P.Denot = record { calc = g.B.Bench.calc c.args.bench.now; at = g.P.Picker.at; after = g.P.Picker.after } in
+    let r : Running g.row.P.Denot = record { standing = c.self.inside.session; round = c.self.inside.rounds.round; picker = c.self.inside.picker } in
+    rw (← c.self.view_is) (inl (stops_within m r c.args.command.now _ _ _ _ _ _ _ _ _ c.in-Err.ensures.halts))

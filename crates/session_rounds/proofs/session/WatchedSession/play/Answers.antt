@@ -1,13 +1,16 @@
-use Rattle.std.proofs.Common.{◌∙◌, List, [], refl, sym, ap, subst, arith}
+use Rattle.std.proofs.Common.{◌∙◌, List, [], ◌∷◌, refl, sym, ap, subst, arith}
 use Rattle.std.specs.Prelude.{slice_get, slice_index_or}
 use Rattle.std.proofs.lemmas.Result.{err_from_is_err_and}
 use Rattle.std.proofs.lemmas.Option.{slice_get_within}
 use Rattle.desk_terms.specs.Reading.{Calc}
 use Rattle.session_commands.specs.declared.command.Command.{Command}
 use Rattle.session_model.specs.Course.{Meaning, course_of, course_of_all}
+use Rattle.session_model.specs.Moments.{moment_of, moments_of_all}
 use Rattle.session_rounds.specs.Goes.{Does, Halts, Stays}
+use Rattle.session_rounds.specs.Stopped.{HaltsIn}
 use Rattle.session_rounds.proofs.Going.{goes_start, stays_on}
 use Rattle.session_rounds.proofs.Plays.{plays_on, plays_halt, plays_end}
+use Rattle.session_rounds.proofs.Stopping.{leads_on, leads_halt}
 use Rattle.session_rounds.proofs.session.WatchedSession.play.Goals as goal
 
 pub loop-command-init : goal.loop-command-init
@@ -16,6 +19,7 @@ loop-command-init g c = record {
   stays = record { names = refl; actions = refl; sound = c.requires.sound };
   running = c.requires.running;
   goes = goes_start _ _;
+  leads = λ out_new halts. halts;
 }
 
 pub loop-command-smaller : goal.loop-command-smaller
@@ -40,6 +44,9 @@ loop-command-preserved g c =
       goes = plays_on m (slice_index_or c.args.self.now.standing.actions c.args.action []) c.loop-command.at
           (course_of_all m (slice_index_or c.args.self.now.standing.actions c.args.action []) c.args.self.now) c.in-Some.command c.loop-command.self c.command.new.self
           _ _ _ c.loop-command.invariant.goes is does;
+      leads = leads_on m (slice_index_or c.args.self.now.standing.actions c.args.action []) c.loop-command.at
+          (moments_of_all m (slice_index_or c.args.self.now.standing.actions c.args.action []) c.args.self.now) c.in-Some.command c.loop-command.self c.command.new.self
+          _ _ _ c.loop-command.invariant.leads is does;
     }
 
 pub returns-in_err-command-clause-err : goal.returns-in_err-command-clause-err
@@ -64,3 +71,17 @@ returns-clause-ok g c =
     plays_end m (slice_index_or c.args.self.now.standing.actions c.args.action []) c.loop-command.at
     (course_of_all m (slice_index_or c.args.self.now.standing.actions c.args.action []) c.args.self.now) c.loop-command.self
     _ _ c.loop-command.invariant.goes is
+
+pub returns-in_err-command-clause-so_far : goal.returns-in_err-command-clause-so_far
+returns-in_err-command-clause-so_far g c =
+    let m : Meaning g.row.P.Denot = record { calc = g.B.Bench.calc c.args.bench.now; at = g.P.Picker.at; after = g.P.Picker.after } in
+    let e = err_from_is_err_and c.from_residual.result c.from_residual.ensures.1 in
+    let is = ap (λ (l : List (List Command)). slice_get (slice_index_or l c.args.action []) c.loop-command.at) (sym c.loop-command.invariant.stays.actions)
+    ∙ sym c.command_at.ensures.at ∙ c.in-Some.is in
+    rw e.1 (leads_halt m (slice_index_or c.args.self.now.standing.actions c.args.action []) c.loop-command.at
+    (moments_of_all m (slice_index_or c.args.self.now.standing.actions c.args.action []) c.args.self.now) c.in-Some.command c.loop-command.self
+    _ _ _ c.loop-command.invariant.leads is
+    (subst (λ (k : Calc). HaltsIn k (moment_of (record m { calc = k }) c.loop-command.self c.in-Some.command ∷ [])
+    (record { lines = c.loop-command.lines.items; count = g.B.Bench.count c.loop-command.bench; log = g.B.Bench.log c.loop-command.bench })
+    (record { lines = c.command.new.lines.items; count = g.B.Bench.count c.command.new.bench; log = g.B.Bench.log c.command.new.bench }))
+    c.loop-command.invariant.same c.in_err-command.ensures.so_far))

@@ -1,4 +1,4 @@
-use Rattle.std.proofs.Common.{◌≡◌, ◌∙◌, [], sym, ap, subst, arith}
+use Rattle.std.proofs.Common.{◌≡◌, ◌∙◌, [], ◌∷◌, sym, ap, subst, arith}
 use Rattle.std.specs.Prelude.{is_ok}
 use Rattle.std.proofs.lemmas.Bool.{false≢true}
 use Rattle.std.proofs.lemmas.Result.{err_from_is_err_and, on_ok_weaker, on_err_weaker}
@@ -6,11 +6,14 @@ use Rattle.desk_terms.specs.Reading.{Calc}
 use Rattle.watch_rounds.specs.Round.{runs_left}
 use Rattle.session_model.specs.Standing.{IsKnown}
 use Rattle.session_model.specs.Course.{Running, Meaning, course_of, runs_by, most_runs, opened, round_of}
+use Rattle.session_model.specs.Moments.{moment_of, moments_of_runs, moments_of_round}
 use Rattle.session_model.proofs.Ends.{done_left}
 use Rattle.session_rounds.specs.Goes.{Does, Halts, Stays}
 use Rattle.session_rounds.specs.Quiet.{IsQuiet}
+use Rattle.session_rounds.specs.Stopped.{HaltsIn}
 use Rattle.session_rounds.proofs.Going.{does_both, halts_first, halts_second}
 use Rattle.session_rounds.proofs.Plays.{opened_left}
+use Rattle.session_rounds.proofs.Stopping.{halts_before, halts_then}
 use Rattle.session_rounds.proofs.session.WatchedSession.round.Goals as goal
 
 pub command-requires : goal.command-requires
@@ -96,3 +99,37 @@ returns-clause-ready g c = λ quiet.
     let m : Meaning g.row.P.Denot = record { calc = g.B.Bench.calc c.args.bench.now; at = g.P.Picker.at; after = g.P.Picker.after } in
     let here = subst (λ (r : Running g.row.P.Denot). IsQuiet g.row.P.Denot m r c.args.command.now) (sym c.open.ensures.opens) quiet in
     c.run_all.ensures.ready (ap (λ (r : Running g.row.P.Denot). r.round.due) c.in_ok-command.ensures.ok.next ∙ here.idle)
+
+pub returns-in_err-command-clause-so_far : goal.returns-in_err-command-clause-so_far
+unfolding moments_of_round
+returns-in_err-command-clause-so_far g c =
+    let m : Meaning g.row.P.Denot = record { calc = g.B.Bench.calc c.args.bench.now; at = g.P.Picker.at; after = g.P.Picker.after } in
+    let e = err_from_is_err_and c.from_residual.result c.from_residual.ensures.1 in
+    rw e.1 (halts_before m.calc (moment_of m (opened c.args.self.now) c.args.command.now ∷ [])
+    (moments_of_runs m (most_runs c.args.self.now) (course_of m (opened c.args.self.now) c.args.command.now).next)
+    (record { lines = c.args.lines.now.items; count = g.B.Bench.count c.args.bench.now; log = g.B.Bench.log c.args.bench.now })
+    (record { lines = c.command.new.lines.items; count = g.B.Bench.count c.command.new.bench; log = g.B.Bench.log c.command.new.bench })
+    (subst (λ (r : Running g.row.P.Denot). HaltsIn m.calc (moment_of m r c.args.command.now ∷ [])
+    (record { lines = c.args.lines.now.items; count = g.B.Bench.count c.args.bench.now; log = g.B.Bench.log c.args.bench.now })
+    (record { lines = c.command.new.lines.items; count = g.B.Bench.count c.command.new.bench; log = g.B.Bench.log c.command.new.bench }))
+    c.open.ensures.opens c.in_err-command.ensures.so_far))
+
+pub returns-clause-so_far : goal.returns-clause-so_far
+unfolding moments_of_round
+returns-clause-so_far g c =
+    let m : Meaning g.row.P.Denot = record { calc = g.B.Bench.calc c.args.bench.now; at = g.P.Picker.at; after = g.P.Picker.after } in
+    let first = subst (λ (r : Running g.row.P.Denot). Does g.row.P.Denot (course_of m r c.args.command.now) c.command.new.self
+    (record { lines = c.args.lines.now.items; count = g.B.Bench.count c.args.bench.now; log = g.B.Bench.log c.args.bench.now })
+    (record { lines = c.command.new.lines.items; count = g.B.Bench.count c.command.new.bench; log = g.B.Bench.log c.command.new.bench }))
+    c.open.ensures.opens c.in_ok-command.ensures.ok in
+    let same = ap (λ (r : Running g.row.P.Denot). runs_left r.round) first.next ∙ done_left m (opened c.args.self.now) c.args.command.now in
+    let eight = opened_left c.args.self.now in
+    on_err_weaker c.run_all.result (λ each. halts_then m (opened c.args.self.now) c.command.new.self c.args.command.now
+    (moments_of_runs m (most_runs c.args.self.now) (course_of m (opened c.args.self.now) c.args.command.now).next) _ _ _ first
+    (subst (λ (r : Running g.row.P.Denot). HaltsIn m.calc (moments_of_runs m (most_runs c.args.self.now) r)
+    (record { lines = c.command.new.lines.items; count = g.B.Bench.count c.command.new.bench; log = g.B.Bench.log c.command.new.bench })
+    (record { lines = c.run_all.new.lines.items; count = g.B.Bench.count c.run_all.new.bench; log = g.B.Bench.log c.run_all.new.bench })) first.next
+    (subst (λ (k : Calc). HaltsIn k (moments_of_runs (record m { calc = k }) (most_runs c.args.self.now) c.command.new.self)
+    (record { lines = c.command.new.lines.items; count = g.B.Bench.count c.command.new.bench; log = g.B.Bench.log c.command.new.bench })
+    (record { lines = c.run_all.new.lines.items; count = g.B.Bench.count c.run_all.new.bench; log = g.B.Bench.log c.run_all.new.bench }))
+    c.command.ensures.same (each (most_runs c.args.self.now) (omega arith))))) c.run_all.ensures.so_far

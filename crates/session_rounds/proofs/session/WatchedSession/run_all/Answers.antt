@@ -3,9 +3,12 @@ use Rattle.std.proofs.lemmas.Result.{err_from_is_err_and}
 use Rattle.desk_terms.specs.Reading.{Calc}
 use Rattle.watch_rounds.specs.Round.{runs_left}
 use Rattle.session_model.specs.Course.{Running, Meaning, course_of_all, begun, action_of, runs_by}
+use Rattle.session_model.specs.Moments.{moments_of_all}
 use Rattle.session_model.proofs.Ends.{all_done_left}
 use Rattle.session_rounds.specs.Goes.{Does, Halts, Stays}
+use Rattle.session_rounds.specs.Stopped.{HaltsIn}
 use Rattle.session_rounds.proofs.Plays.{begun_is, nobody_is, nobody_runs, runs_start, runs_on, runs_end, runs_halt}
+use Rattle.session_rounds.proofs.Stopping.{awaits_start, awaits_on, awaits_halt}
 use Rattle.session_rounds.proofs.session.WatchedSession.run_all.Goals as goal
 
 pub loop-watcher-init : goal.loop-watcher-init
@@ -17,6 +20,7 @@ loop-watcher-init g c =
       running = c.requires.running;
       idle = λ none. none;
       runs = runs_start m c.args.self.now _;
+      awaits = awaits_start m c.args.self.now _;
     }
 
 pub loop-watcher-smaller : goal.loop-watcher-smaller
@@ -50,6 +54,7 @@ loop-watcher-preserved g c =
       running = c.in_ok-run.ensures.running;
       idle = λ none. absurd (nobody_runs c.loop-watcher.self _ c.in-Some.watcher b.0 (c.loop-watcher.invariant.idle none));
       runs = runs_on m c.args.self.now c.loop-watcher.self c.run.new.self c.in-Some.watcher _ _ _ c.loop-watcher.invariant.runs b.0 falls does;
+      awaits = awaits_on m c.args.self.now c.loop-watcher.self c.run.new.self c.in-Some.watcher _ _ _ c.loop-watcher.invariant.awaits b.0 falls does;
     }
 
 pub returns-in_err-run-clause-err : goal.returns-in_err-run-clause-err
@@ -82,3 +87,19 @@ returns-clause-ok g c =
     (record { lines = c.args.lines.now.items; count = g.B.Bench.count c.args.bench.now; log = g.B.Bench.log c.args.bench.now })
     (record { lines = c.loop-watcher.lines.items; count = g.B.Bench.count c.loop-watcher.bench; log = g.B.Bench.log c.loop-watcher.bench })) (sym same)
     (runs_end m c.args.self.now c.loop-watcher.self _ _ c.loop-watcher.invariant.runs c.in_default.ensures.none)
+
+pub returns-in_err-run-clause-so_far : goal.returns-in_err-run-clause-so_far
+unfolding begun
+returns-in_err-run-clause-so_far g c =
+    let m : Meaning g.row.P.Denot = record { calc = g.B.Bench.calc c.args.bench.now; at = g.P.Picker.at; after = g.P.Picker.after } in
+    let b = begun_is m c.loop-watcher.self c.begin_run.new.self c.in-Some.watcher c.begin_run.result c.in-Some.is c.begin_run.ensures.due c.begin_run.ensures.begun in
+    let falls = subst (λ (r : Running g.row.P.Denot). runs_left r.round + 1 ≡ runs_left c.loop-watcher.self.round) b.1 c.in-Some.ensures.left in
+    let halts = subst (λ (r : Running g.row.P.Denot). HaltsIn m.calc (moments_of_all m (action_of r.standing (Some c.in-Some.watcher)) r)
+    (record { lines = c.loop-watcher.lines.items; count = g.B.Bench.count c.loop-watcher.bench; log = g.B.Bench.log c.loop-watcher.bench })
+    (record { lines = c.run.new.lines.items; count = g.B.Bench.count c.run.new.bench; log = g.B.Bench.log c.run.new.bench })) b.1
+    (subst (λ (k : Calc). HaltsIn k (moments_of_all (record m { calc = k }) (action_of c.begin_run.new.self.standing (Some c.in-Some.watcher)) c.begin_run.new.self)
+    (record { lines = c.loop-watcher.lines.items; count = g.B.Bench.count c.loop-watcher.bench; log = g.B.Bench.log c.loop-watcher.bench })
+    (record { lines = c.run.new.lines.items; count = g.B.Bench.count c.run.new.bench; log = g.B.Bench.log c.run.new.bench }))
+    c.loop-watcher.invariant.same c.in_err-run.ensures.so_far) in
+    let e = err_from_is_err_and c.from_residual.result c.from_residual.ensures.1 in
+    rw e.1 (awaits_halt m c.args.self.now c.loop-watcher.self c.in-Some.watcher _ _ _ c.loop-watcher.invariant.awaits b.0 falls halts)

@@ -10,7 +10,7 @@ ghost use Rattle.desk_plan.specs.declared.status.Status.{Status};
 ghost use Rattle.desk_plan.specs.Found.{faults_then};
 ghost use Rattle.desk_plan.specs.Verdict.{Plan as Wanted, IsAccepted, IsCheck, reading_calls, status_of, verdict_of};
 ghost use Rattle.session_play.specs.Early.{outside, IsCut, IsHalted};
-ghost use Rattle.session_play.specs.Output.{computed_by, output_of, rounds_of};
+ghost use Rattle.session_play.specs.Output.{computed_by, output_of, rounds_of, IsToldOf};
 ghost use Rattle.session_play.specs.Written.{Writes};
 ghost use Rattle.desk_top.specs.Headline.{IsHeadline};
 ghost use Rattle.desk_top.specs.Run.{IsOutside, IsEarly, IsQuiet};
@@ -71,6 +71,11 @@ pub fn run<H: Shelf, K: Sink, B: Bench>(
     ensures halted { IfSome (files_of (H.contents shelf.old)) (λ files. result ≡ Status.NoMemory
         → IsHalted (rounds_of (B.calc bench.old) (verdict_of files (map string_bytes words.now)))
         (outside (K.bytes out.old) (B.count bench.old) (B.log bench.old)) (outside (K.bytes out.new) (B.count bench.new) (B.log bench.new))) }
+    // Of a script that part is all that was told before memory ran out, unless a put failed.
+    ensures told { IfSome (files_of (H.contents shelf.old)) (λ files. result ≡ Status.NoMemory
+        → IsToldOf (B.calc bench.old) (verdict_of files (map string_bytes words.now))
+        (outside (K.bytes out.old) (B.count bench.old) (B.log bench.old)) (outside (K.bytes out.new) (B.count bench.new) (B.log bench.new))
+        ⊎ (K.faults out.new ≡ raised (K.faults out.old))) }
     ensures untold { result ≡ Status.WriteFault → (plan : Wanted)
         × IsCut (rounds_of (B.calc bench.old) (Ok plan))
         (outside (K.bytes out.old) (B.count bench.old) (B.log bench.old)) (outside (K.bytes out.new) (B.count bench.new) (B.log bench.new)) }

@@ -1,3 +1,4 @@
+pub mod Ahead
 pub mod Loaded
 pub mod Played
 pub mod Progress

@@ -1,9 +1,12 @@
 -- What a run leaves outside where it ends early: so many whole rounds, and a part of the next one.
-use Rattle.std.specs.Prelude.{◌≡◌, ◌+◌, ◌<◌, ◌≤◌, ℕ, Bool, List, ◌++◌, length, take, drop, Option}
+use Rattle.std.specs.Prelude.{◌≡◌, ◌+◌, ◌<◌, ◌≤◌, ℕ, Bool, List, [], ◌++◌, length, take, drop, Option}
 use Rattle.desk_edge.specs.Sink.{appended}
 use Rattle.desk_terms.specs.Bench.{counted, logged}
+use Rattle.desk_terms.specs.Reading.{Calc}
 use Rattle.session_model.specs.Course.{Course}
 use Rattle.session_model.specs.Rounds.{lines_of, calls_in}
+use Rattle.session_model.specs.Moments.{Moment}
+use Rattle.session_rounds.specs.Stopped.{HaltsIn}
 
 -- what is seen from outside: the bytes that the sink took, and the count and the log of the bench
 pub record Outside : Type 0 where
@@ -41,3 +44,10 @@ pub record IsHalted {P : Type 0} (courses : List (Course P)) (old new : Outside)
   pub bytes : new.bytes ≡ appended (lines_of (take whole courses) ++ take part (lines_of (next_of whole courses))) old.bytes
   pub count : new.count ≡ counted old.count (length (calls_in (take whole courses)) + begun)
   pub log : new.log ≡ logged old.log (calls_in (take whole courses) ++ take ended (calls_in (next_of whole courses)))
+
+-- MEMORY RAN OUT IN ONE OF THESE MOMENTS: all that those before it told was written, and what stands of that one.
+pub record IsToldSoFar (calc : Calc) (moments : List Moment) (old new : Outside) : Type 0 where
+  pub told : List ℕ
+  pub halts : HaltsIn calc moments (record { lines = []; count = old.count; log = old.log })
+      (record { lines = told; count = new.count; log = new.log })
+  pub bytes : new.bytes ≡ appended told old.bytes

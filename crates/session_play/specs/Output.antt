@@ -1,8 +1,9 @@
 -- What is written and computed of a plan, and its rounds (this project's profile).
-use Rattle.std.specs.Prelude.{ℕ, Bool, List, [], ◌∷◌, pos, Result, Ok, Err}
+use Rattle.std.specs.Prelude.{◌≡◌, ◌⊎◌, ℕ, Bool, List, [], ◌∷◌, pos, Result, Ok, Err}
 use Rattle.desk_terms.specs.Reading.{Calc}
 use Rattle.session_model.specs.Course.{Meaning, Course, running}
 use Rattle.session_model.specs.Rounds.{rounds, transcript, calls_of}
+use Rattle.session_model.specs.Moments.{moments}
 use Rattle.session_model.specs.Standing.{Standing, start_of, start_with}
 use Rattle.watch_rounds.specs.Order.{order_at, order_after}
 use Rattle.watch_rounds.specs.declared.picker.Order.{Order}
@@ -10,6 +11,7 @@ use Rattle.watch_rounds.specs.declared.picker.Order.TheVariants.{First}
 use Rattle.load_summary.specs.Summary.{tally_of, summary}
 use Rattle.desk_plan.specs.declared.status.Status.{Status}
 use Rattle.desk_plan.specs.Verdict.{ScriptRun, Plan, Run, Load, Check}
+use Rattle.session_play.specs.Early.{Outside, IsToldSoFar}
 use Rattle.session_play.specs.Report.{check_line}
 
 -- the session before the first command: it has the market's objects
@@ -64,3 +66,16 @@ rounds_in calc (Check objects fixings) = as_round (check_line objects fixings) [
 abbrev pub rounds_of : Calc → Result Plan Status → List (Course Order)
 rounds_of calc (Ok plan) = rounds_in calc plan
 rounds_of calc (Err status) = []
+
+-- Where memory ran out in a script: before its session began, or in one of its moments. A load and a report are written by
+-- one put each, of which nothing more is said.
+abbrev pub IsToldIn : Calc → Plan → Outside → Outside → Type 0
+IsToldIn calc (Run run order) old new =
+    (new ≡ old) ⊎ IsToldSoFar calc (moments (ordered calc) (running order (first_standing run)) run.script.commands) old new
+IsToldIn calc (Load size run) old new = Unit {0}
+IsToldIn calc (Check objects fixings) old new = Unit {0}
+
+-- the same of a verdict
+abbrev pub IsToldOf : Calc → Result Plan Status → Outside → Outside → Type 0
+IsToldOf calc (Ok plan) old new = IsToldIn calc plan old new
+IsToldOf calc (Err status) old new = new ≡ old

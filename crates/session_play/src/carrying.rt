@@ -5,7 +5,7 @@ ghost use Rattle.desk_terms.specs.Bench.{counted, logged};
 ghost use Rattle.desk_plan.specs.Found.{CanRun, CanDo, run_in, plan_in};
 ghost use Rattle.desk_plan.specs.Verdict.{Run as RunWanted, IsReport};
 ghost use Rattle.session_play.specs.Early.{outside, IsCut, IsHalted};
-ghost use Rattle.session_play.specs.Output.{output_in, computed_in, rounds_in};
+ghost use Rattle.session_play.specs.Output.{output_in, computed_in, rounds_in, IsToldIn};
 ghost use Rattle.session_play.specs.Written.{IsLate, Writes, ended};
 
 use crate::play::play;
@@ -37,6 +37,10 @@ pub fn carry_out<K: Sink, B: Bench>(
         (outside (K.bytes out.old) (B.count bench.old) (B.log bench.old)) (outside (K.bytes out.new) (B.count bench.new) (B.log bench.new)) }
     ensures halted { IsErrOf result Status.NoMemory → IsHalted (rounds_in (B.calc bench.old) (plan_in plan))
         (outside (K.bytes out.old) (B.count bench.old) (B.log bench.old)) (outside (K.bytes out.new) (B.count bench.new) (B.log bench.new)) }
+    // Of a script all that was told before memory ran out was written, unless a put failed.
+    ensures told { IsErrOf result Status.NoMemory → IsToldIn (B.calc bench.old) (plan_in plan)
+        (outside (K.bytes out.old) (B.count bench.old) (B.log bench.old)) (outside (K.bytes out.new) (B.count bench.new) (B.log bench.new))
+        ⊎ (K.faults out.new ≡ raised (K.faults out.old)) }
     ensures checked { IsReport (plan_in plan) → bench.new ≡ bench.old }
     ensures same { B.calc bench.new ≡ B.calc bench.old }
     ensures late { IfErr result IsLate }
@@ -71,6 +75,9 @@ fn play_script<K: Sink, B: Bench>(
         (outside (K.bytes out.old) (B.count bench.old) (B.log bench.old)) (outside (K.bytes out.new) (B.count bench.new) (B.log bench.new)) }
     ensures halted { IsErrOf result Status.NoMemory → IsHalted (rounds_in (B.calc bench.old) (RunWanted (run_in run) order))
         (outside (K.bytes out.old) (B.count bench.old) (B.log bench.old)) (outside (K.bytes out.new) (B.count bench.new) (B.log bench.new)) }
+    ensures told { IsErrOf result Status.NoMemory → IsToldIn (B.calc bench.old) (RunWanted (run_in run) order)
+        (outside (K.bytes out.old) (B.count bench.old) (B.log bench.old)) (outside (K.bytes out.new) (B.count bench.new) (B.log bench.new))
+        ⊎ (K.faults out.new ≡ raised (K.faults out.old)) }
     ensures same { B.calc bench.new ≡ B.calc bench.old }
     ensures late { IfErr result IsLate }
     ensures write { IsErrOf result Status.WriteFault → Rose (K.faults out.old) (K.faults out.new) }

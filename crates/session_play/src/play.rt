@@ -7,7 +7,8 @@ ghost use Rattle.desk_model.specs.Sound.{IsSound};
 ghost use Rattle.session_model.specs.Standing.{IsKnown};
 ghost use Rattle.session_model.specs.Course.{Course, round_of};
 ghost use Rattle.session_model.specs.Rounds.{rounds, transcript, calls_of};
-ghost use Rattle.session_play.specs.Early.{outside, IsCut, IsHalted};
+ghost use Rattle.session_model.specs.Moments.{moments, moments_of_round};
+ghost use Rattle.session_play.specs.Early.{outside, IsCut, IsHalted, IsToldSoFar};
 ghost use Rattle.session_play.specs.Round.{RoundEnds};
 ghost use Rattle.session_play.specs.Written.{IsLate, Writes, ended};
 
@@ -46,6 +47,10 @@ pub(crate) fn play<P: Picker, K: Sink, B: Bench>(
         (outside (K.bytes out.old) (B.count bench.old) (B.log bench.old)) (outside (K.bytes out.new) (B.count bench.new) (B.log bench.new)) }
     ensures halted { IsErrOf result Status.NoMemory → IsHalted (rounds (record { calc = B.calc bench.old; at = P.at; after = P.after }) session.old commands.now)
         (outside (K.bytes out.old) (B.count bench.old) (B.log bench.old)) (outside (K.bytes out.new) (B.count bench.new) (B.log bench.new)) }
+    // All that was told before memory ran out was written, unless a put failed.
+    ensures told { IsErrOf result Status.NoMemory → IsToldSoFar (B.calc bench.old) (moments (record { calc = B.calc bench.old; at = P.at; after = P.after }) session.old commands.now)
+        (outside (K.bytes out.old) (B.count bench.old) (B.log bench.old)) (outside (K.bytes out.new) (B.count bench.new) (B.log bench.new))
+        ⊎ (K.faults out.new ≡ raised (K.faults out.old)) }
 
     // Each round left a sound state.
     ensures sound { OnOk result (All (λ (t : Course P). IsSound (B.calc bench.old) t.next.standing.state)
@@ -87,6 +92,9 @@ fn play_round<P: Picker, K: Sink, B: Bench>(
     ensures stopped { IsErrOf result Status.NoMemory → session.new.standing.stopped ≡ true }
     // What was written of the round when memory ran out goes out whole, unless a put failed.
     ensures so_far { IsErrOf result Status.NoMemory → (K.bytes out.new ≡ appended lines.new.items (K.bytes out.old))
+        ⊎ (K.faults out.new ≡ raised (K.faults out.old)) }
+    ensures told { IsErrOf result Status.NoMemory → IsToldSoFar (B.calc bench.old) (moments_of_round (record { calc = B.calc bench.old; at = P.at; after = P.after }) session.old command.now)
+        (outside (K.bytes out.old) (B.count bench.old) (B.log bench.old)) (outside (K.bytes out.new) (B.count bench.new) (B.log bench.new))
         ⊎ (K.faults out.new ≡ raised (K.faults out.old)) }
     ensures goes_on { IsErrOf result Status.WriteFault → session.new.standing.stopped ≡ false }
     ensures names { OnOk result (session.new.standing.names ≡ session.old.standing.names) }

@@ -1,4 +1,4 @@
-use Rattle.std.proofs.Common.{refl, []}
+use Rattle.std.proofs.Common.{inl, refl, []}
 use Rattle.session_play.specs.Report.{check_line}
 use Rattle.session_play.specs.Output.{as_round}
 use Rattle.session_rounds.proofs.Going.{logged_none}
@@ -28,3 +28,12 @@ pub returns-in-Check-clause-halted : goal.returns-in-Check-clause-halted
 returns-in-Check-clause-halted g c =
     λ e. report_halted _ (g.K.Sink.bytes c.args.out.now) (g.K.Sink.bytes c.report.new.out)
     (g.B.Bench.count c.args.bench.now) (g.B.Bench.log c.args.bench.now) (c.report.ensures.nothing e)
+
+pub returns-in-Run-clause-told : goal.returns-in-Run-clause-told
+returns-in-Run-clause-told g c = rw c.in-Run.is c.play_script.ensures.told
+
+pub returns-in-Load-clause-told : goal.returns-in-Load-clause-told
+returns-in-Load-clause-told g c = rw c.in-Load.is (λ _. inl tt)
+
+pub returns-in-Check-clause-told : goal.returns-in-Check-clause-told
+returns-in-Check-clause-told g c = rw c.in-Check.is (λ _. inl tt)

@@ -1,11 +1,14 @@
-use Rattle.std.proofs.Common.{◌+◌, drop, Err, refl, ◌∙◌, ap, subst, arith}
+use Rattle.std.proofs.Common.{◌≡◌, ◌⊎◌, ℕ, ◌+◌, drop, Err, refl, ◌∙◌, ap, subst, arith}
 use Rattle.std.proofs.lemmas.Result.{err_from_is_err_and}
+use Rattle.desk_edge.specs.Count.{raised}
 use Rattle.desk_terms.specs.Reading.{Calc}
 use Rattle.desk_model.specs.Sound.{IsSound}
 use Rattle.session_model.specs.Course.{Meaning, round_of}
-use Rattle.session_play.specs.Early.{outside}
+use Rattle.session_model.specs.Moments.{moments, moments_of_round}
+use Rattle.session_play.specs.Early.{outside, IsToldSoFar}
 use Rattle.session_play.specs.Round.{IsPlayed, RoundEnds}
 use Rattle.session_play.proofs.Progress.{progress_none, progress_more, progress_next, progress_last, progress_bytes, progress_count, progress_log, progress_sounds, ends_written, ends_cut, ends_halted, same_status}
+use Rattle.session_play.proofs.Ahead.{ahead_none, ahead_more, ahead_ends, ahead_next}
 use Rattle.session_play.proofs.play.play.Goals as goal
 
 pub loop-command-init : goal.loop-command-init
@@ -16,6 +19,7 @@ loop-command-init g c =
       same = refl;
       progress = progress_none m c.args.session.now c.args.commands.now start c.requires.running
           c.requires.sound;
+      ahead = ahead_none m.calc (moments m c.args.session.now c.args.commands.now) start;
       faults = refl;
     }
 
@@ -70,6 +74,12 @@ loop-command-preserved g c =
           (subst (λ (k : Calc). IsPlayed (round_of (record m { calc = k }) c.loop-command.session c.command-item.result) now new) same round.ends)
           (round.next ∙ ap (λ (k : Calc). (round_of (record m { calc = k }) c.loop-command.session c.command-item.result).next) same)
           round.names round.actions round.running (subst (λ (k : Calc). IsSound k c.play_round.new.session.standing.state) same c.play_round.ensures.sound);
+      ahead = ahead_more m (moments m c.args.session.now c.args.commands.now) start now new c.loop-command.session c.command-item.result
+          (drop (c.loop-command.command-index + 1) c.args.commands.now) c.play_round.new.session
+          (ahead_next m c.args.commands.now (moments m c.args.session.now c.args.commands.now) start now c.loop-command.command-index
+          c.command-item.result c.loop-command.session c.loop-command-test.true c.command-item.is c.loop-command.invariant.ahead)
+          (subst (λ (k : Calc). IsPlayed (round_of (record m { calc = k }) c.loop-command.session c.command-item.result) now new) same round.ends)
+          (round.next ∙ ap (λ (k : Calc). (round_of (record m { calc = k }) c.loop-command.session c.command-item.result).next) same);
       faults = round.clean ∙ c.loop-command.invariant.faults;
     }
 
@@ -111,3 +121,22 @@ returns-in_err-play_round-clause-late g c =
     let from = c.from_residual in
     let p = err_from_is_err_and from.result from.ensures.1 in
     rw (p.1, p.2) c.in_err-play_round.ensures.late
+
+pub returns-in_err-play_round-clause-told : goal.returns-in_err-play_round-clause-told
+returns-in_err-play_round-clause-told g c =
+    let m : Meaning g.row.P.Denot = record { calc = g.B.Bench.calc c.args.bench.now; at = g.P.Picker.at; after = g.P.Picker.after } in
+    let from = c.from_residual in
+    let p = err_from_is_err_and from.result from.ensures.1 in
+    let start = (outside (g.K.Sink.bytes c.args.out.now) (g.B.Bench.count c.args.bench.now) (g.B.Bench.log c.args.bench.now)) in
+    let now = (outside (g.K.Sink.bytes c.loop-command.out) (g.B.Bench.count c.loop-command.bench) (g.B.Bench.log c.loop-command.bench)) in
+    let new = (outside (g.K.Sink.bytes c.play_round.new.out) (g.B.Bench.count c.play_round.new.bench) (g.B.Bench.log c.play_round.new.bench)) in
+    let ahead = ahead_next m c.args.commands.now (moments m c.args.session.now c.args.commands.now) start now c.loop-command.command-index
+    c.command-item.result c.loop-command.session c.loop-command-test.true c.command-item.is c.loop-command.invariant.ahead in
+    rw (p.1, p.2) (λ is. ahead_ends m (moments m c.args.session.now c.args.commands.now) start now new c.loop-command.session
+    c.command-item.result (drop (c.loop-command.command-index + 1) c.args.commands.now) (g.K.Sink.faults c.play_round.new.out)
+    (raised (g.K.Sink.faults c.args.out.now)) ahead
+    (subst (λ (f : ℕ). IsToldSoFar m.calc (moments_of_round m c.loop-command.session c.command-item.result) now new
+    ⊎ (g.K.Sink.faults c.play_round.new.out ≡ raised f)) c.loop-command.invariant.faults
+    (subst (λ (k : Calc). IsToldSoFar k (moments_of_round (record m { calc = k }) c.loop-command.session c.command-item.result) now new
+    ⊎ (g.K.Sink.faults c.play_round.new.out ≡ raised (g.K.Sink.faults c.loop-command.out))) c.loop-command.invariant.same
+    (c.in_err-play_round.ensures.told is))))

@@ -4,5 +4,6 @@ pub mod Closed
 pub mod Counted
 pub mod Easter
 pub mod Joined
+pub mod Stretch
 pub mod Target
 pub mod Week

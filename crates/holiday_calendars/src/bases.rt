@@ -22,8 +22,9 @@ pub enum Base {
 }
 
 impl Base {
-    ghost use Rattle.std.specs.Prelude.{◌≡◌, IfOk};
+    ghost use Rattle.std.specs.Prelude.{◌≡◌, IfOk, ◌≤ℤ◌};
     ghost use Rattle.holiday_calendars.specs.Base.{is_base_day};
+    ghost use Rattle.holiday_calendars.specs.Stretch.{AreHolidaysAfter, AreHolidaysBefore};
 
     // Whether the day is a business day.
     pub(crate) fn is_business(&self, day: Day) -> bool
@@ -34,6 +35,28 @@ impl Base {
             Base::Weekends => is_weekday(day),
             Base::Target => target::is_open(day),
             Base::Bespoke(holidays) => !holidays.is_holiday(day),
+        }
+    }
+
+    // The last day of a long closure of days of one's own that a day is in, or the day itself.
+    pub(crate) fn closed_until(&self, day: Day) -> Day
+        ensures order { day ≤ℤ result }
+        ensures holidays { AreHolidaysAfter (is_base_day self.now) day result }
+    {
+        match self {
+            Base::Null | Base::Weekends | Base::Target => day,
+            Base::Bespoke(holidays) => holidays.closed_until(day),
+        }
+    }
+
+    // The first day of a long closure of days of one's own that a day is in, or the day itself.
+    pub(crate) fn closed_since(&self, day: Day) -> Day
+        ensures order { result ≤ℤ day }
+        ensures holidays { AreHolidaysBefore (is_base_day self.now) day result }
+    {
+        match self {
+            Base::Null | Base::Weekends | Base::Target => day,
+            Base::Bespoke(holidays) => holidays.closed_since(day),
         }
     }
 

@@ -6,6 +6,7 @@ ghost use Rattle.std.specs.Ordering.{int_cmp, int_eq};
 ghost use Rattle.holiday_calendars.specs.Closed.{closed_on};
 
 use crate::Base;
+use crate::closures::{Closure, closure_around, closures_of};
 use crate::weekdays::weekday;
 use day_number::{Day, DayList};
 use std::alloc::{AllocError, AllocFailed, Global};
@@ -41,25 +42,30 @@ pub struct BespokeHolidays {
     weekend: [bool; 7],
     // In the order of time.
     days: Vec<Day>,
+    // The long ones, in the order of time.
+    closures: Vec<Closure>,
 }
 
 impl Model for BespokeHolidays {
-    ghost use Rattle.std.specs.Prelude.{◌≡◌, false};
+    ghost use Rattle.std.specs.Prelude.{◌≡◌, false, All};
     ghost use Rattle.std.specs.List.{list_all};
     ghost use Rattle.std.specs.List.Sorted.{IsSorted};
     ghost use Rattle.std.specs.Ordering.{int_cmp};
     ghost use Rattle.holiday_calendars.specs.Closed.{Closed, closed_on};
+    ghost use Rattle.holiday_calendars.specs.Stretch.{IsClosure};
 
     ghost Value = { Closed };
 
     ghost view = { λ h. closed_on h.weekend h.days.items };
 
-    ghost invariant = { λ h. IsSorted int_cmp h.days.items × (list_all (λ named. named) h.weekend ≡ false) };
+    ghost invariant = { λ h. IsSorted int_cmp h.days.items × (list_all (λ named. named) h.weekend ≡ false)
+        × All (IsClosure (closed_on h.weekend h.days.items)) h.closures.items };
 }
 
 impl BespokeHolidays {
-    ghost use Rattle.std.specs.Prelude.{◌≡◌, IfOk};
+    ghost use Rattle.std.specs.Prelude.{◌≡◌, IfOk, not, ◌≤ℤ◌};
     ghost use Rattle.holiday_calendars.specs.Closed.{is_closed};
+    ghost use Rattle.holiday_calendars.specs.Stretch.{AreHolidaysAfter, AreHolidaysBefore};
 
     // Whether a weekday or a day is named.
     pub(crate) fn is_holiday(&self, day: Day) -> bool
@@ -68,14 +74,38 @@ impl BespokeHolidays {
         self.weekend[usize::from(weekday(day))] || is_listed(&self.days, day)
     }
 
+    // The last day of the long closure that a day is in, or the day itself.
+    pub(crate) fn closed_until(&self, day: Day) -> Day
+        ensures order { day ≤ℤ result }
+        ensures holidays { AreHolidaysAfter (λ x. not (is_closed self.now x)) day result }
+    {
+        match closure_around(&self.closures, day) {
+            Some(closure) => closure.last,
+            None => day,
+        }
+    }
+
+    // The first day of the long closure that a day is in, or the day itself.
+    pub(crate) fn closed_since(&self, day: Day) -> Day
+        ensures order { result ≤ℤ day }
+        ensures holidays { AreHolidaysBefore (λ x. not (is_closed self.now x)) day result }
+    {
+        match closure_around(&self.closures, day) {
+            Some(closure) => closure.first,
+            None => day,
+        }
+    }
+
     // The same holidays.
     pub(crate) fn copy(&self, alloc: Global) -> Result<BespokeHolidays, AllocError>
         ensures { IfOk result (λ holidays. holidays ≡ self.now) }
     {
         let days = self.days.as_slice().to_vec(alloc)?;
+        let closures = self.closures.as_slice().to_vec(alloc)?;
         Ok(BespokeHolidays {
             weekend: self.weekend,
             days,
+            closures,
         })
     }
 }
@@ -106,5 +136,10 @@ pub fn bespoke(alloc: Global, weekend: [bool; 7], days: DayList) -> Result<Base,
     }
     let mut days = days.items().to_vec(alloc)?;
     days.sort_unstable();
-    Ok(Base::Bespoke(BespokeHolidays { weekend, days }))
+    let closures = closures_of(weekend, &days, alloc)?;
+    Ok(Base::Bespoke(BespokeHolidays {
+        weekend,
+        days,
+        closures,
+    }))
 }

@@ -13,8 +13,9 @@ pub enum Calendar {
 }
 
 impl Calendar {
-    ghost use Rattle.std.specs.Prelude.{◌≡◌, IfOk};
+    ghost use Rattle.std.specs.Prelude.{◌≡◌, IfOk, ◌≤ℤ◌};
     ghost use Rattle.holiday_calendars.specs.Calendar.{is_business_day};
+    ghost use Rattle.holiday_calendars.specs.Stretch.{AreHolidaysAfter, AreHolidaysBefore};
 
     /// The calendar of one part.
     pub fn one(base: Base) -> Calendar
@@ -31,6 +32,33 @@ impl Calendar {
         match self {
             Calendar::One(base) => base.is_business(day),
             Calendar::Joint(joined) => joined.is_business(day),
+        }
+    }
+
+    /// A day up to which each day after a day is a holiday: where the day lies in a closure of more than a week, of listed
+    /// days and weekdays that are holidays, the closure's last day, and else the day itself. It spares a search the days of
+    /// the closure.
+    #[tactic(auto, unfolding(crate::specs::Calendar::is_business_day))]
+    pub fn closed_until(&self, day: Day) -> Day
+        ensures order { day ≤ℤ result }
+        ensures holidays { AreHolidaysAfter (is_business_day self.now) day result }
+    {
+        match self {
+            Calendar::One(base) => base.closed_until(day),
+            Calendar::Joint(joined) => joined.closed_until(day),
+        }
+    }
+
+    /// A day down to which each day before a day is a holiday: where the day lies in such a closure, the closure's first
+    /// day, and else the day itself.
+    #[tactic(auto, unfolding(crate::specs::Calendar::is_business_day))]
+    pub fn closed_since(&self, day: Day) -> Day
+        ensures order { result ≤ℤ day }
+        ensures holidays { AreHolidaysBefore (is_business_day self.now) day result }
+    {
+        match self {
+            Calendar::One(base) => base.closed_since(day),
+            Calendar::Joint(joined) => joined.closed_since(day),
         }
     }
 

@@ -1,7 +1,8 @@
 // Several calendars in one.
-ghost use Rattle.std.specs.Prelude.{◌≡◌, ◌↔◌, ◌<◌, length, IfOk};
+ghost use Rattle.std.specs.Prelude.{◌≡◌, ◌↔◌, ◌<◌, length, IfOk, ◌≤ℤ◌};
 ghost use Rattle.std.specs.List.{list_all, list_any};
 ghost use Rattle.holiday_calendars.specs.Base.{is_base_day};
+ghost use Rattle.holiday_calendars.specs.Stretch.{AreHolidaysAfter, AreHolidaysBefore};
 
 use crate::bases::copy_of;
 use crate::{Base, BaseList, Calendar};
@@ -50,8 +51,9 @@ impl Model for JointParts {
 }
 
 impl JointParts {
-    ghost use Rattle.std.specs.Prelude.{◌≡◌, IfOk};
+    ghost use Rattle.std.specs.Prelude.{◌≡◌, IfOk, ◌≤ℤ◌};
     ghost use Rattle.holiday_calendars.specs.Joined.{is_joint_day};
+    ghost use Rattle.holiday_calendars.specs.Stretch.{AreHolidaysAfter, AreHolidaysBefore};
 
     // Whether the rule makes the day a business day.
     pub(crate) fn is_business(&self, day: Day) -> bool
@@ -61,6 +63,29 @@ impl JointParts {
         match self.rule {
             JointRule::Holidays => all_open(parts, day),
             JointRule::BusinessDays => any_open(parts, day),
+        }
+    }
+
+    // The last day of the longest closure of a part that a day is in, or the day itself; by the rule of business days,
+    // in which one part's business day is enough, the day itself.
+    pub(crate) fn closed_until(&self, day: Day) -> Day
+        ensures order { day ≤ℤ result }
+        ensures holidays { AreHolidaysAfter (is_joint_day self.now) day result }
+    {
+        match self.rule {
+            JointRule::Holidays => latest(self.parts.items(), day),
+            JointRule::BusinessDays => day,
+        }
+    }
+
+    // The first day of the longest closure of a part that a day is in, or the day itself, by the same rule.
+    pub(crate) fn closed_since(&self, day: Day) -> Day
+        ensures order { result ≤ℤ day }
+        ensures holidays { AreHolidaysBefore (is_joint_day self.now) day result }
+    {
+        match self.rule {
+            JointRule::Holidays => earliest(self.parts.items(), day),
+            JointRule::BusinessDays => day,
         }
     }
 
@@ -88,6 +113,36 @@ fn any_open(parts: &[Base], day: Day) -> bool
     ensures { result ≡ list_any (λ part. is_base_day part day) parts.now }
 {
     parts.iter().any(|part| part.is_business(day))
+}
+
+// The latest of the days up to which parts are closed after a day.
+fn latest(parts: &[Base], day: Day) -> Day
+    ensures order { day ≤ℤ result }
+    ensures holidays { AreHolidaysAfter (λ x. list_all (λ part. is_base_day part x) parts.now) day result }
+{
+    let mut last = day;
+    for part in parts {
+        let end = part.closed_until(day);
+        if last < end {
+            last = end;
+        }
+    }
+    last
+}
+
+// The earliest of the days since which parts are closed before a day.
+fn earliest(parts: &[Base], day: Day) -> Day
+    ensures order { result ≤ℤ day }
+    ensures holidays { AreHolidaysBefore (λ x. list_all (λ part. is_base_day part x) parts.now) day result }
+{
+    let mut first = day;
+    for part in parts {
+        let start = part.closed_since(day);
+        if start < first {
+            first = start;
+        }
+    }
+    first
 }
 
 /// The calendar that goes by its parts: at least one, else `NoParts`, and at most 8, else `TooMany`.

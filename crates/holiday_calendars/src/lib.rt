@@ -8,6 +8,7 @@
 mod bases;
 mod bespoke_days;
 mod calendars;
+mod closures;
 mod counting;
 mod easter;
 mod joint_parts;

@@ -1,0 +1,88 @@
+// Stretches of holidays of a calendar of one's own, so long that it is not to be gone through day by day.
+ghost use Rattle.std.specs.Prelude.{◌≡◌, true, false, slice_index_or, IfOk, IfSome, Contains, All, ℤ, pos, ◌+ℤ◌, ◌≤ℤ◌, ◌<ℤ◌};
+ghost use Rattle.jiff_core.specs.Calendar.{weekday_number};
+ghost use Rattle.holiday_calendars.specs.Closed.{closed_on};
+ghost use Rattle.holiday_calendars.specs.Stretch.{IsClosure};
+
+use crate::weekdays::weekday;
+use day_number::{Day, add_days};
+use std::alloc::{AllocError, Global};
+
+/// Days that follow one another, all of them holidays.
+#[derive(Clone, Copy)]
+pub(crate) struct Closure {
+    pub(crate) first: Day,
+    pub(crate) last: Day,
+}
+
+// The closures of more than a week: listed days that follow one another, but for weekdays that are holidays.
+pub(crate) fn closures_of(
+    weekend: [bool; 7],
+    days: &[Day],
+    alloc: Global,
+) -> Result<Vec<Closure>, AllocError>
+    ensures { IfOk result (λ list. All (IsClosure (closed_on weekend days.now)) list.items) }
+{
+    let mut closures = Vec::new(alloc);
+    if days.is_empty() {
+        return Ok(closures);
+    }
+    let mut first = days[0];
+    let mut last = first;
+    for day in days {
+        if !is_joined(last, *day) {
+            if is_long(first, last) {
+                closures.push(Closure { first, last })?;
+            }
+            first = *day;
+        }
+        last = weekend_end(weekend, *day);
+    }
+    if is_long(first, last) {
+        closures.push(Closure { first, last })?;
+    }
+    Ok(closures)
+}
+
+// Whether a day is at most one day after another.
+fn is_joined(last: Day, day: Day) -> bool
+    ensures { (result ≡ true) → day ≤ℤ (last +ℤ pos 1) }
+{
+    day.number() - last.number() <= 1
+}
+
+// Whether more than a week lies from a day to another, both of which count.
+fn is_long(first: Day, last: Day) -> bool {
+    last.number() - first.number() >= 7
+}
+
+// The last of the days after a day, of the range, whose weekdays are holidays up to there.
+fn weekend_end(weekend: [bool; 7], day: Day) -> Day
+    ensures later { day ≤ℤ result }
+    ensures closed { (x : ℤ) → day <ℤ x → x ≤ℤ result → slice_index_or weekend (weekday_number x) false ≡ true }
+{
+    let mut last = day;
+    while let Ok(next) = add_days(last, 1) {
+        if !weekend[usize::from(weekday(next))] {
+            return last;
+        }
+        last = next;
+    }
+    last
+}
+
+// The closure that a day is in, if any. They stand in the order of time.
+pub(crate) fn closure_around(closures: &[Closure], day: Day) -> Option<Closure>
+    ensures { IfSome result (λ c. Contains closures.now c × (c.first ≤ℤ day) × (day ≤ℤ c.last)) }
+{
+    let begun = closures.partition_point(|closure| closure.first <= day);
+    if begun == 0 {
+        return None;
+    }
+    let closure = closures[begun - 1];
+    if closure.first <= day && day <= closure.last {
+        Some(closure)
+    } else {
+        None
+    }
+}

@@ -1,9 +1,10 @@
 -- The next and the previous business day, a day at a time.
-use Rattle.std.proofs.Common.{◌≡◌, ℕ, suc, Bool, true, false, Option, Some, None, refl, true≢false, sym, ap, ◌∙◌, arith, ◌<ℤ◌, ◌≤ℤ◌, ℤ, pos, neg_ℤ, ◌+ℤ◌, ◌-ℤ◌, unsigned_abs}
+use Rattle.std.proofs.Common.{◌≡◌, ℕ, zero, suc, Bool, true, false, Option, Some, None, refl, true≢false, sym, ap, ◌∙◌, arith, ◌<ℤ◌, ◌≤ℤ◌, ℤ, pos, neg_ℤ, ◌+ℤ◌, ◌-ℤ◌, unsigned_abs}
 use Rattle.std.specs.Int.Signed.{le_z}
 use Rattle.std.proofs.lemmas.Int.{ints, by_lt_z}
 use Rattle.std.specs.Bool.{Decides}
 use Rattle.day_number.specs.Day.{IsDayNumber}
+use Rattle.holiday_calendars.specs.Stretch.{AreHolidaysAfter, AreHolidaysBefore}
 use Rattle.day_shift.specs.Business.{day_at, first_from, last_to, next, previous}
 
 -- the days left from a day on, and up to it
@@ -103,10 +104,6 @@ next-after_last business day h none =
     (λ le. omega (arith, ints)) in
     ap (next business) past ∙ next-past business
 
-pub next-none : (business : ℤ → Bool) (day : ℤ) → IsDayNumber day → business day ≡ false → day_at (day +ℤ pos 1) ≡ None → next business day ≡ None
-next-none business day h e none =
-    next-later business day h e ∙ next-after_last business day h none
-
 -- up to the day before the first of the range there is none
 pub previous-before_first : (business : ℤ → Bool) (day : ℤ) → IsDayNumber day → day_at (day -ℤ pos 1) ≡ None → previous business (day -ℤ pos 1) ≡ None
 previous-before_first business day h none =
@@ -115,10 +112,6 @@ previous-before_first business day h none =
     (λ lt. absurd (day_at-none (day -ℤ pos 1) none (omega (arith, ints), omega (arith, ints))))
     (λ le. omega (arith, ints)) in
     ap (previous business) past ∙ previous-past business
-
-pub previous-none : (business : ℤ → Bool) (day : ℤ) → IsDayNumber day → business day ≡ false → day_at (day -ℤ pos 1) ≡ None → previous business day ≡ None
-previous-none business day h e none =
-    previous-earlier business day h e ∙ previous-before_first business day h none
 
 -- the test of `≤`
 pub le_z-true : (a b : ℤ) → a ≤ℤ b → le_z a b ≡ true
@@ -132,3 +125,40 @@ le_z-decides a b = (
   λ e. by_lt_z b a (λ lt. absurd (true≢false (sym e ∙ le_z-false a b lt))) (λ le. le),
   λ le. le_z-true a b le,
 )
+
+-- where a number of days after a holiday are holidays, the next business day is that from the day behind them
+next-skipped : (k : ℕ) (business : ℤ → Bool) (day : ℤ) → IsDayNumber day → IsDayNumber (day +ℤ pos k) → business day ≡ false → AreHolidaysAfter business day (day +ℤ pos k) → next business day ≡ next business (day +ℤ pos k +ℤ pos 1)
+next-skipped zero business day h there e closed =
+    let here : day ≡ day +ℤ pos 0 = omega (arith, ints) in
+    next-later business day h e ∙ ap (λ z. next business (z +ℤ pos 1)) here
+next-skipped (suc k) business day h there e closed =
+    let within : IsDayNumber (day +ℤ pos k) = (omega (arith, ints), omega (arith, ints)) in
+    let before = next-skipped k business day h within e (λ x low high. closed x low (omega (arith, ints))) in
+    let here : day +ℤ pos k +ℤ pos 1 ≡ day +ℤ pos (suc k) = omega (arith, ints) in
+    let holiday = closed (day +ℤ pos (suc k)) (omega (arith, ints)) (omega (arith, ints)) in
+    before ∙ ap (next business) here ∙ next-later business (day +ℤ pos (suc k)) there holiday
+
+pub next-behind : (business : ℤ → Bool) (day last : ℤ) → IsDayNumber day → IsDayNumber last → business day ≡ false → day ≤ℤ last → AreHolidaysAfter business day last → next business day ≡ next business (last +ℤ pos 1)
+next-behind business day last h there e order closed =
+    let k = unsigned_abs (last -ℤ day) in
+    let is : day +ℤ pos k ≡ last = omega (arith, ints) in
+    let within : IsDayNumber (day +ℤ pos k) = (omega (arith, ints), omega (arith, ints)) in
+    next-skipped k business day h within e (λ x low high. closed x low (omega (arith, ints))) ∙ ap (λ z. next business (z +ℤ pos 1)) is
+
+previous-skipped : (k : ℕ) (business : ℤ → Bool) (day : ℤ) → IsDayNumber day → IsDayNumber (day -ℤ pos k) → business day ≡ false → AreHolidaysBefore business day (day -ℤ pos k) → previous business day ≡ previous business (day -ℤ pos k -ℤ pos 1)
+previous-skipped zero business day h there e closed =
+    let here : day ≡ day -ℤ pos 0 = omega (arith, ints) in
+    previous-earlier business day h e ∙ ap (λ z. previous business (z -ℤ pos 1)) here
+previous-skipped (suc k) business day h there e closed =
+    let within : IsDayNumber (day -ℤ pos k) = (omega (arith, ints), omega (arith, ints)) in
+    let before = previous-skipped k business day h within e (λ x low high. closed x low (omega (arith, ints))) in
+    let here : day -ℤ pos k -ℤ pos 1 ≡ day -ℤ pos (suc k) = omega (arith, ints) in
+    let holiday = closed (day -ℤ pos (suc k)) (omega (arith, ints)) (omega (arith, ints)) in
+    before ∙ ap (previous business) here ∙ previous-earlier business (day -ℤ pos (suc k)) there holiday
+
+pub previous-behind : (business : ℤ → Bool) (day first : ℤ) → IsDayNumber day → IsDayNumber first → business day ≡ false → first ≤ℤ day → AreHolidaysBefore business day first → previous business day ≡ previous business (first -ℤ pos 1)
+previous-behind business day first h there e order closed =
+    let k = unsigned_abs (day -ℤ first) in
+    let is : day -ℤ pos k ≡ first = omega (arith, ints) in
+    let within : IsDayNumber (day -ℤ pos k) = (omega (arith, ints), omega (arith, ints)) in
+    previous-skipped k business day h within e (λ x low high. closed x low (omega (arith, ints))) ∙ ap (λ z. previous business (z -ℤ pos 1)) is

@@ -1,4 +1,4 @@
-// The business days next to a day, day by day.
+// The business days next to a day, day by day, but for long closures, which are passed at once.
 ghost use Rattle.std.specs.Prelude.{◌≡◌, pos, ◌+ℤ◌, ◌-ℤ◌};
 ghost use Rattle.holiday_calendars.specs.Calendar.{is_business_day};
 ghost use Rattle.day_number.specs.Day.{IsDayNumber};
@@ -31,7 +31,7 @@ pub(crate) fn next_open(calendar: &Calendar, day: Day) -> Option<Day>
 {
     let mut there = day;
     while !is_open(calendar, there) {
-        there = shifted(there, 1)?;
+        there = shifted(calendar.closed_until(there), 1)?;
     }
     Some(there)
 }
@@ -42,7 +42,7 @@ pub(crate) fn previous_open(calendar: &Calendar, day: Day) -> Option<Day>
 {
     let mut there = day;
     while !is_open(calendar, there) {
-        there = shifted(there, -1)?;
+        there = shifted(calendar.closed_since(there), -1)?;
     }
     Some(there)
 }

@@ -15,6 +15,7 @@ use crate::rising::{first_out, reserve_for, take_out};
 use crate::walk::unsettle_one;
 use desk_names::ObjId;
 use std::alloc::{AllocError, Global};
+use std::collections::VecDeque;
 use std::marker::Model;
 
 /// How many numbers a graph gives at most.
@@ -31,13 +32,14 @@ pub struct Graph {
     // How many nodes are frozen.
     frozen: usize,
     // The watchers that were told and not handed out since, by creation. There is room for every node.
-    noticed: Vec<ObjId>,
+    noticed: VecDeque<ObjId>,
     // Those whom a new node observes, during a call; empty between calls.
     wave: NodeSet,
 }
 
 impl Model for Graph {
-    ghost use Rattle.std.specs.Prelude.{◌≡◌, ◌≤◌, length, vec_capacity};
+    ghost use Rattle.std.specs.Prelude.{◌≡◌, ◌≤◌, length};
+    ghost use Rattle.std.specs.VecDeque.{deque_capacity};
     ghost use Rattle.observer_graph.specs.GraphView.{GraphView};
     ghost use Rattle.observer_graph.specs.Noticed.{AreNoticed};
     ghost use Rattle.observer_graph.specs.Late.{frozen_count};
@@ -48,7 +50,7 @@ impl Model for Graph {
     ghost view = { λ g. record { nodes = g.nodes.items; subjects = g.pairs.subjects; sources = g.sources.marks; noticed = g.noticed.items; spare = g.pairs.spare } };
 
     ghost invariant = { λ g. Stands g.nodes.items g.pairs g.sources g.wave × (g.frozen ≡ frozen_count g.nodes.items)
-        × AreNoticed g.noticed.items (length g.nodes.items) × (length g.nodes.items ≤ vec_capacity g.noticed) };
+        × AreNoticed g.noticed.items (length g.nodes.items) × (length g.nodes.items ≤ deque_capacity g.noticed) };
 }
 
 impl Graph {
@@ -61,7 +63,7 @@ impl Graph {
             pairs: Pairs::new(alloc),
             sources: NodeSet::new(alloc),
             frozen: 0,
-            noticed: Vec::new(alloc),
+            noticed: VecDeque::new(alloc),
             wave: NodeSet::new(alloc),
         }
     }
@@ -191,7 +193,7 @@ impl Graph {
     }
 
     /// The first by creation of the watchers that were told and not handed out since; it is forgotten. None where
-    /// there is none. Takes no memory, and moves the others up by one place.
+    /// there is none. Takes no memory, and moves none of the others.
     pub fn next_told(&mut self) -> Option<ObjId>
         ensures order { IsRising self.old.noticed }
         ensures none { IfNone result ((self.old.noticed ≡ []) × (self.new ≡ self.old)) }

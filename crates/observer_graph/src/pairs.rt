@@ -1,5 +1,6 @@
 // The pairs of subjects and observers, as lists of subjects by number.
 ghost use Rattle.std.specs.Prelude.{◌≡◌, ◌⊎◌, ◌↔◌, ◌<◌, ◌≤◌, ◌+◌, ◌++◌, ℕ, [], ◌∷◌, true, false, length, max, slice_set, slice_index_or, IsTrue, None, OnOk, OnErr, vec_capacity, if◌then◌else◌};
+ghost use Rattle.std.specs.VecDeque.{deque_capacity};
 ghost use Rattle.std.specs.List.{sum_by};
 ghost use Rattle.walks.specs.Walk.{Among, IsOnce};
 ghost use Rattle.edge_lists.specs.EdgesView.{IsLive, IsPair, SameNodes};
@@ -19,6 +20,7 @@ use crate::walk::tell_all;
 use desk_names::ObjId;
 use edge_lists::Edges;
 use std::alloc::{AllocError, Global};
+use std::collections::VecDeque;
 use std::marker::Model;
 use wave_queue::Wave;
 
@@ -199,11 +201,16 @@ impl Pairs {
 
     /// A notice from the sources: those whom it reaches are no longer current, and the watchers among them are remembered.
     /// Takes time in proportion to the sources, to those who are told and to their pairs.
-    pub fn tell(&mut self, nodes: &mut [Option<Node>], sources: &NodeSet, noticed: &mut Vec<ObjId>)
+    pub fn tell(
+        &mut self,
+        nodes: &mut [Option<Node>],
+        sources: &NodeSet,
+        noticed: &mut VecDeque<ObjId>,
+    )
         requires nodes { length nodes.old ≡ length self.old.subjects }
         requires sources { length sources.now.marks ≡ length nodes.old }
         requires noticed { AreNoticed noticed.old.items (length nodes.old) }
-        requires room { length nodes.old ≤ vec_capacity noticed.old }
+        requires room { length nodes.old ≤ deque_capacity noticed.old }
         ensures told { (o : ℕ) → (IsTold (graph_of nodes.old self.old.subjects sources.now.marks) o
             × (slice_index_or nodes.new o None ≡ unsettled (slice_index_or nodes.old o None)))
             ⊎ ((IsTold (graph_of nodes.old self.old.subjects sources.now.marks) o → ⊥)
@@ -212,7 +219,7 @@ impl Pairs {
             ⊎ (IsWatcher (slice_index_or nodes.old w None)
             × IsTold (graph_of nodes.old self.old.subjects sources.now.marks) w)) }
         ensures noticed { AreNoticed noticed.new.items (length nodes.old) }
-        ensures capacity { vec_capacity noticed.old ≤ vec_capacity noticed.new }
+        ensures capacity { deque_capacity noticed.old ≤ deque_capacity noticed.new }
         ensures same { self.new ≡ self.old }
     {
         self.edges.whole();

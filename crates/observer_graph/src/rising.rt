@@ -1,17 +1,20 @@
-// Rising lists of nodes.
-ghost use Rattle.std.specs.Prelude.{◌≡◌, ◌↔◌, ◌<◌, ◌≤◌, ℕ, [], ◌∷◌, length, IsTrue, IfSome, IfNone, OnOk, vec_len, vec_capacity};
+// Rising lists of nodes. Both ends are near: the first is taken out, and a node that was made before all others is put in,
+// without a move of the others.
+ghost use Rattle.std.specs.Prelude.{◌≡◌, ◌↔◌, ◌<◌, ◌≤◌, ℕ, [], ◌∷◌, length, IsTrue, IfSome, IfNone, OnOk};
+ghost use Rattle.std.specs.VecDeque.{deque_len, deque_capacity};
 ghost use Rattle.observer_graph.specs.Noticed.{IsRising, IsPlace, with_number, without, is_at};
 
 use desk_names::ObjId;
 use std::alloc::AllocError;
+use std::collections::VecDeque;
 
 /// Puts a node in its place, unless it is there.
 #[inline(never)]
-pub fn put_in(nodes: &mut Vec<ObjId>, entry: ObjId)
+pub fn put_in(nodes: &mut VecDeque<ObjId>, entry: ObjId)
     requires rising { IsRising nodes.old.items }
-    requires room { length (with_number entry nodes.old.items) ≤ vec_capacity nodes.old }
+    requires room { length (with_number entry nodes.old.items) ≤ deque_capacity nodes.old }
     ensures items { nodes.new.items ≡ with_number entry nodes.old.items }
-    ensures room { vec_capacity nodes.old ≤ vec_capacity nodes.new }
+    ensures room { deque_capacity nodes.old ≤ deque_capacity nodes.new }
 {
     let at = place_of(nodes, entry);
     if !is_at(nodes, at, entry) {
@@ -23,20 +26,23 @@ pub fn put_in(nodes: &mut Vec<ObjId>, entry: ObjId)
 }
 
 /// Takes a node out, if it is there.
-pub fn take_out(nodes: &mut Vec<ObjId>, node: ObjId)
+pub fn take_out(nodes: &mut VecDeque<ObjId>, node: ObjId)
     requires rising { IsRising nodes.old.items }
     ensures items { nodes.new.items ≡ without node nodes.old.items }
-    ensures room { vec_capacity nodes.new ≡ vec_capacity nodes.old }
+    ensures room { deque_capacity nodes.new ≡ deque_capacity nodes.old }
 {
     let at = place_of(nodes, node);
     if is_at(nodes, at, node) {
-        nodes.remove(at);
+        match nodes.remove(at) {
+            Some(_) => {}
+            None => unreachable!(),
+        }
     }
 }
 
 // Whether a node stands at a place.
-fn is_at(nodes: &[ObjId], at: usize, node: ObjId) -> bool
-    ensures { result ≡ is_at nodes.now at node }
+fn is_at(nodes: &VecDeque<ObjId>, at: usize, node: ObjId) -> bool
+    ensures { result ≡ is_at nodes.now.items at node }
 {
     match nodes.get(at) {
         Some(entry) => *entry == node,
@@ -45,9 +51,9 @@ fn is_at(nodes: &[ObjId], at: usize, node: ObjId) -> bool
 }
 
 // How many of them were created before a node.
-fn place_of(nodes: &[ObjId], node: ObjId) -> usize
-    requires { IsRising nodes.now }
-    ensures { IsPlace nodes.now node result }
+fn place_of(nodes: &VecDeque<ObjId>, node: ObjId) -> usize
+    requires { IsRising nodes.now.items }
+    ensures { IsPlace nodes.now.items node result }
 {
     let mut low: usize = 0;
     let mut high: usize = nodes.len();
@@ -63,23 +69,20 @@ fn place_of(nodes: &[ObjId], node: ObjId) -> usize
 }
 
 /// Finds the room for so many nodes, where memory is not wanting.
-pub fn reserve_for(nodes: &mut Vec<ObjId>, room: usize) -> Result<(), AllocError>
+pub fn reserve_for(nodes: &mut VecDeque<ObjId>, room: usize) -> Result<(), AllocError>
     ensures items { nodes.new.items ≡ nodes.old.items }
-    ensures more { vec_capacity nodes.old ≤ vec_capacity nodes.new }
-    ensures room { OnOk result (room ≤ vec_capacity nodes.new) }
+    ensures more { deque_capacity nodes.old ≤ deque_capacity nodes.new }
+    ensures room { OnOk result (room ≤ deque_capacity nodes.new) }
 {
     nodes.reserve(room.saturating_sub(nodes.len()))
 }
 
 /// Takes the first node out, if there is one.
-pub fn first_out(nodes: &mut Vec<ObjId>) -> Option<ObjId>
+pub fn first_out(nodes: &mut VecDeque<ObjId>) -> Option<ObjId>
     ensures none { IfNone result (nodes.old.items ≡ []) }
     ensures some { IfSome result (λ w. nodes.old.items ≡ w ∷ nodes.new.items) }
     ensures same { IfNone result (nodes.new.items ≡ nodes.old.items) }
-    ensures room { vec_capacity nodes.new ≡ vec_capacity nodes.old }
+    ensures room { deque_capacity nodes.new ≡ deque_capacity nodes.old }
 {
-    if nodes.is_empty() {
-        return None;
-    }
-    Some(nodes.remove(0))
+    nodes.pop_front()
 }

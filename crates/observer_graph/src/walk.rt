@@ -1,5 +1,6 @@
 // Whom a notice reaches: a worklist that is filled until no node waits, and what becomes of them.
-ghost use Rattle.std.specs.Prelude.{◌≡◌, ◌↔◌, ◌⊎◌, ◌<◌, ◌≤◌, ◌+◌, ℕ, Bool, List, [], Option, IfNone, IfSome, is_some, vec_capacity, length, true, None, Some, slice_index_or};
+ghost use Rattle.std.specs.Prelude.{◌≡◌, ◌↔◌, ◌⊎◌, ◌<◌, ◌≤◌, ◌+◌, ℕ, Bool, List, [], Option, IfNone, IfSome, is_some, length, true, None, Some, slice_index_or};
+ghost use Rattle.std.specs.VecDeque.{deque_capacity};
 ghost use Rattle.walks.specs.Walk.{Among};
 ghost use Rattle.edge_lists.specs.EdgesView.{IsPair, IsWhole, subject_lists};
 ghost use Rattle.wave_queue.specs.Thread.{is_marked};
@@ -18,6 +19,7 @@ use crate::node_set::NodeSet;
 use crate::rising::put_in;
 use desk_names::ObjId;
 use edge_lists::{EdgeId, Edges};
+use std::collections::VecDeque;
 use wave_queue::Wave;
 
 /// A notice from the sources: those whom it reaches are no longer current, and the watchers among them are remembered. The
@@ -28,14 +30,14 @@ pub fn tell_all(
     nodes: &mut [Option<Node>],
     sources: &NodeSet,
     wave: &mut Wave,
-    noticed: &mut Vec<ObjId>,
+    noticed: &mut VecDeque<ObjId>,
 )
     requires whole { IsWhole edges.now }
     requires nodes { length nodes.old ≡ length edges.now.nodes }
     requires sources { length sources.now.marks ≡ length edges.now.nodes }
     requires wave { IsFree (length edges.now.nodes) wave.old }
     requires noticed { AreNoticed noticed.old.items (length nodes.old) }
-    requires room { length nodes.old ≤ vec_capacity noticed.old }
+    requires room { length nodes.old ≤ deque_capacity noticed.old }
     ensures told { (o : ℕ) → (IsTold (graph_of nodes.old (subject_lists edges.now) sources.now.marks) o
         × (slice_index_or nodes.new o None ≡ unsettled (slice_index_or nodes.old o None)))
         ⊎ ((IsTold (graph_of nodes.old (subject_lists edges.now) sources.now.marks) o → ⊥)
@@ -44,7 +46,7 @@ pub fn tell_all(
         ⊎ (IsWatcher (slice_index_or nodes.old w None)
         × IsTold (graph_of nodes.old (subject_lists edges.now) sources.now.marks) w)) }
     ensures noticed { AreNoticed noticed.new.items (length nodes.old) }
-    ensures capacity { vec_capacity noticed.old ≤ vec_capacity noticed.new }
+    ensures capacity { deque_capacity noticed.old ≤ deque_capacity noticed.new }
     ensures len { length wave.new.marks ≡ length wave.old.marks }
 {
     tell_first(edges, nodes, sources, wave, noticed);
@@ -57,21 +59,21 @@ fn tell_first(
     nodes: &mut [Option<Node>],
     sources: &NodeSet,
     wave: &mut Wave,
-    noticed: &mut Vec<ObjId>,
+    noticed: &mut VecDeque<ObjId>,
 )
     requires whole { IsWhole edges.now }
     requires nodes { length nodes.old ≡ length edges.now.nodes }
     requires sources { length sources.now.marks ≡ length edges.now.nodes }
     requires wave { IsFree (length edges.now.nodes) wave.old }
     requires noticed { AreNoticed noticed.old.items (length nodes.old) }
-    requires room { length nodes.old ≤ vec_capacity noticed.old }
+    requires room { length nodes.old ≤ deque_capacity noticed.old }
     ensures spreads { Spreads edges.now sources.now.marks nodes.old noticed.old.items (λ x o. ⊥) nodes.new wave.new
         noticed.new.items }
     ensures starts { (x o : ℕ) → IsPair edges.now x o → is_marked sources.now.marks x ≡ true
         → IsDone edges.now nodes.old nodes.new wave.new noticed.new.items o }
     ensures below { IsMarkedBelow (length edges.now.nodes) wave.new }
     ensures noticed { AreNoticed noticed.new.items (length nodes.old) }
-    ensures capacity { vec_capacity noticed.old ≤ vec_capacity noticed.new }
+    ensures capacity { deque_capacity noticed.old ≤ deque_capacity noticed.new }
     ensures len { length wave.new.marks ≡ length wave.old.marks }
 {
     for at in 0..sources.len() {
@@ -87,14 +89,14 @@ fn pass_on(
     nodes: &mut [Option<Node>],
     sources: &NodeSet,
     wave: &mut Wave,
-    noticed: &mut Vec<ObjId>,
+    noticed: &mut VecDeque<ObjId>,
 )
     requires whole { IsWhole edges.now }
     requires nodes { length nodes.old ≡ length edges.now.nodes }
     requires wave { length nodes.old ≤ length wave.old.marks }
     requires below { IsMarkedBelow (length edges.now.nodes) wave.old }
     requires noticed { AreNoticed noticed.old.items (length nodes.old) }
-    requires room { length nodes.old ≤ vec_capacity noticed.old }
+    requires room { length nodes.old ≤ deque_capacity noticed.old }
     ensures spreads { (first : List (Option Node)) (noted : List ℕ)
         → Spreads edges.now sources.now.marks first noted (λ x o. ⊥) nodes.old wave.old noticed.old.items
         → Spreads edges.now sources.now.marks first noted (λ x o. ⊥) nodes.new wave.new noticed.new.items }
@@ -102,7 +104,7 @@ fn pass_on(
         → IsDone edges.now first nodes.new wave.new noticed.new.items o }
     ensures end { wave.new.waiting ≡ [] }
     ensures noticed { AreNoticed noticed.new.items (length nodes.old) }
-    ensures capacity { vec_capacity noticed.old ≤ vec_capacity noticed.new }
+    ensures capacity { deque_capacity noticed.old ≤ deque_capacity noticed.new }
     ensures len { length wave.new.marks ≡ length wave.old.marks }
 {
     let mut first: Option<EdgeId> = None;
@@ -161,14 +163,14 @@ fn tell_observers(
     carries: bool,
     nodes: &mut [Option<Node>],
     wave: &mut Wave,
-    noticed: &mut Vec<ObjId>,
+    noticed: &mut VecDeque<ObjId>,
 ) -> Option<ObjId>
     requires whole { IsWhole edges.now }
     requires nodes { length nodes.old ≡ length edges.now.nodes }
     requires first { IsFirstPair edges.now from first.old }
     requires wave { length nodes.old ≤ length wave.old.marks }
     requires noticed { AreNoticed noticed.old.items (length nodes.old) }
-    requires room { length nodes.old ≤ vec_capacity noticed.old }
+    requires room { length nodes.old ≤ deque_capacity noticed.old }
     ensures spreads { (sources : List Bool) (first : List (Option Node)) (noted : List ℕ)
         → Spreads edges.now sources first noted (λ x o. x ≡ from) nodes.old wave.old noticed.old.items
         → ((o : ℕ) → IsPair edges.now from o → IsTold (graph_of first (subject_lists edges.now) sources) o)
@@ -182,7 +184,7 @@ fn tell_observers(
     ensures marked { IfSome result (λ o. is_marked (carrying result wave.new).marks o ≡ true) }
     ensures first { IfSome result (λ o. IsFirstPair edges.now o first.new) }
     ensures noticed { AreNoticed noticed.new.items (length nodes.old) }
-    ensures capacity { vec_capacity noticed.old ≤ vec_capacity noticed.new }
+    ensures capacity { deque_capacity noticed.old ≤ deque_capacity noticed.new }
 {
     let mut carried: Option<ObjId> = None;
     let mut at = *first;
@@ -212,14 +214,14 @@ fn tell_one(
     first: &mut Option<EdgeId>,
     nodes: &mut [Option<Node>],
     wave: &mut Wave,
-    noticed: &mut Vec<ObjId>,
+    noticed: &mut VecDeque<ObjId>,
 ) -> Option<ObjId>
     requires whole { IsWhole edges.now }
     requires nodes { length nodes.old ≡ length edges.now.nodes }
     requires told { told < length edges.now.nodes }
     requires wave { length nodes.old ≤ length wave.old.marks }
     requires noticed { AreNoticed noticed.old.items (length nodes.old) }
-    requires room { length nodes.old ≤ vec_capacity noticed.old }
+    requires room { length nodes.old ≤ deque_capacity noticed.old }
     ensures spreads { (sources : List Bool) (first : List (Option Node)) (noted : List ℕ) (from : ℕ) (ahead : List ℕ)
         → Spreads edges.now sources first noted (λ x o. (x ≡ from) × Among o ahead) nodes.old wave.old noticed.old.items
         → IsTold (graph_of first (subject_lists edges.now) sources) told
@@ -233,7 +235,7 @@ fn tell_one(
     ensures marked { IfSome result (λ o. is_marked (carrying result wave.new).marks o ≡ true) }
     ensures first { IfSome result (λ o. IsFirstPair edges.now o first.new) }
     ensures noticed { AreNoticed noticed.new.items (length nodes.old) }
-    ensures capacity { vec_capacity noticed.old ≤ vec_capacity noticed.new }
+    ensures capacity { deque_capacity noticed.old ≤ deque_capacity noticed.new }
 {
     let goes_on = take_notice(&mut nodes[told.place()], told, noticed);
     put_passing(edges, goes_on, told, is_last, first, wave)
@@ -310,14 +312,14 @@ fn first_passed(edges: &Edges, goes_on: bool, told: ObjId) -> Option<EdgeId>
 
 // A node that is told is no longer current, and is remembered if it is a watcher; whether it passes the notice on.
 #[inline(always)]
-fn take_notice(node: &mut Option<Node>, told: ObjId, noticed: &mut Vec<ObjId>) -> bool
+fn take_notice(node: &mut Option<Node>, told: ObjId, noticed: &mut VecDeque<ObjId>) -> bool
     requires rising { IsRising noticed.old.items }
-    requires room { length (with_number told noticed.old.items) ≤ vec_capacity noticed.old }
+    requires room { length (with_number told noticed.old.items) ≤ deque_capacity noticed.old }
     ensures passes { result ≡ passes_of node.old }
     ensures node { node.new ≡ unsettled node.old }
     ensures watcher { (IsWatcher node.old × (noticed.new.items ≡ with_number told noticed.old.items))
         ⊎ ((IsWatcher node.old → ⊥) × (noticed.new.items ≡ noticed.old.items)) }
-    ensures room { vec_capacity noticed.old ≤ vec_capacity noticed.new }
+    ensures room { deque_capacity noticed.old ≤ deque_capacity noticed.new }
 {
     match node {
         None => false,
@@ -335,14 +337,14 @@ fn take_notice(node: &mut Option<Node>, told: ObjId, noticed: &mut Vec<ObjId>) -
 
 // The same of a live node. It stays apart, since most that are told are lazy.
 #[inline(never)]
-fn take_live(live: &mut Node, told: ObjId, noticed: &mut Vec<ObjId>) -> bool
+fn take_live(live: &mut Node, told: ObjId, noticed: &mut VecDeque<ObjId>) -> bool
     requires rising { IsRising noticed.old.items }
-    requires room { length (with_number told noticed.old.items) ≤ vec_capacity noticed.old }
+    requires room { length (with_number told noticed.old.items) ≤ deque_capacity noticed.old }
     ensures passes { result ≡ passes_as live.old.role live.old.flags }
     ensures node { Some live.new ≡ unsettled (Some live.old) }
     ensures watcher { ((live.old.role ≡ Watcher) × (noticed.new.items ≡ with_number told noticed.old.items))
         ⊎ ((live.old.role ≡ Watcher → ⊥) × (noticed.new.items ≡ noticed.old.items)) }
-    ensures room { vec_capacity noticed.old ≤ vec_capacity noticed.new }
+    ensures room { deque_capacity noticed.old ≤ deque_capacity noticed.new }
 {
     let goes_on = passes(live);
     live.flags.current = false;

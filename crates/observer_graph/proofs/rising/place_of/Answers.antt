@@ -13,8 +13,8 @@ loop-low-preserved-then-place c =
       low = omega arith;
       high = most;
       before = λ i d low.
-          let le = rising_at c.args.nodes.now i m d c.index-nodes-middle.result c.requires (omega arith) (omega arith) in
-          let here = c.place.ensures in let there = c.place-in-loop-low.ensures in let less = c.if-place.true in omega arith;
+          let le = rising_at c.args.nodes.now.items i m d c.index.result.now c.requires (omega arith) (omega arith) in
+          let at = c.index.ensures in let here = c.place.ensures in let there = c.place-in-loop-low.ensures in let less = c.if-place.true in omega arith;
       from = c.loop-low.invariant.from;
     }
 
@@ -27,6 +27,6 @@ loop-low-preserved c =
       high = omega arith;
       before = c.loop-low.invariant.before;
       from = λ i d high low.
-          let le = rising_at c.args.nodes.now m i c.index-nodes-middle.result d c.requires high low in
-          let here = c.place.ensures in let there = c.place-in-loop-low.ensures in let less = c.if-place.false in omega arith;
+          let le = rising_at c.args.nodes.now.items m i c.index.result.now d c.requires high low in
+          let at = c.index.ensures in let here = c.place.ensures in let there = c.place-in-loop-low.ensures in let less = c.if-place.false in omega arith;
     }

@@ -1,24 +1,23 @@
-use Rattle.std.proofs.Common.{◌∙◌, ℕ, List, sym, ap, subst, length, arith}
+use Rattle.std.proofs.Common.{◌∙◌, sym, ap, length, arith}
 use Rattle.std.proofs.lemmas.List.Edits.{length-insert}
-use Rattle.observer_graph.specs.Noticed.{IsPlace, is_at}
 use Rattle.observer_graph.proofs.Numbers.{put_there, stays_there}
 use Rattle.observer_graph.proofs.rising.put_in.Goals as goal
 
 pub returns-in-Ok-clause-items : goal.returns-in-Ok-clause-items
 returns-in-Ok-clause-items c = rw (c.in-Ok.ensures.items) (put_there c.args.entry c.args.nodes.now.items c.place_of-at.result
-    (subst (λ (l : List ℕ). IsPlace l c.args.entry c.place_of-at.result) c.deref.ensures.value c.place_of-at.ensures)
-    (ap (λ (l : List ℕ). is_at l c.place_of-at.result c.args.entry) (sym c.deref-2.ensures.value) ∙ sym c.is_at.ensures ∙ c.if-not-is_at.true))
+    c.place_of-at.ensures
+    (sym c.is_at.ensures ∙ c.if-not-is_at.true))
 
 pub returns-else-not-is_at-clause-items : goal.returns-else-not-is_at-clause-items
 returns-else-not-is_at-clause-items c = stays_there c.args.entry c.args.nodes.now.items c.place_of-at.result
-    (subst (λ (l : List ℕ). IsPlace l c.args.entry c.place_of-at.result) c.deref.ensures.value c.place_of-at.ensures)
-    (ap (λ (l : List ℕ). is_at l c.place_of-at.result c.args.entry) (sym c.deref-2.ensures.value) ∙ sym c.is_at.ensures ∙ c.if-not-is_at.false)
+    c.place_of-at.ensures
+    (sym c.is_at.ensures ∙ c.if-not-is_at.false)
 
 pub unreachable-requires : goal.unreachable-requires
 unreachable-requires c =
-    let place = subst (λ (l : List ℕ). IsPlace l c.args.entry c.place_of-at.result) c.deref.ensures.value c.place_of-at.ensures in
+    let place = c.place_of-at.ensures in
     let is = put_there c.args.entry c.args.nodes.now.items c.place_of-at.result place
-    (ap (λ (l : List ℕ). is_at l c.place_of-at.result c.args.entry) (sym c.deref-2.ensures.value) ∙ sym c.is_at.ensures ∙ c.if-not-is_at.true) in
+    (sym c.is_at.ensures ∙ c.if-not-is_at.true) in
     let more = length-insert c.args.nodes.now.items c.place_of-at.result c.args.entry place.0 in
     let long = ap length is in let room = c.requires.room in let len = c.args.nodes.now.ok.0 in
     let full = c.in-Err.ensures.full in omega arith

@@ -1,4 +1,5 @@
-use Rattle.std.proofs.Common.{◌≡◌, ◌+◌, ◌≤◌, ℕ, List, [], true, Option, Some, length, vec_capacity}
+use Rattle.std.proofs.Common.{◌≡◌, ◌+◌, ◌≤◌, ℕ, List, [], true, Option, Some, length}
+use Rattle.std.specs.VecDeque.{deque_capacity}
 use Rattle.std.specs.Prelude.{IfNone, IfSome}
 use Rattle.wave_queue.specs.Thread.{is_marked, open_count}
 use Rattle.observer_graph.specs.declared.node.Node.{Node}
@@ -21,7 +22,7 @@ invariant-loop-next l = record {
   marked : IfSome l.next (λ o. is_marked l.wave.marks o ≡ true);
   end : IfNone l.next (l.wave.waiting ≡ []);
   noticed : AreNoticed l.noticed.items (length l.fn.nodes);
-  capacity : vec_capacity l.fn.noticed ≤ vec_capacity l.noticed;
+  capacity : deque_capacity l.fn.noticed ≤ deque_capacity l.noticed;
 }
 
 abbrev pub decreases-loop-next : goal.decreases-loop-next

@@ -1,4 +1,5 @@
-use Rattle.std.proofs.Common.{◌≡◌, ◌≤◌, ℕ, length, take, vec_capacity}
+use Rattle.std.proofs.Common.{◌≡◌, ◌≤◌, ℕ, length, take}
+use Rattle.std.specs.VecDeque.{deque_capacity}
 use Rattle.walks.specs.Walk.{Among}
 use Rattle.edge_lists.specs.EdgesView.{IsPair}
 use Rattle.observer_graph.specs.Noticed.{AreNoticed}
@@ -14,5 +15,5 @@ invariant-loop-at l = record {
   starts : (x o : ℕ) → Among x (take l.at l.sources.items) → IsPair l.edges x o
       → IsDone l.edges l.initial.nodes l.nodes l.wave l.noticed.items o;
   noticed : AreNoticed l.noticed.items (length l.initial.nodes);
-  capacity : vec_capacity l.initial.noticed ≤ vec_capacity l.noticed;
+  capacity : deque_capacity l.initial.noticed ≤ deque_capacity l.noticed;
 }

@@ -1,4 +1,5 @@
-use Rattle.std.proofs.Common.{◌≡◌, ◌⊎◌, ◌≤◌, ℕ, Bool, true, List, Option, None, length, vec_capacity}
+use Rattle.std.proofs.Common.{◌≡◌, ◌⊎◌, ◌≤◌, ℕ, Bool, true, List, Option, None, length}
+use Rattle.std.specs.VecDeque.{deque_capacity}
 use Rattle.std.specs.Prelude.{IfSome}
 use Rattle.walks.specs.Walk.{Among}
 use Rattle.wave_queue.specs.Thread.{is_marked}
@@ -29,7 +30,7 @@ invariant-loop-at l = record {
       × ((o : ℕ) → IsPair l.edges l.fn.from o
       → IsDone l.edges first l.nodes (carrying l.carried l.wave) l.noticed.items o ⊎ Among o (observers_from l.edges l.at));
   noticed : AreNoticed l.noticed.items (length l.initial.nodes);
-  capacity : vec_capacity l.initial.noticed ≤ vec_capacity l.noticed;
+  capacity : deque_capacity l.initial.noticed ≤ deque_capacity l.noticed;
 }
 
 abbrev pub decreases-loop-at : goal.decreases-loop-at

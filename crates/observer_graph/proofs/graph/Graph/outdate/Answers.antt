@@ -1,4 +1,5 @@
-use Rattle.std.specs.Prelude.{vec_capacity, slice_index_or, None}
+use Rattle.std.specs.Prelude.{slice_index_or, None}
+use Rattle.std.specs.VecDeque.{deque_capacity}
 use Rattle.observer_graph.specs.Notice.{unsettled}
 use Rattle.observer_graph.proofs.Numbers.{noticed_set, room_set}
 use Rattle.std.proofs.Common.{sym, subst, ◌∙◌}
@@ -20,6 +21,6 @@ invariant_of-self c =
       stands_stale c.self.inside.nodes.items c.self.inside.pairs c.self.inside.sources c.self.inside.wave c.args.node
           live c.self.invariant.0,
       c.self.invariant.1 ∙ sym (count_stale c.self.inside.nodes.items c.args.node low),
-      noticed_set c.self.inside.nodes.items c.args.node (unsettled (slice_index_or c.self.inside.nodes.items c.args.node None)) c.self.inside.noticed.items (vec_capacity c.self.inside.noticed) c.self.invariant.2,
-      room_set c.self.inside.nodes.items c.args.node (unsettled (slice_index_or c.self.inside.nodes.items c.args.node None)) c.self.inside.noticed.items (vec_capacity c.self.inside.noticed) c.self.invariant.3,
+      noticed_set c.self.inside.nodes.items c.args.node (unsettled (slice_index_or c.self.inside.nodes.items c.args.node None)) c.self.inside.noticed.items (deque_capacity c.self.inside.noticed) c.self.invariant.2,
+      room_set c.self.inside.nodes.items c.args.node (unsettled (slice_index_or c.self.inside.nodes.items c.args.node None)) c.self.inside.noticed.items (deque_capacity c.self.inside.noticed) c.self.invariant.3,
     )

@@ -1,4 +1,5 @@
-use Rattle.std.proofs.Common.{ℕ, List, length, None, slice_set, vec_capacity}
+use Rattle.std.proofs.Common.{ℕ, List, length, None, slice_set}
+use Rattle.std.specs.VecDeque.{deque_capacity}
 use Rattle.observer_graph.specs.Noticed.{AreNoticed, without}
 use Rattle.observer_graph.proofs.Numbers.{noticed_set, noticed_without, room_set}
 use Rattle.std.proofs.Common.{◌∙◌, ap, refl, sym, subst, arith}
@@ -35,7 +36,7 @@ invariant_of-self c =
       subst (λ (l : List ℕ). AreNoticed l (length (slice_set c.self.inside.nodes.items c.args.node None))) (sym c.take_out.ensures.items)
           (noticed_set c.self.inside.nodes.items c.args.node None (without c.args.node c.self.inside.noticed.items) 0
           (noticed_without c.self.inside.noticed.items c.args.node (length c.self.inside.nodes.items) c.self.invariant.2)),
-      (let room = room_set c.self.inside.nodes.items c.args.node None c.self.inside.noticed.items (vec_capacity c.self.inside.noticed) c.self.invariant.3 in
+      (let room = room_set c.self.inside.nodes.items c.args.node None c.self.inside.noticed.items (deque_capacity c.self.inside.noticed) c.self.invariant.3 in
           let same = c.take_out.ensures.room in omega arith),
     )
 

@@ -1,4 +1,5 @@
-use Rattle.std.specs.Prelude.{vec_capacity, slice_index_or, None}
+use Rattle.std.specs.Prelude.{slice_index_or, None}
+use Rattle.std.specs.VecDeque.{deque_capacity}
 use Rattle.observer_graph.specs.Change.{flagged}
 use Rattle.observer_graph.proofs.Numbers.{noticed_set, room_set}
 use Rattle.std.proofs.Common.{◌∙◌, ap, sym, subst, arith}
@@ -39,6 +40,6 @@ invariant_of-self c =
           c.args.flags lazy c.self.invariant.0,
       count_flagged c.self.inside.nodes.items c.args.node c.recounted-self-inside.result c.args.flags lazy low
           (let e = c.recounted-self-inside.ensures in let f = c.self.invariant.1 in omega arith),
-      noticed_set c.self.inside.nodes.items c.args.node (flagged c.args.flags (slice_index_or c.self.inside.nodes.items c.args.node None)) c.self.inside.noticed.items (vec_capacity c.self.inside.noticed) c.self.invariant.2,
-      room_set c.self.inside.nodes.items c.args.node (flagged c.args.flags (slice_index_or c.self.inside.nodes.items c.args.node None)) c.self.inside.noticed.items (vec_capacity c.self.inside.noticed) c.self.invariant.3,
+      noticed_set c.self.inside.nodes.items c.args.node (flagged c.args.flags (slice_index_or c.self.inside.nodes.items c.args.node None)) c.self.inside.noticed.items (deque_capacity c.self.inside.noticed) c.self.invariant.2,
+      room_set c.self.inside.nodes.items c.args.node (flagged c.args.flags (slice_index_or c.self.inside.nodes.items c.args.node None)) c.self.inside.noticed.items (deque_capacity c.self.inside.noticed) c.self.invariant.3,
     )

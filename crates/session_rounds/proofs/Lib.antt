@@ -6,5 +6,6 @@ mod Known
 mod Larger
 mod Passing
 mod Plays
+mod Staying
 pub mod Stopping
 mod Taken

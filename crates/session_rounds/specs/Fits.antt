@@ -1,6 +1,10 @@
 -- What holds of a session with watchers, also while a round runs in it.
-use Rattle.std.specs.Prelude.{◌≡◌, ◌≤◌, ◌+◌, ℕ, true, false, length, All}
+use Rattle.std.specs.Prelude.{◌≡◌, ◌≤◌, ◌+◌, ℕ, Bool, true, false, List, length, All}
 use Rattle.desk_model.specs.Market.{slot_at, is_watcher}
+use Rattle.desk_model.specs.State.{State}
+use Rattle.desk_model.specs.Told.{is_watching}
+use Rattle.session_commands.specs.declared.command.Command.{Command}
+use Rattle.session_commands.specs.declared.command.Command.TheVariants as command
 use Rattle.watch_rounds.specs.Due.{AreAll}
 use Rattle.watch_rounds.specs.declared.due.DueWatcher.{DueWatcher}
 use Rattle.session_model.specs.Standing.{Standing, name_of, IsKnown}
@@ -25,3 +29,40 @@ pub record Fits (P : Type 0) (r : Running P) (nodes : ℕ) : Type 0 where
   pub spare : r.standing.stopped ≡ false → length r.standing.of_object + 1 ≤ nodes
   pub due : AreAll (IsDueOf r.standing) r.round.due
   pub known : AreKnown r.standing
+
+-- each due watcher has a registration
+abbrev pub AreWatching : State → List DueWatcher → Type 0
+AreWatching state due = AreAll (λ entry. is_watching state entry.watcher ≡ true) due
+
+-- what is known of the due of a session that says that they are settled
+abbrev pub IsSettled : Bool → State → List DueWatcher → Type 0
+IsSettled settled state due = settled ≡ true → AreWatching state due
+
+-- a command that may leave a watcher without a registration
+abbrev pub may_idle : Command → Bool
+may_idle (command.Quote name value) = false
+may_idle (command.Sum name a b) = false
+may_idle (command.Difference name a b) = false
+may_idle (command.Handle name is_curve) = false
+may_idle (command.Stock name q) = false
+may_idle (command.Composite name) = false
+may_idle (command.Member k i weight) = false
+may_idle (command.Set q value) = false
+may_idle (command.Unset q) = false
+may_idle (command.Link h t) = false
+may_idle (command.Unlink h) = false
+may_idle (command.Engine i e) = false
+may_idle (command.Today day) = false
+may_idle (command.Fixing x day rate) = false
+may_idle (command.Freeze o) = false
+may_idle (command.Thaw o) = false
+may_idle (command.Recalc o) = false
+may_idle (command.Forward o is_on) = false
+may_idle command.Defer = false
+may_idle command.Resume = false
+may_idle (command.Watch w action) = false
+may_idle (command.Register w o) = false
+may_idle (command.Unregister w o) = true
+may_idle (command.Drop o) = true
+may_idle (command.Ask o) = false
+may_idle (command.Df c day) = false

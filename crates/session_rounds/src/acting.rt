@@ -12,7 +12,7 @@ ghost use Rattle.session_rounds.specs.Quiet.{IsQuiet};
 ghost use Rattle.session_rounds.specs.Stopped.{StopsWithin, StopsBehind, HaltsIn};
 
 use crate::WatchedSession;
-use crate::idle::forget_idle;
+use crate::idle::{settle, stays_settled};
 use desk_terms::Bench;
 use session_commands::Command;
 use session_core::Session;
@@ -80,13 +80,16 @@ impl<P: Picker> WatchedSession<P> {
     {
         self.session.watchers();
         let given = self.session.numbers();
+        let settled = stays_settled(self.settled, command);
         match self.session.act(command, bench, lines) {
             Ok(()) => {
-                forget_idle(&mut self.rounds, &self.session);
+                settle(&mut self.rounds, &self.session, settled);
+                self.settled = true;
                 make_room(&mut self.rounds, &mut self.session, given)
             }
             Err(fault) => {
                 self.rounds.begin();
+                self.settled = false;
                 Err(fault)
             }
         }

@@ -16,7 +16,7 @@ ghost use Rattle.session_model.specs.Turn.{turn};
 ghost use Rattle.session_model.specs.Course.{taken};
 
 use crate::WatchedSession;
-use crate::idle::forget_idle;
+use crate::idle::settle;
 use desk_model::Entry;
 use desk_names::{NameId, ObjId};
 use desk_terms::{Asked, Bench};
@@ -43,7 +43,8 @@ impl<P: Picker> WatchedSession<P> {
     {
         self.session.watchers();
         let refusal = self.session.change(command);
-        forget_idle(&mut self.rounds, &self.session);
+        settle(&mut self.rounds, &self.session, false);
+        self.settled = true;
         refusal
     }
 
@@ -71,6 +72,7 @@ impl<P: Picker> WatchedSession<P> {
         ensures sound { IsSound (B.calc bench.old) self.new.standing.state }
         ensures rounds { self.new ≡ record self.old { standing = self.new.standing } }
     {
+        self.settled = false;
         self.session.ask(object, bench)
     }
 

@@ -57,6 +57,7 @@ impl<P: Picker> WatchedSession<P> {
         ensures same { OnErr result (self.new ≡ self.old) }
         ensures memory { IfErr result (λ fault. fault ≡ NameFault.NoMemory) }
     {
+        self.settled = false;
         self.rounds.reserve(self.session.names().len() + 1)?;
         let name = self.session.intern(text)?;
         self.rounds.count_name();
@@ -73,6 +74,7 @@ impl<P: Picker> WatchedSession<P> {
         ensures full { IsErrOf result ActionFault.Full ↔ (MOST_ACTIONS ≤ length self.old.standing.actions) }
         ensures sound { (calc : Calc) → IsSound calc self.old.standing.state → IsSound calc self.new.standing.state }
     {
+        self.settled = false;
         self.session.add_action(block)
     }
 
@@ -91,6 +93,7 @@ impl<P: Picker> WatchedSession<P> {
         ensures keeps { KeepsCurrent self.old.standing.state self.new.standing.state }
         ensures sound { (calc : Calc) → IsSound calc self.old.standing.state → IsSound calc self.new.standing.state }
     {
+        self.settled = false;
         self.session.watchers();
         self.session.free(name)?;
         self.session.room()?;

@@ -23,6 +23,8 @@ pub struct WatchedSession<P> {
     pub(crate) session: Session,
     pub(crate) rounds: Rounds,
     pub(crate) picker: P,
+    // Whether each due watcher is known to have a registration.
+    pub(crate) settled: bool,
     pub(crate) alloc: Global,
 }
 
@@ -33,6 +35,7 @@ impl<P: Drop> Drop for WatchedSession<P> {
             session: _,
             rounds: _,
             picker: _,
+            settled: _,
             alloc: _,
         } = self;
     }
@@ -40,14 +43,14 @@ impl<P: Drop> Drop for WatchedSession<P> {
 
 impl<P> Model for WatchedSession<P> {
     ghost use Rattle.session_model.specs.Course.{Running};
-    ghost use Rattle.session_rounds.specs.Fits.{Fits};
+    ghost use Rattle.session_rounds.specs.Fits.{Fits, IsSettled};
 
     ghost Value = { Running P };
 
     ghost view = { λ s. record { standing = s.session; round = s.rounds.round; picker = s.picker } };
 
     ghost invariant = { λ s. Fits P (record { standing = s.session; round = s.rounds.round; picker = s.picker })
-        s.rounds.nodes };
+        s.rounds.nodes × IsSettled s.settled s.session.state s.rounds.round.due };
 }
 
 impl<P: Picker + Drop> WatchedSession<P> {
@@ -62,6 +65,7 @@ impl<P: Picker + Drop> WatchedSession<P> {
             session,
             rounds,
             picker,
+            settled: false,
             alloc,
         })
     }
@@ -160,5 +164,6 @@ impl<P: Picker> WatchedSession<P> {
     {
         drain(&mut self.session);
         self.rounds.begin();
+        self.settled = true;
     }
 }

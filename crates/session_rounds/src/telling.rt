@@ -8,6 +8,7 @@ ghost use Rattle.session_core.specs.Watchers.{IsAWatcher};
 ghost use Rattle.session_rounds.specs.Goes.{Does, Halts, lines_alone};
 
 use crate::WatchedSession;
+use crate::idle::settled_with;
 use desk_names::{NameId, ObjId};
 use price_report::over_line;
 use session_core::Session;
@@ -42,6 +43,7 @@ impl<P: Picker> WatchedSession<P> {
         let name = self.session.name_of(watcher);
         self.session.watchers();
         let notice = self.rounds.told(watcher, name);
+        self.settled = settled_with(self.settled, self.session.is_watching(watcher));
         self.say(notice, name, lines)
     }
 

@@ -1,4 +1,6 @@
-use Rattle.std.proofs.Common.{◌≡◌, ◌∙◌, ◌-◌, ◌<◌, ℕ, suc, List, get_or, sym, ap, arith}
+use Rattle.std.proofs.Common.{◌≡◌, ◌∙◌, ◌-◌, ◌<◌, ℕ, suc, true, List, get_or, drop, sym, ap, subst, arith}
+use Rattle.desk_model.specs.Told.{is_watching}
+use Rattle.watch_rounds.specs.Due.{AreAll}
 use Rattle.watch_rounds.specs.declared.due.DueWatcher.{DueWatcher}
 use Rattle.session_rounds.proofs.Passing.{step_kept, step_gone, step_end}
 use Rattle.session_rounds.proofs.idle.forget_idle.Goals as goal
@@ -30,6 +32,12 @@ loop-at-preserved c =
           (sym c.is_watching.ensures ∙ c.if-not-is_watching.false);
     }
 
-pub returns : goal.returns
-returns c = step_end c.args.session.now.state c.args.rounds.now c.loop-at.rounds c.loop-at.at
+pub returns-clause-undue : goal.returns-clause-undue
+returns-clause-undue c = step_end c.args.session.now.state c.args.rounds.now c.loop-at.rounds c.loop-at.at
     (let none = c.loop-at-test.false in omega arith) c.loop-at.invariant.others c.loop-at.invariant.kept c.loop-at.invariant.rest
+
+pub returns-clause-watching : goal.returns-clause-watching
+returns-clause-watching c =
+    let none : c.loop-at.at ≡ 0 = let ended = c.loop-at-test.false in omega arith in
+    subst (λ (n : ℕ). AreAll (λ (entry : DueWatcher). is_watching c.args.session.now.state entry.watcher ≡ true) (drop n c.loop-at.rounds.round.due))
+    none c.loop-at.invariant.rest

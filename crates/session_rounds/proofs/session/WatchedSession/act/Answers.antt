@@ -7,10 +7,11 @@ use Rattle.session_model.specs.Standing.{Standing}
 use Rattle.session_model.specs.Resolve.{resolve}
 use Rattle.session_model.specs.Turn.{turn}
 use Rattle.session_model.specs.Course.{Running, Meaning, taken}
-use Rattle.session_rounds.specs.Fits.{Fits}
+use Rattle.session_rounds.specs.Fits.{Fits, AreWatching}
 use Rattle.session_rounds.proofs.Going.{does_halts}
 use Rattle.session_rounds.proofs.Stopping.{stops_within, stops_at_once}
 use Rattle.session_model.proofs.Live.{acted_long}
+use Rattle.session_rounds.proofs.Staying.{due_watched}
 use Rattle.session_rounds.proofs.Taken.{does_taken, halts_taken, fits_acted, stopped_or_same, quiet_numbers}
 use Rattle.session_rounds.proofs.session.WatchedSession.act.Goals as goal
 
@@ -25,10 +26,20 @@ invariant_of-self g c =
     let r : Running g.row.P.Denot = record { standing = c.self.inside.session; round = c.self.inside.rounds.round; picker = c.self.inside.picker } in
     let kept = stopped_or_same c.make_room.result c.act.new.self c.make_room.new.session c.make_room.ensures.ok c.make_room.ensures.err in
     let fits = fits_acted (g.B.Bench.calc c.args.bench.now) r c.args.command.now c.act.new.self c.make_room.new.session c.self.inside.rounds.nodes
-    c.make_room.new.rounds.nodes c.self.invariant c.watchers.ensures c.in-Ok.ensures.acts.next c.act.ensures.names c.act.ensures.actions kept
+    c.make_room.new.rounds.nodes c.self.invariant.0 c.watchers.ensures c.in-Ok.ensures.acts.next c.act.ensures.names c.act.ensures.actions kept
     c.make_room.ensures.room c.make_room.ensures.spare in
-    subst (λ (z : Round). Fits g.row.P.Denot (record r { standing = c.make_room.new.session; round = z }) c.make_room.new.rounds.nodes)
-    (sym (c.make_room.ensures.round ∙ ap (λ (v : RoundsView). v.round) c.forget_idle.ensures)) fits
+    let watching = subst (λ (p : Standing). AreWatching p.state c.settle.new.rounds.round.due) (sym kept) c.settle.ensures.watching in (
+      subst (λ (z : Round). Fits g.row.P.Denot (record r { standing = c.make_room.new.session; round = z }) c.make_room.new.rounds.nodes)
+          (sym (c.make_room.ensures.round ∙ ap (λ (v : RoundsView). v.round) c.settle.ensures.undue)) fits,
+      λ on. subst (λ (z : Round). AreWatching c.make_room.new.session.state z.due) (sym c.make_room.ensures.round) watching,
+    )
+
+pub settle-requires : goal.settle-requires
+settle-requires g c = λ on.
+    let both = c.stays_settled-settled.ensures on in
+    subst (λ (p : Standing). AreWatching p.state c.self.inside.rounds.round.due) (sym c.in-Ok.ensures.acts.next)
+    (due_watched (g.B.Bench.calc c.args.bench.now) c.self.inside.session c.args.command.now c.self.inside.rounds.round.due both.1
+    (c.self.invariant.1 both.0))
 
 pub returns-in-Ok-clause-err : goal.returns-in-Ok-clause-err
 returns-in-Ok-clause-err g c =

@@ -1,11 +1,20 @@
-use Rattle.watch_rounds.specs.Round.{RoundsView}
-use Rattle.std.proofs.Common.{length, refl, ap}
+use Rattle.std.proofs.Common.{◌≡◌, true, length, refl, ap}
+use Rattle.std.specs.Prelude.{slice_get}
+use Rattle.desk_model.specs.Told.{is_watching}
+use Rattle.watch_rounds.specs.Round.{RoundsView, with_run}
+use Rattle.watch_rounds.proofs.Stays.{ran_all}
 use Rattle.session_rounds.proofs.Fitting.{fits_ran, none_if, listed_if, ends_if}
 use Rattle.session_rounds.proofs.session.WatchedSession.begin_run.Goals as goal
 
 pub invariant_of-self : goal.invariant_of-self
-invariant_of-self g c = rw (c.next_due.ensures.ran) (fits_ran _ c.self.inside.rounds.nodes
-    (g.P.Picker.at c.self.inside.picker (length c.self.inside.rounds.round.due)) c.next_due.new.picker c.self.invariant)
+unfolding with_run
+invariant_of-self g c =
+    let at = g.P.Picker.at c.self.inside.picker (length c.self.inside.rounds.round.due) in
+    rw (c.next_due.ensures.ran) (
+      fits_ran _ c.self.inside.rounds.nodes at c.next_due.new.picker c.self.invariant.0,
+      λ on. ran_all (λ entry. is_watching c.self.inside.session.state entry.watcher ≡ true) (slice_get c.self.inside.rounds.round.due at) at
+          c.self.inside.rounds.round refl (c.self.invariant.1 on),
+    )
 
 pub returns-clause-begun : goal.returns-clause-begun
 returns-clause-begun g c = rw (c.next_due.ensures.ran, c.next_due.ensures.picker, ← c.self.view_is) refl
@@ -18,7 +27,7 @@ returns-clause-none g c = rw (← c.self.view_is) (none_if c.self.inside.rounds.
 pub returns-clause-listed : goal.returns-clause-listed
 returns-clause-listed g c = rw (← c.self.view_is) (listed_if c.self.inside.session c.self.inside.rounds.round.due
     (g.P.Picker.at c.self.inside.picker (length c.self.inside.rounds.round.due)) c.next_due.result c.watchers.ensures
-    c.self.invariant.due c.next_due.ensures.due)
+    c.self.invariant.0.due c.next_due.ensures.due)
 
 pub returns-clause-ends : goal.returns-clause-ends
 returns-clause-ends g c = ends_if c.self.inside.rounds.round c.next_due.new.self

@@ -1,4 +1,5 @@
 use Rattle.std.proofs.Common.{◌≤◌, ◌+◌, ◌∙◌, List, ℕ, length, Err, refl, sym, ap, subst}
+use Rattle.std.proofs.lemmas.Bool.{false≢true}
 use Rattle.desk_terms.specs.Reading.{Calc}
 use Rattle.desk_terms.specs.declared.cause.Cause.TheVariants.{Unpriced}
 use Rattle.desk_model.specs.Sound.{IsSound, KeepsCurrent}
@@ -20,18 +21,23 @@ invariant_of-self g c =
     let new = c.change-refusal.new.self in
     let alike = c.change-refusal.ensures.alike in
     let objects = ap (λ (p : Standing). p.of_object) alike in
-    let fits = c.self.invariant in
-    subst (λ (v : RoundsView). Fits g.row.P.Denot (record r { standing = new; round = v.round }) v.nodes) (sym c.forget_idle.ensures)
-    (fits_acted no_calc r c.args.command.now new new c.self.inside.rounds.nodes c.self.inside.rounds.nodes fits c.watchers.ensures
-    (c.change-refusal.ensures.turns no_calc) (ap (λ (p : Standing). p.names) alike) (ap (λ (p : Standing). p.actions) alike) refl
-    (subst (λ (l : List ℕ). length l ≤ c.self.inside.rounds.nodes) (sym objects) fits.room)
-    (λ running. subst (λ (l : List ℕ). length l + 1 ≤ c.self.inside.rounds.nodes) (sym objects)
-    (fits.spare (sym (ap (λ (p : Standing). p.stopped) alike) ∙ running))))
+    let fits = c.self.invariant.0 in (
+      subst (λ (v : RoundsView). Fits g.row.P.Denot (record r { standing = new; round = v.round }) v.nodes) (sym c.settle.ensures.undue)
+          (fits_acted no_calc r c.args.command.now new new c.self.inside.rounds.nodes c.self.inside.rounds.nodes fits c.watchers.ensures
+          (c.change-refusal.ensures.turns no_calc) (ap (λ (p : Standing). p.names) alike) (ap (λ (p : Standing). p.actions) alike) refl
+          (subst (λ (l : List ℕ). length l ≤ c.self.inside.rounds.nodes) (sym objects) fits.room)
+          (λ running. subst (λ (l : List ℕ). length l + 1 ≤ c.self.inside.rounds.nodes) (sym objects)
+          (fits.spare (sym (ap (λ (p : Standing). p.stopped) alike) ∙ running)))),
+      λ on. c.settle.ensures.watching,
+    )
+
+pub settle-requires : goal.settle-requires
+settle-requires g c = λ on. absurd (false≢true on)
 
 pub returns-clause-turns : goal.returns-clause-turns
 returns-clause-turns g c = λ calc.
     let r : Running g.row.P.Denot = record { standing = c.self.inside.session; round = c.self.inside.rounds.round; picker = c.self.inside.picker } in
-    ap (λ (v : RoundsView). let z : Running g.row.P.Denot = record r { standing = c.change-refusal.new.self; round = v.round } in z) c.forget_idle.ensures
+    ap (λ (v : RoundsView). let z : Running g.row.P.Denot = record r { standing = c.change-refusal.new.self; round = v.round } in z) c.settle.ensures.undue
     ∙ ap (λ (p : Standing). let z : Running g.row.P.Denot = record r { standing = p; round = undue p.state r.round } in z) (c.change-refusal.ensures.turns calc)
     ∙ ap (λ (z : Running g.row.P.Denot). (taken (turn calc z.standing c.args.command.now) z).next) c.self.view_is
 

@@ -5,6 +5,7 @@ use Rattle.std.proofs.lemmas.Result.{err_from_is_err_and}
 use Rattle.desk_model.specs.Sound.{IsSound}
 use Rattle.session_model.specs.Standing.{Standing}
 use Rattle.session_model.specs.Course.{Running, heard}
+use Rattle.session_rounds.specs.Fits.{IsSettled}
 use Rattle.session_rounds.specs.Goes.{Goes, lines_alone}
 use Rattle.session_rounds.proofs.Going.{goes_start}
 use Rattle.session_rounds.proofs.Hearing.{heard_more, heard_halts, heard_ends, silent_notice}
@@ -21,8 +22,10 @@ loop-watcher-init g c = record {
 }
 
 pub invariant_of-self : goal.invariant_of-self
-invariant_of-self g c =
-    fits_leaving _ c.self.inside.rounds.nodes c.next_told.new.self.state.noticed c.next_told.new.self c.self.invariant c.in-Some.ensures.some.1
+invariant_of-self g c = (
+  fits_leaving _ c.self.inside.rounds.nodes c.next_told.new.self.state.noticed c.next_told.new.self c.self.invariant.0 c.in-Some.ensures.some.1,
+  subst (λ (p : Standing). IsSettled c.self.inside.settled p.state c.self.inside.rounds.round.due) (sym c.in-Some.ensures.some.1) c.self.invariant.1,
+)
 
 pub loop-watcher-preserved : goal.loop-watcher-preserved
 loop-watcher-preserved g c =

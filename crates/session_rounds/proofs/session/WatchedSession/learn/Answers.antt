@@ -1,7 +1,8 @@
-use Rattle.std.proofs.Common.{◌≡◌, ◌+◌, ◌<◌, Bool, false, length, ◌∙◌, sym, ap, subst, arith}
+use Rattle.std.proofs.Common.{◌≡◌, ◌<◌, Bool, false, length, ◌∙◌, sym, ap, subst, arith}
 use Rattle.std.specs.Prelude.{if◌then◌else◌}
+use Rattle.std.proofs.lemmas.Bool.{false≢true}
 use Rattle.desk_names.specs.Names.{has_text}
-use Rattle.watch_rounds.specs.Round.{RoundsView, roomy, with_name}
+use Rattle.watch_rounds.specs.Round.{RoundsView, with_name}
 use Rattle.session_model.specs.Course.{Running}
 use Rattle.session_model.specs.Growing.{learn}
 use Rattle.session_model.specs.Grown.{learn_in}
@@ -13,7 +14,7 @@ use Rattle.session_rounds.proofs.session.WatchedSession.learn.Goals as goal
 pub count_name-requires : goal.count_name-requires
 count_name-requires g c = record {
   room = subst (λ (v : RoundsView). length v.round.tallies < v.names) (sym c.in_ok-reserve.ensures.ok)
-      (let counted = c.self.invariant.counted in let many = c.len.ensures.len in let same = ap length c.names.ensures in
+      (let counted = c.self.invariant.0.counted in let many = c.len.ensures.len in let same = ap length c.names.ensures in
       omega (arith, counted, many, same));
 }
 
@@ -29,10 +30,12 @@ invariant_of-self-2 g c =
     let kept : c.intern.new.self ≡ learn c.args.text.now c.self.inside.session = c.in_ok-name.ensures.kept
     ∙ ap (λ (b : Bool). if b then c.self.inside.session else learn c.args.text.now c.self.inside.session) lacks in
     let counted = c.count_name.ensures.counted
-    ∙ ap (λ (v : RoundsView). let z : RoundsView = record v { round = with_name v.round } in z) c.in_ok-reserve.ensures.ok in
-    subst (λ (v : RoundsView). Fits g.row.P.Denot (record r { standing = c.intern.new.self; round = v.round }) v.nodes) (sym counted)
-    (subst (λ (p : Standing). Fits g.row.P.Denot (record r { standing = p; round = with_name r.round }) c.self.inside.rounds.nodes)
-    (sym kept) (fits_learnt r c.self.inside.rounds.nodes c.args.text.now c.self.invariant))
+    ∙ ap (λ (v : RoundsView). let z : RoundsView = record v { round = with_name v.round } in z) c.in_ok-reserve.ensures.ok in (
+      subst (λ (v : RoundsView). Fits g.row.P.Denot (record r { standing = c.intern.new.self; round = v.round }) v.nodes) (sym counted)
+          (subst (λ (p : Standing). Fits g.row.P.Denot (record r { standing = p; round = with_name r.round }) c.self.inside.rounds.nodes)
+          (sym kept) (fits_learnt r c.self.inside.rounds.nodes c.args.text.now c.self.invariant.0)),
+      λ on. absurd (false≢true on),
+    )
 
 pub returns-clause-learnt : goal.returns-clause-learnt
 returns-clause-learnt g c =

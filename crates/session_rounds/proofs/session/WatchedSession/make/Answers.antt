@@ -1,4 +1,5 @@
 use Rattle.std.proofs.Common.{◌+◌, ◌∙◌, sym, subst, arith}
+use Rattle.std.proofs.lemmas.Bool.{false≢true}
 use Rattle.watch_rounds.specs.Round.{Round}
 use Rattle.session_model.specs.Course.{Running}
 use Rattle.session_model.specs.Resolve.{making, unless_taken}
@@ -43,7 +44,9 @@ invariant_of-self-2 g c =
       picker = c.self.inside.picker;
     } in
     let grown = grown_same c.self.inside.rounds c.grow.new.self (c.numbers.result + 2) c.in_ok-grow.ensures.ok in
-    let nodes = grown.1 in let numbers = c.numbers.ensures.numbers in
-    subst (λ (z : Round). Fits g.row.P.Denot (record r { standing = c.make.new.self; round = z }) c.grow.new.self.nodes) (sym grown.0)
-    (fits_making r c.self.inside.rounds.nodes c.make.new.self c.make.result c.self.invariant c.grow.new.self.nodes c.args.name c.args.terms
-    c.watchers.ensures (omega (arith, nodes)) (omega (arith, nodes, numbers)) c.make.ensures.made c.make.ensures.same)
+    let nodes = grown.1 in let numbers = c.numbers.ensures.numbers in (
+      subst (λ (z : Round). Fits g.row.P.Denot (record r { standing = c.make.new.self; round = z }) c.grow.new.self.nodes) (sym grown.0)
+          (fits_making r c.self.inside.rounds.nodes c.make.new.self c.make.result c.self.invariant.0 c.grow.new.self.nodes c.args.name c.args.terms
+          c.watchers.ensures (omega (arith, nodes)) (omega (arith, nodes, numbers)) c.make.ensures.made c.make.ensures.same),
+      λ on. absurd (false≢true on),
+    )

@@ -40,13 +40,14 @@ def fields(given):
     return words, files
 
 
-def points(picture):
-    """How many points each curve of a picture has: the same on its line and as disks."""
+def points(picture, steps):
+    """How many points each curve of a picture has: the same on its line and as disks; of steps the line has two for each."""
     counts = []
     for group in tree.fromstring(picture).iter(SVG + "g"):
         line = group.find(SVG + "polyline").get("points").split()
         disks = [(c.get("cx"), c.get("cy")) for c in group.iter(SVG + "circle")]
-        assert line == [f"{x},{y}" for x, y in disks]
+        assert (line[::2] if steps else line) == [f"{x},{y}" for x, y in disks]
+        assert len(line) == len(disks) * (2 if steps else 1)
         assert all(70 <= float(x) <= 770 and 50 <= float(y) <= 400 for x, y in disks)
         counts.append(len(disks))
     return counts
@@ -56,13 +57,13 @@ def run(words):
     return subprocess.run([program, *words], capture_output=True, text=True)
 
 
-def sizes(rows):
-    """How many points each curve of a table has; a curve begins with the factor 1 on its first day."""
+def sizes(rows, rates):
+    """How many points each curve of a table has; the factors of a curve begin with 1 on its first day."""
     counts = []
     before = ("", "")
-    for name, day, factor in rows:
+    for name, day, *_, value in rows:
         if name != before[0] or day <= before[1]:
-            assert factor == "1.000000000000"
+            assert rates or value == "1.000000000000"
             counts.append(0)
         counts[-1] += 1
         before = (name, day)
@@ -81,12 +82,14 @@ for name in ("curve_by_hand", "curve_markets", "curve_version_two", "curve_fault
         assert ran.stdout + ran.stderr == shown, case
         if ran.stdout.startswith("<svg"):
             found["pictures"] += 1
-            found["curves in pictures"] += len(points(ran.stdout))
+            found["curves in pictures"] += len(points(ran.stdout, "--forward" in words))
         elif ran.stdout.startswith("curve,"):
             rows = list(csv.reader(io.StringIO(ran.stdout)))
-            assert all(len(row) == 3 for row in rows)
+            steps, rates = "--forward" in words, words[1].startswith("--")
+            assert all(len(row) == (4 if steps else 3) for row in rows)
             found["tables"] += 1
-            assert points(run(words[1:]).stdout) == sizes(rows[1:])
+            # a curve without a node has no rates, and no row
+            assert [n for n in points(run(words[1:]).stdout, steps) if n] == sizes(rows[1:], rates)
             found["pictures of the curves of a table"] += 1
         else:
             found["lines"] += 1

@@ -1,7 +1,7 @@
 #!/usr/bin/env python3
 """A plain model of the texts of desk_curve, written beside the definitions and not after the code.
 
-    tools/curve_pictures.py [--csv] DAY < TRANSCRIPT
+    tools/curve_pictures.py [--csv] [--zero | --forward] DAY < TRANSCRIPT
 
 DAY is the market's day. TRANSCRIPT has the line of an ask for each curve, as `NAME curve DAY FACTOR DAY FACTOR .. MARK N` or
 `NAME refused CAUSE N`. Writes the picture (or with --csv the table), or the lines of the curves that are refused.
@@ -36,25 +36,98 @@ def read(lines):
     return curves, refused
 
 
-def factor(units):
-    return f"{units // 10**12}.{units % 10**12:012d}"
+def decimal(units, places):
+    sign = "-" if units < 0 else ""
+    whole, rest = divmod(abs(units), 10**places)
+    return f"{sign}{whole}" + (f".{rest:0{places}d}" if places else "")
 
 
-def table(curves):
-    rows = ["curve,day,discount"]
-    for name, points in curves:
-        rows += [f"{name},{d.isoformat()},{factor(f)}" for d, f in points]
+# ---- rates
+
+
+def nearest(top, bottom):
+    """The quotient, rounded to the nearest, a half away from zero."""
+    size = (2 * abs(top) + bottom) // (2 * bottom)
+    return -size if top < 0 else size
+
+
+def later(day, months):
+    """The day so many months later: the same day of that month, or its last one where it is shorter."""
+    years, month = divmod(day.month - 1 + months, 12)
+    for last in range(day.day, 0, -1):
+        try:
+            return datetime.date(day.year + years, month + 1, last)
+        except ValueError:
+            pass
+
+
+def discount(points, day):
+    for (a, first), (b, last) in zip(points, points[1:]):
+        if a <= day <= b:
+            return nearest(first * (b - day).days + last * (day - a).days, (b - a).days)
+
+
+def rate(points, a, b):
+    first, last = discount(points, a), discount(points, b)
+    return nearest((first - last) * 10**9 * 11_221_560, last * 30_744 * (b - a).days)
+
+
+def rates(points, plot):
+    """The rates of a curve with the days from which and until which they are; None where one is beyond 10 either way."""
+    begin, end = points[0][0], points[-1][0]
+    found, last, months = [], begin, 0
+    while last < end:
+        months += 1 if plot == "zero" else 3
+        until = min(later(begin, months), end)
+        start = begin if plot == "zero" else last
+        units = rate(points, start, until)
+        if abs(units) > 10**10:
+            return None
+        found.append((start, until, units))
+        last = until
+    return found
+
+
+# ---- the texts
+
+HEADINGS = {"factor": "curve,day,discount", "zero": "curve,day,zero", "forward": "curve,from,until,forward"}
+TITLES = {"factor": "Discount factors", "zero": "Simple zero rates", "forward": "Simple forward rates over three months"}
+
+
+def lines_of(curves, plot):
+    """The points of each curve as the days from which and until which their values are, and these."""
+    if plot == "factor":
+        return [(name, [(d, d, f) for d, f in points]) for name, points in curves]
+    return [(name, rates(points, plot)) for name, points in curves]
+
+
+def said(plot, point, separator):
+    start, until, units = point
+    days = [start.isoformat()] if plot == "forward" else []
+    return separator.join(days + [until.isoformat(), decimal(units, 12 if plot == "factor" else 9)])
+
+
+def table(lines, plot):
+    rows = [HEADINGS[plot]]
+    for name, points in lines:
+        rows += [name + "," + said(plot, point, ",") for point in points]
     return "".join(row + "\n" for row in rows)
 
 
-def picture(today, curves):
-    points = [p for _, ps in curves for p in ps]
-    first = min([today] + [d for d, _ in points])
-    span = max([1] + [abs((d - first).days) for d, _ in points])
-    lowest = min([10**12] + [f for _, f in points])
-    highest = max([10**12] + [f for _, f in points])
-    # the least step of 1, 2 or 5 times a power of ten, from 0.0000001 on, of which ten reach from the lowest to the highest
-    steps = [(m * 10**e, 12 - e) for e in range(5, 12) for m in (1, 2, 5)]
+def picture(today, lines, plot):
+    corners = []
+    for _, points in lines:
+        for start, until, units in points:
+            corners += [(start, units)] if plot == "forward" else []
+            corners.append((until, units))
+    first = min([today] + [d for d, _ in corners])
+    span = max([1] + [abs((d - first).days) for d, _ in corners])
+    reached = [10**12] if plot == "factor" else [] if corners else [0]
+    lowest = min(reached + [f for _, f in corners])
+    highest = max(reached + [f for _, f in corners])
+    # the least step of 1, 2 or 5 times a power of ten of which ten reach from the lowest to the highest
+    units = 12 if plot == "factor" else 9
+    steps = [(m * 10**e, max(0, units - e)) for e in range(5, 12) for m in (1, 2, 5)]
     step, places = next(s for s in steps if 10 * s[0] >= highest - lowest or s == steps[-1])
     low = lowest // step * step
     top = max(-(-highest // step) * step, low + step)
@@ -72,7 +145,7 @@ def picture(today, curves):
     out = [
         "<svg xmlns='http://www.w3.org/2000/svg' width='800' height='520' viewBox='0 0 800 520' font-family='sans-serif' font-size='12'>",
         "<rect width='800' height='520' fill='white'/>",
-        f"<text x='70' y='32' font-size='18'>Discount factors on {today}</text>",
+        f"<text x='70' y='32' font-size='18'>{TITLES[plot]} on {today}</text>",
         f"<text x='420' y='436' text-anchor='middle'>{of} from {first}</text>",
     ]
     for count in range(0, 11 * stride, stride):
@@ -83,18 +156,22 @@ def picture(today, curves):
         out.append(f"<text x='{at}' y='418' text-anchor='middle'>{count}</text>")
     for value in range(low, top + 1, step):
         at = hundredths(40000 - 35000 * (value - low) // rise)
-        whole, rest = divmod(value // 10 ** (12 - places), 10**places)
+        label = decimal(value // 10 ** (units - places), places)
         out.append(f"<path d='M70 {at}H770' stroke='#dddddd'/>")
-        out.append(f"<text x='64' y='{at}' dy='4' text-anchor='end'>{whole}.{rest:0{places}d}</text>")
+        out.append(f"<text x='64' y='{at}' dy='4' text-anchor='end'>{label}</text>")
     out.append("<rect x='70' y='50' width='700' height='350' fill='none' stroke='#666666'/>")
-    for k, (name, ps) in enumerate(curves):
+    for k, (name, points) in enumerate(lines):
         colour = "#" + COLOURS[k % 8]
-        places = [(hundredths(x(d)), hundredths(y(f))) for d, f in ps]
         out.append(f"<g stroke='{colour}' fill='{colour}'>")
-        line = "".join(f" {a},{b}" for a, b in places)
+        line = ""
+        for start, until, value in points:
+            for d in [start, until] if plot == "forward" else [until]:
+                line += f" {hundredths(x(d))},{hundredths(y(value))}"
         out.append(f"<polyline fill='none' stroke-width='2' points='{line}'/>")
-        for (a, b), (d, f) in zip(places, ps):
-            out.append(f"<circle cx='{a}' cy='{b}' r='3'><title>{d} {factor(f)}</title></circle>")
+        for point in points:
+            a, b = hundredths(x(point[0] if plot == "forward" else point[1])), hundredths(y(point[2]))
+            radius = "3" if plot == "factor" else "1.5"
+            out.append(f"<circle cx='{a}' cy='{b}' r='{radius}'><title>{said(plot, point, ' ')}</title></circle>")
         left, foot = 7000 + 35000 * (k % 2), 45600 + 1600 * (k // 2)
         out.append(f"<path stroke-width='2' d='M{hundredths(left)} {hundredths(foot)}h24'/>")
         out.append(f"<text stroke='none' fill='black' dy='4' x='{hundredths(left + 3200)}' y='{hundredths(foot)}'>{name}</text>")
@@ -103,17 +180,23 @@ def picture(today, curves):
     return "".join(line + "\n" for line in out)
 
 
+def shown(today, curves, plot, as_table):
+    """The text of curves; the lines of those of which a rate is refused."""
+    lines = lines_of(curves, plot)
+    refused = "".join(f"{name} refused raterange {name}\n" for name, points in lines if points is None)
+    return refused or (table(lines, plot) if as_table else picture(today, lines, plot))
+
+
 def main():
     words = sys.argv[1:]
     as_table = words[:1] == ["--csv"]
+    plot = {"--zero": "zero", "--forward": "forward"}.get(words[as_table], "factor")
     today = day(words[-1])
     curves, refused = read(line for line in sys.stdin if line.strip())
     if refused:
         sys.stdout.write("".join(line + "\n" for line in refused))
-    elif as_table:
-        sys.stdout.write(table(curves))
     else:
-        sys.stdout.write(picture(today, curves))
+        sys.stdout.write(shown(today, curves, plot, as_table))
 
 
 if __name__ == "__main__":

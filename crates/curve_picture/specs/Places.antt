@@ -4,21 +4,21 @@ use Rattle.std.specs.Prelude.{ℕ, ℤ, pos, ◌+◌, ◌-◌, ◌*◌, ◌/◌,
 use Rattle.fixed_amount.specs.Decimal.{decimal_text}
 use Rattle.curve_picture.specs.declared.scale.Scale.{Scale}
 use Rattle.curve_picture.specs.declared.places.TheConstants.{LEFT, WIDTH, FOOT, HEIGHT}
-use Rattle.curve_picture.specs.Points.{days_from, units_of}
+use Rattle.curve_picture.specs.Points.{days_from}
 
 -- where a day lies from the left
 unfoldable pub day_place : Scale → ℤ → ℕ
 day_place scale day = LEFT + days_from scale.first day * WIDTH / scale.span
 
--- where a factor lies from above
-unfoldable pub factor_place : Scale → ℤ → ℕ
-factor_place scale factor = FOOT - (units_of factor - scale.low) * HEIGHT / scale.rise
+-- where a height lies from above
+unfoldable pub height_place : Scale → ℕ → ℕ
+height_place scale height = FOOT - (height - scale.low) * HEIGHT / scale.rise
 
 -- where a mark of the axis of days lies from the left: the first is 0
 unfoldable pub stride_place : Scale → ℕ → ℕ
 stride_place scale mark = LEFT + mark * (scale.stride * scale.unit) * WIDTH / (scale.span * 100)
 
--- where a mark of the axis of factors lies from above: the first is 0
+-- where a mark of the axis of values lies from above: the first is 0
 unfoldable pub step_place : Scale → ℕ → ℕ
 step_place scale mark = FOOT - mark * scale.step * HEIGHT / scale.rise
 

@@ -1,46 +1,95 @@
--- The points of curves, and how far they reach.
-use Rattle.std.specs.Prelude.{ℕ, ℤ, ◌-ℤ◌, ◌^◌, unsigned_abs, int_lt, min, max, if◌then◌else◌, List, [], ◌∷◌, ◌++◌}
+-- The points of lines as corners, which are days and heights, and how far they reach.
+use Rattle.std.specs.Prelude.{ℕ, ℤ, pos, ◌-ℤ◌, ◌+ℤ◌, ◌^◌, unsigned_abs, int_lt, min, max, if◌then◌else◌, List, [], ◌∷◌, ◌++◌}
 use Rattle.day_number.specs.Day.{day_text}
 use Rattle.fixed_amount.specs.Decimal.{decimal_text}
-use Rattle.curve_points.specs.declared.curves.CurveNode.{CurveNode}
-use Rattle.curve_points.specs.Curve.{Curve, points}
+use Rattle.curve_lines.specs.declared.lines.Plot.{Plot}
+use Rattle.curve_lines.specs.declared.lines.Plot.TheVariants.{Factors, Zeros, Forwards}
+use Rattle.curve_lines.specs.declared.lines.PlotPoint.{PlotPoint}
+use Rattle.curve_lines.specs.Lines.{Line}
+use Rattle.curve_picture.specs.declared.points.Corner.{Corner}
 
--- the points of all curves: the beginning of each, which has the factor 1, and then its nodes
-unfoldable pub all_points : List Curve → List CurveNode
-all_points [] = []
-all_points (curve ∷ curves) = points curve ++ all_points curves
+-- how many places a value has: factors are in units of 10^-12, rates in units of 10^-9
+abbrev pub digits_of : Plot → ℕ
+digits_of Factors = 12
+digits_of Zeros = 9
+digits_of Forwards = 9
+
+-- the height of the value 0: rates lie within 10 either way
+abbrev pub base_of : Plot → ℕ
+base_of Factors = 0
+base_of Zeros = 10 ^ 10
+base_of Forwards = 10 ^ 10
+
+-- the height of a value
+abbrev pub height_of : Plot → ℤ → ℕ
+height_of plot units = unsigned_abs (units +ℤ pos (base_of plot))
+
+abbrev pub corner : ℤ → ℕ → Corner
+corner day height = record { day = day; height = height }
+
+-- the corners of a point: forward rates are steps, from a day until another
+abbrev pub corners_of : Plot → PlotPoint → List Corner
+corners_of Factors point = corner point.until (height_of Factors point.units) ∷ []
+corners_of Zeros point = corner point.until (height_of Zeros point.units) ∷ []
+corners_of Forwards point =
+    corner point.from (height_of Forwards point.units) ∷ corner point.until (height_of Forwards point.units) ∷ []
+
+-- the corners of a line, and of all lines
+unfoldable pub line_corners : Plot → List PlotPoint → List Corner
+line_corners plot [] = []
+line_corners plot (point ∷ points) = corners_of plot point ++ line_corners plot points
+
+unfoldable pub all_corners : Plot → List Line → List Corner
+all_corners plot [] = []
+all_corners plot (line ∷ lines) = line_corners plot line.points ++ all_corners plot lines
 
 abbrev pub earlier : ℤ → ℤ → ℤ
 earlier day other = if int_lt day other then day else other
 
--- the earliest day of the points and of another day
-unfoldable pub first_day : ℤ → List CurveNode → ℤ
+-- the earliest day of the corners and of another day
+unfoldable pub first_day : ℤ → List Corner → ℤ
 first_day today [] = today
-first_day today (point ∷ points) = earlier point.day (first_day today points)
+first_day today (corner ∷ corners) = earlier corner.day (first_day today corners)
 
 -- how many days lie between two days
 abbrev pub days_from : ℤ → ℤ → ℕ
 days_from from to = unsigned_abs (from -ℤ to)
 
--- the most days from a day to a point, at least 1
-unfoldable pub span_from : ℤ → List CurveNode → ℕ
+-- the most days from a day to a corner, at least 1
+unfoldable pub span_from : ℤ → List Corner → ℕ
 span_from first [] = 1
-span_from first (point ∷ points) = max (days_from first point.day) (span_from first points)
+span_from first (corner ∷ corners) = max (days_from first corner.day) (span_from first corners)
 
--- a discount factor in units of 10^-12
-abbrev pub units_of : ℤ → ℕ
-units_of factor = unsigned_abs factor
+-- the least height of the corners and another
+unfoldable pub lowest : ℕ → List Corner → ℕ
+lowest other [] = other
+lowest other (corner ∷ corners) = min corner.height (lowest other corners)
 
--- the least factor of the points, at most 1
-unfoldable pub lowest : List CurveNode → ℕ
-lowest [] = 10 ^ 12
-lowest (point ∷ points) = min (units_of point.factor) (lowest points)
+-- the greatest height of the corners and another
+unfoldable pub highest : ℕ → List Corner → ℕ
+highest other [] = other
+highest other (corner ∷ corners) = max corner.height (highest other corners)
 
--- the greatest factor of the points, at least 1
-unfoldable pub highest : List CurveNode → ℕ
-highest [] = 10 ^ 12
-highest (point ∷ points) = max (units_of point.factor) (highest points)
+-- a height that is reached in any case: the factor 1, or else that of the first corner
+abbrev pub first_height : ℕ → List Corner → ℕ
+first_height base [] = base
+first_height base (corner ∷ corners) = corner.height
 
--- the day of a point, and behind a separator the factor with twelve places
-unfoldable pub point_text : List ℕ → CurveNode → List ℕ
-point_text separator point = day_text point.day ++ separator ++ decimal_text point.factor 12
+abbrev pub some_height : Plot → List Corner → ℕ
+some_height Factors corners = 10 ^ 12
+some_height Zeros corners = first_height (10 ^ 10) corners
+some_height Forwards corners = first_height (10 ^ 10) corners
+
+-- a day, and behind a separator a value of so many places
+unfoldable pub dated_text : List ℕ → ℤ → ℤ → ℕ → List ℕ
+dated_text separator day units places = day_text day ++ separator ++ decimal_text units places
+
+-- a day, and the same of a rate until another
+unfoldable pub from_text : List ℕ → ℤ → ℤ → ℤ → List ℕ
+from_text separator from until units = day_text from ++ separator ++ dated_text separator until units 9
+
+-- the day of a point, and behind a separator the factor with twelve places, or the rate with nine; of a forward rate both days
+abbrev pub point_text : Plot → List ℕ → PlotPoint → List ℕ
+point_text Factors separator point = dated_text separator point.until point.units 12
+point_text Zeros separator point = dated_text separator point.until point.units 9
+point_text Forwards separator point = from_text separator point.from point.until point.units

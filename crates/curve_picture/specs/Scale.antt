@@ -1,17 +1,18 @@
 -- What lies where in a picture of curves: all whole numbers (this project's profile).
 use Rattle.std.specs.Prelude.{ℕ, ℤ, ◌+◌, ◌-◌, ◌*◌, ◌%◌, ◌≤◌, max, Bool, ◌&&◌, nat_le, if◌then◌else◌, List, [], ◌∷◌}
 use Rattle.std.specs.Int.{div_ceil}
-use Rattle.curve_points.specs.declared.curves.CurveNode.{CurveNode}
+use Rattle.curve_lines.specs.declared.lines.Plot.{Plot}
+use Rattle.curve_picture.specs.declared.points.Corner.{Corner}
 use Rattle.curve_picture.specs.declared.scale.Scale.{Scale}
 use Rattle.curve_picture.specs.declared.scale.TheConstants.{STEPS, MOST_STEP, STRIDES, MOST_STRIDE, DAY, YEAR, MOST_DAYS}
-use Rattle.curve_picture.specs.Points.{first_day, span_from, lowest, highest}
+use Rattle.curve_picture.specs.Points.{first_day, span_from, lowest, highest, some_height}
 
 -- the first of these steps that is at least so long, or else the last
 unfoldable pub first_from : ℕ → List ℕ → ℕ → ℕ
 first_from need [] last = last
 first_from need (step ∷ steps) last = if nat_le need step then step else first_from need steps last
 
--- the step of the axis of factors: at most ten steps reach so many units
+-- the step of the axis of values: at most ten steps reach so many units
 abbrev pub step_for : ℕ → ℕ
 step_for reach = first_from (div_ceil reach 10) STEPS MOST_STEP
 
@@ -27,10 +28,11 @@ stride_for span unit = first_from (div_ceil (span * 10) unit) STRIDES MOST_STRID
 abbrev pub multiple_from : ℕ → ℕ → ℕ
 multiple_from reach step = max (reach + (step - reach % step) % step) step
 
--- The axis of days from a day on; that of factors from the greatest multiple of its step that is not above the lowest, to
+-- The axis of days from a day on; that of values from the greatest multiple of its step that is not above the lowest, to
 -- the least that is not below the highest.
-abbrev pub scale_from : ℤ → ℕ → ℕ → ℕ → ℕ → Scale
-scale_from first span step low reach = record {
+abbrev pub scale_from : Plot → ℤ → ℕ → ℕ → ℕ → ℕ → Scale
+scale_from plot first span step low reach = record {
+  plot = plot;
   first = first;
   span = span;
   unit = unit_for span;
@@ -40,15 +42,18 @@ scale_from first span step low reach = record {
   rise = multiple_from reach step;
 }
 
-abbrev pub scale_by : ℤ → ℕ → ℕ → ℕ → ℕ → Scale
-scale_by first span lowest highest step =
-    scale_from first span step (lowest - lowest % step) (highest - (lowest - lowest % step))
+abbrev pub scale_by : Plot → ℤ → ℕ → ℕ → ℕ → ℕ → Scale
+scale_by plot first span lowest highest step =
+    scale_from plot first span step (lowest - lowest % step) (highest - (lowest - lowest % step))
 
--- THE SCALE of points: the axis of days begins with the earliest of them and of a day, and ends with the last
-unfoldable pub scale_of : ℤ → List CurveNode → Scale
-scale_of today points =
-    scale_by (first_day today points) (span_from (first_day today points) points) (lowest points) (highest points)
-    (step_for (highest points - lowest points))
+abbrev pub scale_above : Plot → ℤ → ℕ → ℕ → ℕ → Scale
+scale_above plot first span lowest highest = scale_by plot first span lowest highest (step_for (highest - lowest))
+
+-- THE SCALE of corners: the axis of days begins with the earliest of them and of a day, and ends with the last
+unfoldable pub scale_of : Plot → ℤ → List Corner → Scale
+scale_of plot today corners =
+    scale_above plot (first_day today corners) (span_from (first_day today corners) corners)
+    (lowest (some_height plot corners) corners) (highest (some_height plot corners) corners)
 
 -- a length that a step may have
 abbrev pub is_step : ℕ → Bool
@@ -62,8 +67,8 @@ pub record IsScale (scale : Scale) : Type 0 where
   pub year : scale.unit ≤ 100_000
   pub some_stride : 1 ≤ scale.stride
   pub stride : scale.stride ≤ 1_000_000_000_000
-  pub low : scale.low ≤ 1_000_000_000_000
+  pub low : scale.low ≤ 10_000_000_000_000
   pub unit : 1 ≤ scale.step
   pub step : scale.step ≤ 1_000_000_000_000
   pub some_rise : 1 ≤ scale.rise
-  pub rise : scale.rise ≤ 10_000_000_000_000
+  pub rise : scale.rise ≤ 100_000_000_000_000

@@ -1,27 +1,34 @@
--- THE TABLE of curves: their points as comma-separated values (RFC 4180, but for its line ends; this project's profile).
+-- THE TABLE of lines: their points as comma-separated values (RFC 4180, but for its line ends; this project's profile).
 -- A name is made of letters, digits and `_`, so nothing has to be quoted.
 use Rattle.std.specs.Prelude.{ℕ, List, [], ◌∷◌, ◌++◌, codes}
 use Rattle.price_report.specs.Namer.{object_text}
-use Rattle.curve_points.specs.declared.curves.CurveNode.{CurveNode}
-use Rattle.curve_points.specs.Curve.{Curve, points}
+use Rattle.curve_lines.specs.declared.lines.Plot.{Plot}
+use Rattle.curve_lines.specs.declared.lines.Plot.TheVariants.{Factors, Zeros, Forwards}
+use Rattle.curve_lines.specs.declared.lines.PlotPoint.{PlotPoint}
+use Rattle.curve_lines.specs.Lines.{Line}
 use Rattle.curve_picture.specs.Points.{point_text}
 
--- a point: the name of the curve, the day, and the factor with twelve places
-unfoldable pub row_text : List ℕ → CurveNode → List ℕ
-row_text name point = name ++ codes "," ++ point_text (codes ",") point ++ codes "\n"
+-- a point: the name of the curve, and the point
+unfoldable pub row_text : Plot → List ℕ → PlotPoint → List ℕ
+row_text plot name point = name ++ codes "," ++ point_text plot (codes ",") point ++ codes "\n"
 
-unfoldable pub rows_text : List ℕ → List CurveNode → List ℕ
-rows_text name [] = []
-rows_text name (point ∷ points) = row_text name point ++ rows_text name points
+unfoldable pub rows_text : Plot → List ℕ → List PlotPoint → List ℕ
+rows_text plot name [] = []
+rows_text plot name (point ∷ points) = row_text plot name point ++ rows_text plot name points
 
--- a curve: its beginning, and its nodes
-abbrev pub curve_rows : List (List ℕ) → List ℕ → Curve → List ℕ
-curve_rows names of_object curve = rows_text (object_text names of_object curve.owner) (points curve)
+-- a line: its points
+abbrev pub line_rows : List (List ℕ) → List ℕ → Plot → Line → List ℕ
+line_rows names of_object plot line = rows_text plot (object_text names of_object line.owner) line.points
 
-unfoldable pub curves_rows : List (List ℕ) → List ℕ → List Curve → List ℕ
-curves_rows names of_object [] = []
-curves_rows names of_object (curve ∷ curves) = curve_rows names of_object curve ++ curves_rows names of_object curves
+unfoldable pub lines_rows : List (List ℕ) → List ℕ → Plot → List Line → List ℕ
+lines_rows names of_object plot [] = []
+lines_rows names of_object plot (line ∷ lines) = line_rows names of_object plot line ++ lines_rows names of_object plot lines
 
--- the heading, and a row for each point of each curve
-unfoldable pub table_text : List (List ℕ) → List ℕ → List Curve → List ℕ
-table_text names of_object curves = codes "curve,day,discount\n" ++ curves_rows names of_object curves
+unfoldable pub table_heading : Plot → List ℕ
+table_heading Factors = codes "curve,day,discount\n"
+table_heading Zeros = codes "curve,day,zero\n"
+table_heading Forwards = codes "curve,from,until,forward\n"
+
+-- the heading, and a row for each point of each line
+unfoldable pub table_text : List (List ℕ) → List ℕ → Plot → List Line → List ℕ
+table_text names of_object plot lines = table_heading plot ++ lines_rows names of_object plot lines

@@ -1,34 +1,35 @@
 // The curves.
 ghost use Rattle.std.specs.Prelude.{◌≡◌, ◌≤◌, ◌<◌, ◌^◌, ◌++◌, OnOk};
 ghost use Rattle.curve_picture.specs.Scale.{IsScale};
-ghost use Rattle.curve_picture.specs.Svg.{colour_at, colour_of, corner_text, corners_text, disk_text, disks_text, entry_left, entry_foot, name_content, entry_text, group_text, line_text, curve_text, curves_text};
+ghost use Rattle.curve_picture.specs.Svg.{colour_at, colour_of, corner_text, corners_text, marked_day, disk_title, disk_text, disks_text, entry_left, entry_foot, name_content, entry_text, group_text, line_text, curve_text, curves_text};
 
-use crate::places::{day_place, factor_place, push_placed};
-use crate::points::{push_point, push_points};
+use crate::places::{day_place, height_place, push_placed};
+use crate::points::{Corner, height_of, push_corners as push_line_corners, push_point};
 use crate::scale::Scale;
 use crate::texts::{
     CONTENT, DISK, DISK_DOWN, DISK_END, ENTRY, ENTRY_DOWN, ENTRY_NAME, FILLED, GROUP, GROUP_END,
-    LINE, LINE_END, OPENED, TEXT_END, TITLE,
+    LINE, LINE_END, OPENED, SMALL_TITLE, TEXT_END, TITLE,
 };
-use curve_points::{CurveNode, CurveValue};
+use curve_lines::{Plot, PlotLine, PlotPoint};
+use day_number::Day;
 use price_report::Namer;
 use std::alloc::{AllocError, Global};
 
-// Appends the curves.
+// Appends the lines of curves.
 pub(crate) fn push_curves(
     alloc: Global,
     scale: &Scale,
-    curves: &[CurveValue],
+    lines: &[PlotLine],
     namer: &Namer<'_>,
     out: &mut Vec<u8>,
 ) -> Result<(), AllocError>
     requires { IsScale scale.now }
     ensures { OnOk result (out.new.items
-        ≡ out.old.items ++ curves_text namer.now.names.now namer.now.of_object.now scale.now 0 curves.now) }
+        ≡ out.old.items ++ curves_text namer.now.names.now namer.now.of_object.now scale.now 0 lines.now) }
 {
     let mut at: usize = 0;
-    while at < curves.len() {
-        push_curve(alloc, scale, at, &curves[at], namer, out)?;
+    while at < lines.len() {
+        push_curve(alloc, scale, at, &lines[at], namer, out)?;
         at += 1;
     }
     Ok(())
@@ -40,20 +41,20 @@ fn push_curve(
     alloc: Global,
     scale: &Scale,
     at: usize,
-    curve: &CurveValue,
+    line: &PlotLine,
     namer: &Namer<'_>,
     out: &mut Vec<u8>,
 ) -> Result<(), AllocError>
     requires { IsScale scale.now }
     ensures { OnOk result (out.new.items
-        ≡ out.old.items ++ curve_text namer.now.names.now namer.now.of_object.now scale.now at curve.now) }
+        ≡ out.old.items ++ curve_text namer.now.names.now namer.now.of_object.now scale.now at line.now) }
 {
-    let mut points = Vec::new(alloc);
-    push_points(curve, &mut points)?;
+    let mut corners = Vec::new(alloc);
+    push_line_corners(scale.plot, line.points(), &mut corners)?;
     push_group(at, out)?;
-    push_line(alloc, scale, points.as_slice(), out)?;
-    push_disks(alloc, scale, points.as_slice(), out)?;
-    push_entry(alloc, at, namer.object(curve.owner()), out)?;
+    push_line(alloc, scale, corners.as_slice(), out)?;
+    push_disks(alloc, scale, line.points(), out)?;
+    push_entry(alloc, at, namer.object(line.owner()), out)?;
     out.extend_from_slice(GROUP_END)
 }
 
@@ -70,19 +71,19 @@ fn push_group(at: usize, out: &mut Vec<u8>) -> Result<(), AllocError>
     out.extend_from_slice(OPENED)
 }
 
-// Appends the line through these points.
+// Appends the line through these corners.
 #[tactic(auto, unfolding(crate::specs::Svg::line_text))]
 fn push_line(
     alloc: Global,
     scale: &Scale,
-    points: &[CurveNode],
+    corners: &[Corner],
     out: &mut Vec<u8>,
 ) -> Result<(), AllocError>
     requires { IsScale scale.now }
-    ensures { OnOk result (out.new.items ≡ out.old.items ++ line_text scale.now points.now) }
+    ensures { OnOk result (out.new.items ≡ out.old.items ++ line_text scale.now corners.now) }
 {
     out.extend_from_slice(LINE)?;
-    push_corners(alloc, scale, points, out)?;
+    push_corners(alloc, scale, corners, out)?;
     out.extend_from_slice(LINE_END)
 }
 
@@ -103,42 +104,42 @@ fn colour_of(at: usize) -> &'static [u8]
     }
 }
 
-// Appends the points of a line.
+// Appends the corners of a line.
 fn push_corners(
     alloc: Global,
     scale: &Scale,
-    points: &[CurveNode],
+    corners: &[Corner],
     out: &mut Vec<u8>,
 ) -> Result<(), AllocError>
     requires { IsScale scale.now }
-    ensures { OnOk result (out.new.items ≡ out.old.items ++ corners_text scale.now points.now) }
+    ensures { OnOk result (out.new.items ≡ out.old.items ++ corners_text scale.now corners.now) }
 {
-    for point in points {
-        push_corner(alloc, scale, point, out)?;
+    for corner in corners {
+        push_corner(alloc, scale, corner, out)?;
     }
     Ok(())
 }
 
-// Appends a point of a line.
+// Appends a corner of a line.
 #[tactic(auto, unfolding(crate::specs::Svg::corner_text))]
 fn push_corner(
     alloc: Global,
     scale: &Scale,
-    point: &CurveNode,
+    corner: &Corner,
     out: &mut Vec<u8>,
 ) -> Result<(), AllocError>
     requires { IsScale scale.now }
-    ensures { OnOk result (out.new.items ≡ out.old.items ++ corner_text scale.now point.now) }
+    ensures { OnOk result (out.new.items ≡ out.old.items ++ corner_text scale.now corner.now) }
 {
-    push_placed(alloc, b" ", day_place(scale, point.day), out)?;
-    push_placed(alloc, b",", factor_place(scale, point.factor), out)
+    push_placed(alloc, b" ", day_place(scale, corner.day), out)?;
+    push_placed(alloc, b",", height_place(scale, corner.height), out)
 }
 
 // Appends the points as disks.
 fn push_disks(
     alloc: Global,
     scale: &Scale,
-    points: &[CurveNode],
+    points: &[PlotPoint],
     out: &mut Vec<u8>,
 ) -> Result<(), AllocError>
     requires { IsScale scale.now }
@@ -150,22 +151,46 @@ fn push_disks(
     Ok(())
 }
 
-// Appends a disk, whose title is the day and the factor.
+// Appends a disk, whose title says the point.
 #[tactic(auto, unfolding(crate::specs::Svg::disk_text))]
 fn push_disk(
     alloc: Global,
     scale: &Scale,
-    point: &CurveNode,
+    point: &PlotPoint,
     out: &mut Vec<u8>,
 ) -> Result<(), AllocError>
     requires { IsScale scale.now }
     ensures { OnOk result (out.new.items ≡ out.old.items ++ disk_text scale.now point.now) }
 {
-    push_placed(alloc, DISK, day_place(scale, point.day), out)?;
-    push_placed(alloc, DISK_DOWN, factor_place(scale, point.factor), out)?;
-    out.extend_from_slice(TITLE)?;
-    push_point(alloc, point, b" ", out)?;
+    let day = marked_day(scale.plot, point);
+    let height = height_of(scale.plot, point.units);
+    push_placed(alloc, DISK, day_place(scale, day), out)?;
+    push_placed(alloc, DISK_DOWN, height_place(scale, height), out)?;
+    out.extend_from_slice(disk_title(scale.plot))?;
+    push_point(alloc, scale.plot, point, b" ", out)?;
     out.extend_from_slice(DISK_END)
+}
+
+// The day at which a point is marked: a forward rate at its first.
+#[tactic(auto, unfolding(crate::specs::Svg::marked_day))]
+fn marked_day(plot: Plot, point: &PlotPoint) -> Day
+    ensures { result ≡ marked_day plot point.now }
+{
+    match plot {
+        Plot::Factors | Plot::Zeros => point.until,
+        Plot::Forwards => point.from,
+    }
+}
+
+// What the title of a disk begins with, which is smaller for rates.
+#[tactic(auto, unfolding(crate::specs::Svg::disk_title))]
+fn disk_title(plot: Plot) -> &'static [u8]
+    ensures { result.now ≡ disk_title plot }
+{
+    match plot {
+        Plot::Factors => TITLE,
+        Plot::Zeros | Plot::Forwards => SMALL_TITLE,
+    }
 }
 
 // Appends an entry of the legend.

@@ -1,49 +1,53 @@
 // The picture.
 ghost use Rattle.std.specs.Prelude.{◌≡◌, ◌++◌, OnOk, OnErr, IfOk};
 ghost use Rattle.curve_picture.specs.Scale.{IsScale};
-ghost use Rattle.curve_picture.specs.Svg.{counted, counted_text, heading_text, picture_on, picture_text};
+ghost use Rattle.curve_picture.specs.Svg.{counted, counted_text, title_text, top_text, heading_text, picture_on, picture_text};
 
 use crate::curves::push_curves;
 use crate::marks::push_axes;
-use crate::points::points_of;
+use crate::points::all_corners;
 use crate::scale::{DAY, Scale, scale_of};
-use crate::texts::{DAYS_FROM, FOOTER, FRAME, HEAD, TEXT_END, YEARS_FROM};
-use curve_points::CurveValue;
+use crate::texts::{
+    DAYS_FROM, FACTORS_ON, FOOTER, FORWARDS_ON, FRAME, HEAD, TEXT_END, YEARS_FROM, ZEROS_ON,
+};
+use curve_lines::{Plot, PlotLine};
 use day_number::{Day, print_day};
 use price_report::Namer;
 use std::alloc::{AllocError, Global};
 
-/// Appends the picture of curves: a line for each, with its points marked, axes of days and of factors, and a legend with
-/// the names of their owners. `today` is the day of the market that they come from. After want of memory `out` has its old
+/// Appends the picture of lines: a line for each, with its points marked, axes of days and of values, and a legend with the
+/// names of their owners. `today` is the day of the market that they come from. After want of memory `out` has its old
 /// bytes.
 pub fn picture(
     alloc: Global,
+    plot: Plot,
     today: Day,
-    curves: &[CurveValue],
+    lines: &[PlotLine],
     namer: &Namer<'_>,
     out: &mut Vec<u8>,
 ) -> Result<(), AllocError>
     ensures ok { OnOk result (out.new.items
-        ≡ out.old.items ++ picture_text namer.now.names.now namer.now.of_object.now today curves.now) }
+        ≡ out.old.items ++ picture_text namer.now.names.now namer.now.of_object.now plot today lines.now) }
     ensures err { OnErr result (out.new.items ≡ out.old.items) }
 {
-    let picture = picture_of(alloc, today, curves, namer)?;
+    let picture = picture_of(alloc, plot, today, lines, namer)?;
     out.extend_from_slice(picture.as_slice())
 }
 
 // The picture in a vector of its own.
 fn picture_of(
     alloc: Global,
+    plot: Plot,
     today: Day,
-    curves: &[CurveValue],
+    lines: &[PlotLine],
     namer: &Namer<'_>,
 ) -> Result<Vec<u8>, AllocError>
-    ensures { IfOk result (λ picture. picture.items ≡ picture_text namer.now.names.now namer.now.of_object.now today curves.now) }
+    ensures { IfOk result (λ picture. picture.items ≡ picture_text namer.now.names.now namer.now.of_object.now plot today lines.now) }
 {
-    let points = points_of(alloc, curves)?;
-    let scale = scale_of(today, points.as_slice());
+    let corners = all_corners(alloc, plot, lines)?;
+    let scale = scale_of(plot, today, corners.as_slice());
     let mut picture = Vec::new(alloc);
-    push_picture(alloc, today, &scale, curves, namer, &mut picture)?;
+    push_picture(alloc, today, &scale, lines, namer, &mut picture)?;
     Ok(picture)
 }
 
@@ -53,18 +57,18 @@ fn push_picture(
     alloc: Global,
     today: Day,
     scale: &Scale,
-    curves: &[CurveValue],
+    lines: &[PlotLine],
     namer: &Namer<'_>,
     out: &mut Vec<u8>,
 ) -> Result<(), AllocError>
     requires { IsScale scale.now }
     ensures { OnOk result (out.new.items
-        ≡ out.old.items ++ picture_on namer.now.names.now namer.now.of_object.now today scale.now curves.now) }
+        ≡ out.old.items ++ picture_on namer.now.names.now namer.now.of_object.now today scale.now lines.now) }
 {
     push_heading(alloc, today, scale, out)?;
     push_axes(alloc, scale, out)?;
     out.extend_from_slice(FRAME)?;
-    push_curves(alloc, scale, curves, namer, out)?;
+    push_curves(alloc, scale, lines, namer, out)?;
     out.extend_from_slice(FOOTER)
 }
 
@@ -76,11 +80,32 @@ fn push_heading(
     scale: &Scale,
     out: &mut Vec<u8>,
 ) -> Result<(), AllocError>
-    ensures { OnOk result (out.new.items ≡ out.old.items ++ heading_text today scale.now.first scale.now.unit) }
+    ensures { OnOk result (out.new.items ≡ out.old.items ++ heading_text today scale.now) }
+{
+    push_top(alloc, scale.plot, today, out)?;
+    push_counted(alloc, scale.first, scale.unit, out)
+}
+
+// Appends what is drawn, and the day of the market.
+fn push_top(alloc: Global, plot: Plot, today: Day, out: &mut Vec<u8>) -> Result<(), AllocError>
+    ensures { OnOk result (out.new.items ≡ out.old.items ++ top_text plot today) }
 {
     out.extend_from_slice(HEAD)?;
+    out.extend_from_slice(title_of(plot))?;
     print_day(alloc, today, out)?;
-    push_counted(alloc, scale.first, scale.unit, out)
+    Ok(())
+}
+
+// What is drawn, in words.
+#[tactic(auto, unfolding(crate::specs::Svg::title_text))]
+fn title_of(plot: Plot) -> &'static [u8]
+    ensures { result.now ≡ title_text plot }
+{
+    match plot {
+        Plot::Factors => FACTORS_ON,
+        Plot::Zeros => ZEROS_ON,
+        Plot::Forwards => FORWARDS_ON,
+    }
 }
 
 // Appends what is counted below the plot, and from which day.

@@ -1,81 +1,99 @@
-// The points of curves as lines of comma-separated values.
+// The points of lines as lines of comma-separated values.
 ghost use Rattle.std.specs.Prelude.{◌≡◌, ◌++◌, OnOk, OnErr, IfOk, codes};
-ghost use Rattle.curve_picture.specs.Table.{row_text, rows_text, curve_rows, curves_rows, table_text};
+ghost use Rattle.curve_picture.specs.Table.{row_text, rows_text, line_rows, lines_rows, table_heading, table_text};
 
-use crate::points::{push_point, push_points};
-use curve_points::{CurveNode, CurveValue};
+use crate::points::push_point;
+use curve_lines::{Plot, PlotLine, PlotPoint};
 use price_report::Namer;
 use std::alloc::{AllocError, Global};
 
-/// Appends the points of curves as lines `curve,day,discount` below that heading. After want of memory `out` has its old
-/// bytes.
+/// Appends the points of lines as comma-separated values below a heading. After want of memory `out` has its old bytes.
 pub fn table(
     alloc: Global,
-    curves: &[CurveValue],
+    plot: Plot,
+    lines: &[PlotLine],
     namer: &Namer<'_>,
     out: &mut Vec<u8>,
 ) -> Result<(), AllocError>
     ensures ok { OnOk result (out.new.items
-        ≡ out.old.items ++ table_text namer.now.names.now namer.now.of_object.now curves.now) }
+        ≡ out.old.items ++ table_text namer.now.names.now namer.now.of_object.now plot lines.now) }
     ensures err { OnErr result (out.new.items ≡ out.old.items) }
 {
-    let table = table_of(alloc, curves, namer)?;
+    let table = table_of(alloc, plot, lines, namer)?;
     out.extend_from_slice(table.as_slice())
 }
 
 // The table in a vector of its own.
 #[tactic(auto, unfolding(crate::specs::Table::table_text))]
-fn table_of(alloc: Global, curves: &[CurveValue], namer: &Namer<'_>) -> Result<Vec<u8>, AllocError>
-    ensures { IfOk result (λ table. table.items ≡ table_text namer.now.names.now namer.now.of_object.now curves.now) }
+fn table_of(
+    alloc: Global,
+    plot: Plot,
+    lines: &[PlotLine],
+    namer: &Namer<'_>,
+) -> Result<Vec<u8>, AllocError>
+    ensures { IfOk result (λ table. table.items ≡ table_text namer.now.names.now namer.now.of_object.now plot lines.now) }
 {
     let mut table = Vec::new(alloc);
-    table.extend_from_slice(b"curve,day,discount\n")?;
-    push_curves(alloc, curves, namer, &mut table)?;
+    table.extend_from_slice(heading_of(plot))?;
+    push_lines(alloc, plot, lines, namer, &mut table)?;
     Ok(table)
 }
 
-// Appends the rows of the curves.
-fn push_curves(
+// The heading of a table.
+#[tactic(auto, unfolding(crate::specs::Table::table_heading))]
+fn heading_of(plot: Plot) -> &'static [u8]
+    ensures { result.now ≡ table_heading plot }
+{
+    match plot {
+        Plot::Factors => b"curve,day,discount\n",
+        Plot::Zeros => b"curve,day,zero\n",
+        Plot::Forwards => b"curve,from,until,forward\n",
+    }
+}
+
+// Appends the rows of the lines.
+fn push_lines(
     alloc: Global,
-    curves: &[CurveValue],
+    plot: Plot,
+    lines: &[PlotLine],
     namer: &Namer<'_>,
     out: &mut Vec<u8>,
 ) -> Result<(), AllocError>
     ensures { OnOk result (out.new.items
-        ≡ out.old.items ++ curves_rows namer.now.names.now namer.now.of_object.now curves.now) }
+        ≡ out.old.items ++ lines_rows namer.now.names.now namer.now.of_object.now plot lines.now) }
 {
-    for curve in curves {
-        push_curve(alloc, curve, namer, out)?;
+    for line in lines {
+        push_line(alloc, plot, line, namer, out)?;
     }
     Ok(())
 }
 
-// Appends the rows of a curve.
-fn push_curve(
+// Appends the rows of a line.
+fn push_line(
     alloc: Global,
-    curve: &CurveValue,
+    plot: Plot,
+    line: &PlotLine,
     namer: &Namer<'_>,
     out: &mut Vec<u8>,
 ) -> Result<(), AllocError>
     ensures { OnOk result (out.new.items
-        ≡ out.old.items ++ curve_rows namer.now.names.now namer.now.of_object.now curve.now) }
+        ≡ out.old.items ++ line_rows namer.now.names.now namer.now.of_object.now plot line.now) }
 {
-    let mut points = Vec::new(alloc);
-    push_points(curve, &mut points)?;
-    push_rows(alloc, namer.object(curve.owner()), points.as_slice(), out)
+    push_rows(alloc, plot, namer.object(line.owner()), line.points(), out)
 }
 
 // Appends a row for each point.
 fn push_rows(
     alloc: Global,
+    plot: Plot,
     name: &[u8],
-    points: &[CurveNode],
+    points: &[PlotPoint],
     out: &mut Vec<u8>,
 ) -> Result<(), AllocError>
-    ensures { OnOk result (out.new.items ≡ out.old.items ++ rows_text name.now points.now) }
+    ensures { OnOk result (out.new.items ≡ out.old.items ++ rows_text plot name.now points.now) }
 {
     for point in points {
-        push_row(alloc, name, point, out)?;
+        push_row(alloc, plot, name, point, out)?;
     }
     Ok(())
 }
@@ -84,14 +102,15 @@ fn push_rows(
 #[tactic(auto, unfolding(crate::specs::Table::row_text))]
 fn push_row(
     alloc: Global,
+    plot: Plot,
     name: &[u8],
-    point: &CurveNode,
+    point: &PlotPoint,
     out: &mut Vec<u8>,
 ) -> Result<(), AllocError>
-    ensures { OnOk result (out.new.items ≡ out.old.items ++ row_text name.now point.now) }
+    ensures { OnOk result (out.new.items ≡ out.old.items ++ row_text plot name.now point.now) }
 {
     out.extend_from_slice(name)?;
     out.extend_from_slice(b",")?;
-    push_point(alloc, point, b",", out)?;
+    push_point(alloc, plot, point, b",", out)?;
     out.extend_from_slice(b"\n")
 }

@@ -1,11 +1,14 @@
 // The axes.
 ghost use Rattle.std.specs.Prelude.{◌≡◌, ◌≤◌, ◌<◌, ◌-◌, ◌^◌, ◌++◌, OnOk};
+ghost use Rattle.curve_picture.specs.Points.{digits_of};
 ghost use Rattle.curve_picture.specs.Scale.{IsScale};
-ghost use Rattle.curve_picture.specs.Svg.{stride_count, stride_mark, strides_below, step_count, places_for, mark_text, step_mark, steps_below, axes_text};
+ghost use Rattle.curve_picture.specs.Svg.{stride_count, stride_mark, strides_below, step_count, places_for, places_of, value_text, mark_text, step_mark, steps_below, axes_text};
 
 use crate::places::{product, push_placed, signed, step_place, stride_place};
+use crate::points::{base_of, digits_of};
 use crate::scale::Scale;
 use crate::texts::{BELOW, BESIDE, CENTRED, FLUSH, RIGHTWARDS, TEXT_END, UPWARDS};
+use curve_lines::Plot;
 use fixed_amount::print_decimal;
 use std::alloc::{AllocError, Global};
 
@@ -28,7 +31,7 @@ fn stride_count(scale: &Scale) -> u128
     scale.span * 100 / (scale.stride * scale.unit) + 1
 }
 
-// How many marks the axis of factors has.
+// How many marks the axis of values has.
 fn step_count(scale: &Scale) -> u128
     requires { IsScale scale.now }
     ensures value { result ≡ step_count scale.now }
@@ -74,7 +77,7 @@ fn push_stride(
     out.extend_from_slice(TEXT_END)
 }
 
-// Appends the first marks of the axis of factors, as many as are given.
+// Appends the first marks of the axis of values, as many as are given.
 fn push_steps(
     alloc: Global,
     scale: &Scale,
@@ -91,7 +94,7 @@ fn push_steps(
     Ok(())
 }
 
-// Appends a mark of the axis of factors: a line to the right, and the factor there.
+// Appends a mark of the axis of values: a line to the right, and the value there.
 #[tactic(auto, unfolding(crate::specs::Svg::step_mark))]
 fn push_step(alloc: Global, scale: &Scale, mark: u128, out: &mut Vec<u8>) -> Result<(), AllocError>
     requires scale { IsScale scale.now }
@@ -106,19 +109,51 @@ fn push_step(alloc: Global, scale: &Scale, mark: u128, out: &mut Vec<u8>) -> Res
     out.extend_from_slice(TEXT_END)
 }
 
-// Appends the factor at a mark.
+// Appends the value at a mark.
 #[tactic(auto, unfolding(crate::specs::Svg::mark_text))]
 fn push_mark(alloc: Global, scale: &Scale, mark: u128, out: &mut Vec<u8>) -> Result<(), AllocError>
     requires scale { IsScale scale.now }
     requires few { mark < 2 ^ 49 }
     ensures { OnOk result (out.new.items ≡ out.old.items ++ mark_text scale.now mark) }
 {
-    let factor = scale.low + product(mark, scale.step);
-    let places = places_for(scale.step);
-    print_decimal(alloc, signed(factor / unit_of(places)), places, out)
+    let height = scale.low + product(mark, scale.step);
+    let places = places_of(scale.plot, scale.step);
+    let unit = unit_of(digits_of(scale.plot) - places);
+    push_value(alloc, base_of(scale.plot), height, unit, places, out)
 }
 
-// How many places the factors at the marks have: as many as the step.
+// Appends a height as a value of so many places, where the last has this unit.
+fn push_value(
+    alloc: Global,
+    base: u128,
+    height: u128,
+    unit: u128,
+    places: u8,
+    out: &mut Vec<u8>,
+) -> Result<(), AllocError>
+    requires base { base < 2 ^ 110 }
+    requires height { height < 2 ^ 110 }
+    requires unit { 1 ≤ unit }
+    requires places { places ≤ 18 }
+    ensures { OnOk result (out.new.items ≡ out.old.items ++ value_text base height unit places) }
+{
+    print_decimal(
+        alloc,
+        signed(height / unit) - signed(base / unit),
+        places,
+        out,
+    )
+}
+
+// How many places the values at the marks have.
+fn places_of(plot: Plot, step: u128) -> u8
+    ensures value { result ≡ places_of plot step }
+    ensures few { result ≤ digits_of plot }
+{
+    places_for(step).saturating_sub(12 - digits_of(plot))
+}
+
+// How many places factors at the marks have: as many as the step.
 fn places_for(step: u128) -> u8
     ensures value { result ≡ places_for step }
     ensures few { result ≤ 7 }
@@ -140,11 +175,11 @@ fn places_for(step: u128) -> u8
     }
 }
 
-// The unit of the last of so many places, in units of 10^-12.
+// The unit of the last of so many places.
 fn unit_of(places: u8) -> u128
     requires { places ≤ 12 }
-    ensures value { result ≡ 10 ^ (12 - places) }
+    ensures value { result ≡ 10 ^ places }
     ensures some { 1 ≤ result }
 {
-    10u128.pow(u32::from(12 - places))
+    10u128.pow(u32::from(places))
 }

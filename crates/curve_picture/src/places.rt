@@ -2,12 +2,12 @@
 ghost use Rattle.std.specs.Prelude.{◌≡◌, ◌≤◌, ◌<◌, ◌*◌, ◌/◌, ◌^◌, ◌++◌, pos, OnOk};
 ghost use Rattle.fixed_amount.specs.Decimal.{decimal_text};
 ghost use Rattle.curve_picture.specs.Scale.{IsScale};
-ghost use Rattle.curve_picture.specs.Places.{day_place, factor_place, stride_place, step_place, px, placed};
+ghost use Rattle.curve_picture.specs.Places.{day_place, height_place, stride_place, step_place, px, placed};
 
-use crate::points::{days_from, units_of};
+use crate::points::{Height, days_from, units_of};
 use crate::scale::Scale;
 use day_number::Day;
-use fixed_amount::{Discount, print_decimal};
+use fixed_amount::print_decimal;
 use std::alloc::{AllocError, Global};
 
 // The left edge of the plot, and its width.
@@ -33,14 +33,14 @@ pub(crate) fn day_place(scale: &Scale, day: Day) -> u128
     LEFT + share(days_from(scale.first, day), WIDTH, scale.span)
 }
 
-// Where a factor lies from above.
-#[tactic(auto, unfolding(crate::specs::Places::factor_place))]
-pub(crate) fn factor_place(scale: &Scale, factor: Discount) -> u128
+// Where a height lies from above.
+#[tactic(auto, unfolding(crate::specs::Places::height_place))]
+pub(crate) fn height_place(scale: &Scale, height: Height) -> u128
     requires { IsScale scale.now }
-    ensures value { result ≡ factor_place scale.now factor }
+    ensures value { result ≡ height_place scale.now height }
     ensures few { result < 2 ^ 110 }
 {
-    let above = units_of(factor).saturating_sub(scale.low);
+    let above = units_of(height).saturating_sub(scale.low);
     FOOT.saturating_sub(share(above, HEIGHT, scale.rise))
 }
 
@@ -56,7 +56,7 @@ pub(crate) fn stride_place(scale: &Scale, mark: u128) -> u128
     LEFT + share(days, WIDTH, scale.span * 100)
 }
 
-// Where a mark of the axis of factors lies from above.
+// Where a mark of the axis of values lies from above.
 #[tactic(auto, unfolding(crate::specs::Places::step_place))]
 pub(crate) fn step_place(scale: &Scale, mark: u128) -> u128
     requires scale { IsScale scale.now }

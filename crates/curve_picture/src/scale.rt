@@ -3,11 +3,11 @@ ghost use Rattle.std.specs.Prelude.{◌≡◌, ◌≤◌, true};
 ghost use Rattle.std.specs.List.{list_all};
 ghost use Rattle.curve_picture.specs.Scale.{IsScale, is_step, first_from, unit_for, stride_for, step_for, multiple_from, scale_of};
 
-use crate::points::{first_day, highest, lowest, span_from};
-use curve_points::CurveNode;
+use crate::points::{Corner, first_day, highest, lowest, some_height, span_from};
+use curve_lines::Plot;
 use day_number::Day;
 
-// The steps that the axis of factors may have, in units of 10^-12, from 0.0000001 on.
+// The steps that the axis of values may have, in their units: for factors from 0.0000001 on, for rates from 0.0001 on.
 pub(crate) const STEPS: [u128; 20] = [
     100_000,
     200_000,
@@ -49,10 +49,11 @@ pub(crate) const STRIDES: [u128; 6] = [1, 2, 5, 10, 20, 50];
 pub(crate) const MOST_STRIDE: u128 = 100;
 
 // What lies where: the axis of days begins at `first` and reaches `span` days on, and counts in units of so many hundredths
-// of a day, with a mark every `stride` units; that of factors begins at `low` units and reaches `rise` units on, with a mark
+// of a day, with a mark every `stride` units; that of values begins at `low` units and reaches `rise` units on, with a mark
 // every `step` units.
 #[derive(Clone, Copy)]
 pub(crate) struct Scale {
+    pub(crate) plot: Plot,
     pub(crate) first: Day,
     pub(crate) span: u128,
     pub(crate) unit: u128,
@@ -62,20 +63,22 @@ pub(crate) struct Scale {
     pub(crate) rise: u128,
 }
 
-// The scale for these points, the axis of days beginning at a day at the latest.
+// The scale for these corners, the axis of days beginning at a day at the latest.
 #[tactic(auto, unfolding(crate::specs::Scale::scale_of))]
-pub(crate) fn scale_of(today: Day, points: &[CurveNode]) -> Scale
-    ensures value { result ≡ scale_of today points.now }
+pub(crate) fn scale_of(plot: Plot, today: Day, corners: &[Corner]) -> Scale
+    ensures value { result ≡ scale_of plot today corners.now }
     ensures scale { IsScale result }
 {
-    let first = first_day(today, points);
-    let span = span_from(first, points);
-    let lowest = lowest(points);
-    let highest = highest(points);
+    let first = first_day(today, corners);
+    let span = span_from(first, corners);
+    let other = some_height(plot, corners);
+    let lowest = lowest(other, corners);
+    let highest = highest(other, corners);
     let step = step_for(highest.saturating_sub(lowest));
     let low = lowest - lowest % step;
     let unit = unit_for(span);
     Scale {
+        plot,
         first,
         span,
         unit,
@@ -86,7 +89,7 @@ pub(crate) fn scale_of(today: Day, points: &[CurveNode]) -> Scale
     }
 }
 
-// The step of the axis of factors: at most ten steps reach so many units.
+// The step of the axis of values: at most ten steps reach so many units.
 fn step_for(reach: u128) -> u128
     ensures value { result ≡ step_for reach }
     ensures low { 1 ≤ result }
@@ -117,12 +120,12 @@ fn stride_for(span: u128, unit: u128) -> u128
 
 // The least multiple of a step that reaches so many units, and at least the step.
 fn multiple_from(reach: u128, step: u128) -> u128
-    requires reach { reach ≤ 4_000_000_000_000 }
+    requires reach { reach ≤ 10_000_000_000_000 }
     requires low { 1 ≤ step }
     requires high { step ≤ 1_000_000_000_000 }
     ensures value { result ≡ multiple_from reach step }
     ensures low { 1 ≤ result }
-    ensures high { result ≤ 10_000_000_000_000 }
+    ensures high { result ≤ 100_000_000_000_000 }
 {
     (reach + (step - reach % step) % step).max(step)
 }

@@ -1,8 +1,15 @@
 // The pieces of text of a picture.
 
-// What a picture begins with, up to the day of the market.
+// What a picture begins with, up to what is drawn.
 pub(crate) const HEAD: &[u8] =
-    b"<svg xmlns='http://www.w3.org/2000/svg' width='800' height='520' viewBox='0 0 800 520' font-family='sans-serif' font-size='12'>\n<rect width='800' height='520' fill='white'/>\n<text x='70' y='32' font-size='18'>Discount factors on ";
+    b"<svg xmlns='http://www.w3.org/2000/svg' width='800' height='520' viewBox='0 0 800 520' font-family='sans-serif' font-size='12'>\n<rect width='800' height='520' fill='white'/>\n<text x='70' y='32' font-size='18'>";
+
+// What is drawn, up to the day of the market.
+pub(crate) const FACTORS_ON: &[u8] = b"Discount factors on ";
+
+pub(crate) const ZEROS_ON: &[u8] = b"Simple zero rates on ";
+
+pub(crate) const FORWARDS_ON: &[u8] = b"Simple forward rates over three months on ";
 
 // Behind the day of the market, up to the day from which days or years count.
 pub(crate) const DAYS_FROM: &[u8] =
@@ -52,6 +59,8 @@ pub(crate) const DISK: &[u8] = b"<circle cx='";
 pub(crate) const DISK_DOWN: &[u8] = b"' cy='";
 
 pub(crate) const TITLE: &[u8] = b"' r='3'><title>";
+
+pub(crate) const SMALL_TITLE: &[u8] = b"' r='1.5'><title>";
 
 pub(crate) const DISK_END: &[u8] = b"</title></circle>\n";
 

@@ -1,10 +1,10 @@
 -- What the bench was called for, and what is written of names.
-use Rattle.std.proofs.Common.{◌≡◌, ℕ, Bool, List, [], Option, Result, Ok, Err, ℤ, sym, ap, subst}
+use Rattle.std.proofs.Common.{◌≡◌, ℕ, Bool, List, [], Option, Result, Ok, Err, sym, ap, subst}
 use Rattle.desk_terms.specs.Reading.{Outcome, Calc}
 use Rattle.bump_model.specs.Asking.{Calls}
 use Rattle.bump_model.proofs.Calls.{front_none, calls_front}
 use Rattle.market_desk.specs.Standing.{Standing}
-use Rattle.curve_run.specs.Lines.{priced_text, text_for, calls_for, curve_text, curve_calls, IsFound, AreNamed}
+use Rattle.curve_run.specs.Lines.{Sheet, priced_text, text_for, calls_for, curve_text, curve_calls, IsFound, AreNamed}
 use Rattle.curve_run.specs.Named.{named_of}
 use Rattle.curve_run.specs.Pricing.{curves_asking}
 
@@ -19,15 +19,15 @@ calls_begun calls result count log e is = calls_front calls result count count l
 -- ---- what names stand for
 
 module _ (calc : Calc) (p : Standing) (texts : List (List ℕ)) where
-  pub text_found : (as_table : Bool) (today : ℤ) (objects : List ℕ) → named_of p.state.market p.names texts ≡ Ok objects
-      → curve_text calc p as_table today texts ≡ priced_text calc p as_table today objects
+  pub text_found : (sheet : Sheet) (objects : List ℕ) → named_of p.state.market p.names texts ≡ Ok objects
+      → curve_text calc p sheet texts ≡ priced_text calc p sheet objects
   unfolding curve_text
-  text_found as_table today objects is = ap (text_for calc p as_table today) is
+  text_found sheet objects is = ap (text_for calc p sheet) is
 
-  pub text_lines : (as_table : Bool) (today : ℤ) (lines : List ℕ) → named_of p.state.market p.names texts ≡ Err lines
-      → curve_text calc p as_table today texts ≡ lines
+  pub text_lines : (sheet : Sheet) (lines : List ℕ) → named_of p.state.market p.names texts ≡ Err lines
+      → curve_text calc p sheet texts ≡ lines
   unfolding curve_text
-  text_lines as_table today lines is = ap (text_for calc p as_table today) is
+  text_lines sheet lines is = ap (text_for calc p sheet) is
 
   pub calls_found : (objects : List ℕ) → named_of p.state.market p.names texts ≡ Ok objects
       → curve_calls calc p texts ≡ (curves_asking calc objects p.state).calls

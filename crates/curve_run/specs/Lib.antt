@@ -1,5 +1,6 @@
 pub mod Lines
 pub mod Named
+pub mod Plotting
 pub mod Pricing
 pub mod Rows
 pub mod Verdict

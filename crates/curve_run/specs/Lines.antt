@@ -1,41 +1,57 @@
 -- What is written of curves, and what is computed for it.
 use Rattle.std.specs.Prelude.{ℕ, ℤ, Bool, if◌then◌else◌, List, [], ◌∷◌, Result, Ok, Err}
 use Rattle.curve_points.specs.Curve.{Curve}
+use Rattle.curve_lines.specs.declared.lines.Plot.{Plot}
+use Rattle.curve_lines.specs.Lines.{Line}
 use Rattle.desk_terms.specs.Reading.{Outcome, Calc}
 use Rattle.market_desk.specs.Standing.{Standing}
 use Rattle.curve_picture.specs.Svg.{picture_text}
 use Rattle.curve_picture.specs.Table.{table_text}
 use Rattle.curve_run.specs.Named.{named_of}
+use Rattle.curve_run.specs.Plotting.{plotted_lines, unplotted}
 use Rattle.curve_run.specs.Pricing.{curves_of, refused_lines, curves_asking}
 
--- the table or the picture of curves
-abbrev pub drawn_text : List (List ℕ) → List ℕ → Bool → ℤ → List Curve → List ℕ
-drawn_text names of_object as_table today curves =
-    if as_table then table_text names of_object curves else picture_text names of_object today curves
+-- what is wanted of curves: a table or a picture, and what is drawn; with the day of the market
+pub record Sheet : Type 0 where
+  pub as_table : Bool
+  pub plot : Plot
+  pub today : ℤ
+
+-- the table or the picture of lines
+abbrev pub drawn_text : List (List ℕ) → List ℕ → Sheet → List Line → List ℕ
+drawn_text names of_object sheet lines =
+    if sheet.as_table then table_text names of_object sheet.plot lines
+    else picture_text names of_object sheet.plot sheet.today lines
 
 -- lines, or where there are none another text
 abbrev pub or_else : List ℕ → List ℕ → List ℕ
 or_else [] text = text
 or_else (byte ∷ bytes) text = byte ∷ bytes
 
+-- what is written of the curves of which a rate is refused, or where there is none the table or the picture
+abbrev pub plotted_text : List (List ℕ) → List ℕ → Sheet → List Curve → List ℕ
+plotted_text names of_object sheet curves =
+    or_else (unplotted names of_object sheet.plot curves)
+    (drawn_text names of_object sheet (plotted_lines sheet.plot curves))
+
 -- the lines of the curves that are refused, or where there is none the table or the picture
-abbrev pub priced_text : Calc → Standing → Bool → ℤ → List ℕ → List ℕ
-priced_text calc p as_table today objects =
+abbrev pub priced_text : Calc → Standing → Sheet → List ℕ → List ℕ
+priced_text calc p sheet objects =
     or_else (refused_lines calc p.state.market p.names p.of_object objects)
-    (drawn_text p.names p.of_object as_table today (curves_of calc p.state.market objects))
+    (plotted_text p.names p.of_object sheet (curves_of calc p.state.market objects))
 
 -- the same of names that may stand for no curves
-abbrev pub text_for : Calc → Standing → Bool → ℤ → Result (List ℕ) (List ℕ) → List ℕ
-text_for calc p as_table today (Ok objects) = priced_text calc p as_table today objects
-text_for calc p as_table today (Err lines) = lines
+abbrev pub text_for : Calc → Standing → Sheet → Result (List ℕ) (List ℕ) → List ℕ
+text_for calc p sheet (Ok objects) = priced_text calc p sheet objects
+text_for calc p sheet (Err lines) = lines
 
 abbrev pub calls_for : Calc → Standing → Result (List ℕ) (List ℕ) → List (ℕ × Outcome)
 calls_for calc p (Ok objects) = (curves_asking calc objects p.state).calls
 calls_for calc p (Err lines) = []
 
 -- THE TEXT of names
-unfoldable pub curve_text : Calc → Standing → Bool → ℤ → List (List ℕ) → List ℕ
-curve_text calc p as_table today texts = text_for calc p as_table today (named_of p.state.market p.names texts)
+unfoldable pub curve_text : Calc → Standing → Sheet → List (List ℕ) → List ℕ
+curve_text calc p sheet texts = text_for calc p sheet (named_of p.state.market p.names texts)
 
 -- THE COMPUTATIONS for names
 unfoldable pub curve_calls : Calc → Standing → List (List ℕ) → List (ℕ × Outcome)

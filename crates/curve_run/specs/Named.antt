@@ -1,5 +1,5 @@
 -- What names stand for among the objects of a market (this project's profile).
-use Rattle.std.specs.Prelude.{◌≡◌, ℕ, zero, suc, Bool, true, false, ◌||◌, if◌then◌else◌, List, [], ◌∷◌, ◌++◌, length, All, codes, Option, None, Some, Result, Ok, Err, Vec}
+use Rattle.std.specs.Prelude.{◌≡◌, ℕ, zero, suc, Bool, true, false, ◌||◌, if◌then◌else◌, List, [], ◌∷◌, ◌++◌, length, All, codes, Option, Result, Ok, Err, Vec}
 use Rattle.std.specs.declared.alloc.Global.{Global}
 use Rattle.desk_terms.specs.declared.kind.Kind as kind
 use Rattle.desk_terms.specs.declared.kind.Wanted.TheVariants.{CurveTarget}

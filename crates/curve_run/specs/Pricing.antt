@@ -31,8 +31,8 @@ unfoldable pub refused_line : List (List ℕ) → List ℕ → ℕ → Cause →
 refused_line names of_object o cause =
     object_text names of_object o ++ codes " refused " ++ cause_text names of_object cause ++ codes "\n"
 
-abbrev pub refused_in : List (List ℕ) → List ℕ → ℕ → Result Curve Cause → List ℕ
-refused_in names of_object o (Ok curve) = []
+abbrev pub refused_in : {A : Type 0} → List (List ℕ) → List ℕ → ℕ → Result A Cause → List ℕ
+refused_in names of_object o (Ok value) = []
 refused_in names of_object o (Err cause) = refused_line names of_object o cause
 
 -- the curves of these objects that have one, in order

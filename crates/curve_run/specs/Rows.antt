@@ -1,5 +1,7 @@
 -- Small markets and words that are worked through by hand.
 use Rattle.std.specs.Prelude.{◌≡◌, ℕ, List, [], ◌∷◌, codes, true, false, pos, None, Some, Ok, Err}
+use Rattle.curve_lines.specs.declared.lines.Plot.{Plot}
+use Rattle.curve_lines.specs.declared.lines.Plot.TheVariants.{Factors, Zeros, Forwards}
 use Rattle.desk_terms.specs.declared.cause.Cause.TheVariants.{TooLarge}
 use Rattle.desk_terms.specs.declared.terms.Terms.{Terms}
 use Rattle.desk_terms.specs.declared.terms.Terms.TheVariants.{Quote, Derived, Handle, Curve, Implied, Index, Engine, Stock, Composite, Flows}
@@ -45,12 +47,18 @@ abbrev pub straight : Calc
 straight reading = straight_price reading.object reading.terms
 
 -- the table of these names
+abbrev pub sheet_text : Plot → Market → List (List ℕ) → List ℕ
+sheet_text plot market names =
+    curve_text straight (standing_of market) (record { as_table = true; plot = plot; today = market.today }) names
+
 abbrev pub table_of : Market → List (List ℕ) → List ℕ
-table_of market names = curve_text straight (standing_of market) true market.today names
+table_of market names = sheet_text Factors market names
 
 pub record IsWorked : Type 0 where
   pub curve : table_of small (codes "c" ∷ []) ≡
       codes "curve,day,discount\nc,2024-01-02,1.000000000000\nc,2024-04-11,0.990099009901\n"
+  pub zeros : sheet_text Zeros small (codes "c" ∷ []) ≡
+      codes "curve,day,zero\nc,2024-02-02,0.036249876\nc,2024-03-02,0.036354582\nc,2024-04-02,0.036467180\nc,2024-04-11,0.036500000\n"
   pub refused : table_of small (codes "c" ∷ codes "m" ∷ []) ≡ codes "m refused toolarge m\n"
   pub unnamed : table_of small (codes "x" ∷ codes "c" ∷ codes "today" ∷ codes "r" ∷ []) ≡
       codes "refused curve unknown x\nrefused curve kind today\nrefused curve kind r\n"
@@ -63,10 +71,16 @@ eight = codes "a" ∷ codes "b" ∷ codes "c" ∷ codes "d" ∷ codes "e" ∷ co
 
 pub record AreTaken : Type 0 where
   pub one : request_of (codes "m" ∷ codes "c" ∷ []) ≡
-      Some (record { as_table = false; market = codes "m"; curves = codes "c" ∷ [] })
+      Some (record { as_table = false; plot = Factors; market = codes "m"; curves = codes "c" ∷ [] })
   pub table : request_of (codes "--csv" ∷ codes "m" ∷ codes "c" ∷ codes "d" ∷ []) ≡
-      Some (record { as_table = true; market = codes "m"; curves = codes "c" ∷ codes "d" ∷ [] })
-  pub all : request_of (codes "m" ∷ eight) ≡ Some (record { as_table = false; market = codes "m"; curves = eight })
+      Some (record { as_table = true; plot = Factors; market = codes "m"; curves = codes "c" ∷ codes "d" ∷ [] })
+  pub zeros : request_of (codes "--zero" ∷ codes "m" ∷ codes "c" ∷ []) ≡
+      Some (record { as_table = false; plot = Zeros; market = codes "m"; curves = codes "c" ∷ [] })
+  pub forwards : request_of (codes "--csv" ∷ codes "--forward" ∷ codes "m" ∷ codes "c" ∷ []) ≡
+      Some (record { as_table = true; plot = Forwards; market = codes "m"; curves = codes "c" ∷ [] })
+  pub both : request_of (codes "--zero" ∷ codes "--forward" ∷ codes "m" ∷ codes "c" ∷ []) ≡ None
+  pub turned : request_of (codes "--zero" ∷ codes "--csv" ∷ codes "m" ∷ codes "c" ∷ []) ≡ None
+  pub all : request_of (codes "m" ∷ eight) ≡ Some (record { as_table = false; plot = Factors; market = codes "m"; curves = eight })
   pub nine : request_of (codes "m" ∷ codes "z" ∷ eight) ≡ None
   pub nothing : request_of [] ≡ None
   pub no_name : request_of (codes "m" ∷ []) ≡ None

@@ -8,7 +8,7 @@ use Rattle.tool_run.specs.declared.status.MarketStatus.TheVariants.{Usage}
 use Rattle.tool_run.specs.Market.{wanted_from, calls_from}
 use Rattle.tool_run.specs.Market as tool
 use Rattle.tool_run.specs.Run.{asked, calls_for}
-use Rattle.curve_run.specs.Lines.{curve_text, curve_calls, AreNamed}
+use Rattle.curve_run.specs.Lines.{Sheet, curve_text, curve_calls, AreNamed}
 use Rattle.curve_run.specs.Words.{Request, request_of}
 
 -- a market, and what is asked of it: whether a table is wanted, and the names of the curves that are wanted
@@ -23,10 +23,15 @@ verdict_of files words = asked Usage (wanted_from (λ (request : Request). reque
 abbrev pub reading_calls : Files → List (List ℕ) → ℕ
 reading_calls files words = calls_for (calls_from (λ (request : Request). request.market)) (request_of words) files
 
+-- a table or a picture, and what is drawn
+abbrev pub sheet_of : Wanted → Sheet
+sheet_of wanted =
+    record { as_table = wanted.request.as_table; plot = wanted.request.plot; today = wanted.market.today }
+
 -- the bytes that are written, and the computations that are made
 abbrev pub output_in : Calc → Wanted → List ℕ
 output_in calc wanted =
-    curve_text calc (standing_of wanted.market) wanted.request.as_table wanted.market.today wanted.request.curves
+    curve_text calc (standing_of wanted.market) (sheet_of wanted) wanted.request.curves
 
 abbrev pub computed_in : Calc → Wanted → List (ℕ × Outcome)
 computed_in calc wanted = curve_calls calc (standing_of wanted.market) wanted.request.curves

@@ -6,6 +6,7 @@
 
 mod finding;
 mod lines;
+mod plotting;
 mod pricing;
 mod rows;
 mod running;

@@ -5,12 +5,14 @@ ghost use Rattle.desk_model.specs.Sound.{IsSound};
 ghost use Rattle.desk_model.specs.Unheld.{HoldsNothing};
 ghost use Rattle.bump_model.specs.Asking.{Calls};
 ghost use Rattle.market_desk.specs.Standing.{standing};
-ghost use Rattle.curve_run.specs.Lines.{drawn_text, priced_text, curve_text, curve_calls, AreNamed};
+ghost use Rattle.curve_run.specs.Lines.{drawn_text, plotted_text, priced_text, curve_text, curve_calls, AreNamed};
 ghost use Rattle.curve_run.specs.Named.{AreCurves};
 ghost use Rattle.curve_run.specs.Pricing.{curves_asking};
 
 use crate::finding::curves_named;
+use crate::plotting::plot_all;
 use crate::pricing::price_all;
+use curve_lines::{Plot, PlotLine};
 use curve_picture::{picture, table};
 use curve_points::CurveValue;
 use day_number::Day;
@@ -19,12 +21,24 @@ use desk_terms::Bench;
 use lazy_objects::Desk;
 use price_report::Namer;
 use std::alloc::{AllocError, Global};
+use std::marker::Model;
 
-// What is wanted: a table or a picture, and the day of the market.
+// What is wanted: a table or a picture, what is drawn, and the day of the market.
 #[derive(Clone, Copy)]
 pub(crate) struct Sheet {
     pub(crate) as_table: bool,
+    pub(crate) plot: Plot,
     pub(crate) today: Day,
+}
+
+impl Model for Sheet {
+    ghost use Rattle.curve_run.specs.Lines as lines;
+
+    ghost Value = { lines.Sheet };
+
+    ghost view = { λ s. record { as_table = s.as_table; plot = s.plot; today = s.today } };
+
+    ghost inverse = { λ s. record { as_table = s.as_table; plot = s.plot; today = s.today } };
 }
 
 // The picture or the table of the curves that names stand for, or the lines of what stands against it.
@@ -40,7 +54,7 @@ pub(crate) fn curve_lines<B: Bench>(
     requires unheld { HoldsNothing desk.old }
     ensures same { B.calc bench.new ≡ B.calc bench.old }
     ensures lines { IfOk result (λ lines. lines.items
-        ≡ curve_text (B.calc bench.old) (standing namer.now.names.now namer.now.of_object.now desk.old) sheet.as_table sheet.today (map string_bytes texts.now)) }
+        ≡ curve_text (B.calc bench.old) (standing namer.now.names.now namer.now.of_object.now desk.old) sheet (map string_bytes texts.now)) }
     ensures calls { Calls (curve_calls (B.calc bench.old) (standing namer.now.names.now namer.now.of_object.now desk.old) (map string_bytes texts.now))
         result (B.count bench.old) (B.count bench.new) (B.log bench.old) (B.log bench.new) }
     ensures alone { AreNamed (standing namer.now.names.now namer.now.of_object.now desk.old) (map string_bytes texts.now) ⊎ (bench.new ≡ bench.old) }
@@ -66,7 +80,7 @@ fn priced_lines<B: Bench>(
     requires unheld { HoldsNothing desk.old }
     ensures same { B.calc bench.new ≡ B.calc bench.old }
     ensures lines { IfOk result (λ lines. lines.items
-        ≡ priced_text (B.calc bench.old) (standing namer.now.names.now namer.now.of_object.now desk.old) sheet.as_table sheet.today objects.now) }
+        ≡ priced_text (B.calc bench.old) (standing namer.now.names.now namer.now.of_object.now desk.old) sheet objects.now) }
     ensures calls { Calls (curves_asking (B.calc bench.old) objects.now desk.old).calls
         result (B.count bench.old) (B.count bench.new) (B.log bench.old) (B.log bench.new) }
 {
@@ -74,24 +88,41 @@ fn priced_lines<B: Bench>(
     if !priced.lines.is_empty() {
         return Ok(priced.lines);
     }
-    drawn(alloc, sheet, priced.curves.as_slice(), namer)
+    plotted(alloc, sheet, priced.curves.as_slice(), namer)
 }
 
-// The picture or the table of curves.
-fn drawn(
+// The picture or the table of curves, or the lines of those of which a rate is refused.
+fn plotted(
     alloc: Global,
     sheet: Sheet,
     curves: &[CurveValue],
     namer: &Namer<'_>,
 ) -> Result<Vec<u8>, AllocError>
     ensures { IfOk result (λ lines. lines.items
-        ≡ drawn_text namer.now.names.now namer.now.of_object.now sheet.as_table sheet.today curves.now) }
+        ≡ plotted_text namer.now.names.now namer.now.of_object.now sheet curves.now) }
 {
-    let mut lines = Vec::new(alloc);
-    if sheet.as_table {
-        table(alloc, curves, namer, &mut lines)?;
-    } else {
-        picture(alloc, sheet.today, curves, namer, &mut lines)?;
+    let plotted = plot_all(alloc, sheet.plot, curves, namer)?;
+    if !plotted.refused.is_empty() {
+        return Ok(plotted.refused);
     }
-    Ok(lines)
+    drawn(alloc, sheet, plotted.lines.as_slice(), namer)
+}
+
+// The picture or the table of lines.
+fn drawn(
+    alloc: Global,
+    sheet: Sheet,
+    lines: &[PlotLine],
+    namer: &Namer<'_>,
+) -> Result<Vec<u8>, AllocError>
+    ensures { IfOk result (λ text. text.items
+        ≡ drawn_text namer.now.names.now namer.now.of_object.now sheet lines.now) }
+{
+    let mut text = Vec::new(alloc);
+    if sheet.as_table {
+        table(alloc, sheet.plot, lines, namer, &mut text)?;
+    } else {
+        picture(alloc, sheet.plot, sheet.today, lines, namer, &mut text)?;
+    }
+    Ok(text)
 }

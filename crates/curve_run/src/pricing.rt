@@ -74,7 +74,7 @@ fn keep(
 
 // Appends the line of a curve that is refused.
 #[tactic(auto, unfolding(crate::specs::Pricing::refused_line))]
-fn refused_line(
+pub(crate) fn refused_line(
     alloc: Global,
     object: ObjId,
     cause: &Cause,

@@ -23,7 +23,7 @@ use std::alloc::{AllocError, Global};
 use tool_run::{Found, MarketStatus, OpenMarket, find};
 
 /// Does what the words ask for over the files of the shelf, writes the text to `out`, and answers how that went. The words
-/// are those behind the program's name: `--csv` or nothing, the path of a market, and the names of one to eight curves. The
+/// are those behind the program's name: `--csv` or nothing, `--zero`, `--forward` or nothing, the path of a market, and the names of one to eight curves. The
 /// prices are those of the bench.
 ///
 /// The first failure in this order is the answer: the words; the market's file and the tables' names in it; the file of
@@ -120,6 +120,7 @@ fn lines_of<B: Bench>(
     };
     let sheet = Sheet {
         as_table: request.as_table,
+        plot: request.plot,
         today,
     };
     curve_lines(alloc, &mut desk, sheet, request.curves, &namer, bench)

@@ -4,17 +4,19 @@ ghost use Rattle.std.specs.String.{string_bytes};
 ghost use Rattle.std.specs.Str.{bytes_eq};
 ghost use Rattle.std.specs.List.{list_all};
 ghost use Rattle.tool_run.specs.Words.{is_word};
-ghost use Rattle.curve_run.specs.Words.{is_flag, request_in, request_with};
+ghost use Rattle.curve_run.specs.Words.{is_flag, plot_flag, request_in, request_drawn, request_with};
 
+use curve_lines::Plot;
 use tool_run::{MarketRequest, is_word};
 
 /// How many curves are drawn at most: as many as there are colours.
 pub(crate) const MOST_CURVES: usize = 8;
 
-// What the words ask for: a table or a picture, the path of a market, and the names of curves.
+// What the words ask for: a table or a picture, what is drawn, the path of a market, and the names of curves.
 #[derive(Clone, Copy)]
 pub(crate) struct Request<'a> {
     pub(crate) as_table: bool,
+    pub(crate) plot: Plot,
     pub(crate) market: &'a str,
     pub(crate) curves: &'a [String],
 }
@@ -35,9 +37,9 @@ impl<'a> MarketRequest<'a> for Request<'a> {
             [] => None,
             [first, rest @ ..] => {
                 if is_flag(first) {
-                    request_with(true, rest)
+                    request_drawn(true, rest)
                 } else {
-                    request_with(false, words)
+                    request_drawn(false, words)
                 }
             }
         }
@@ -49,8 +51,34 @@ impl<'a> MarketRequest<'a> for Request<'a> {
 }
 
 // The same of the words behind `--csv`, or of all where it is not there.
-fn request_with(as_table: bool, words: &[String]) -> Option<Request<'_>>
-    ensures { option_map request_in result ≡ request_with as_table (map string_bytes words.now) }
+fn request_drawn(as_table: bool, words: &[String]) -> Option<Request<'_>>
+    ensures { option_map request_in result ≡ request_drawn as_table (map string_bytes words.now) }
+{
+    match words {
+        [] => None,
+        [first, rest @ ..] => match plot_flag(first) {
+            None => request_with(as_table, Plot::Factors, words),
+            Some(plot) => request_with(as_table, plot, rest),
+        },
+    }
+}
+
+// What is drawn by an option.
+fn plot_flag(word: &str) -> Option<Plot>
+    ensures { result ≡ plot_flag word.now }
+{
+    if word == "--zero" {
+        Some(Plot::Zeros)
+    } else if word == "--forward" {
+        Some(Plot::Forwards)
+    } else {
+        None
+    }
+}
+
+// The same of the words behind all options.
+fn request_with(as_table: bool, plot: Plot, words: &[String]) -> Option<Request<'_>>
+    ensures { option_map request_in result ≡ request_with as_table plot (map string_bytes words.now) }
 {
     match words {
         [] => None,
@@ -64,6 +92,7 @@ fn request_with(as_table: bool, words: &[String]) -> Option<Request<'_>>
             }
             Some(Request {
                 as_table,
+                plot,
                 market,
                 curves,
             })

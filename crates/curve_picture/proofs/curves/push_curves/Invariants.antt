@@ -5,10 +5,10 @@ use Rattle.curve_picture.proofs.curves.push_curves.Given as goal
 -- the curves before this one are written
 abbrev pub invariant-loop-at : goal.invariant-loop-at
 invariant-loop-at l = record {
-  within : l.at ≤ length l.curves;
-  lines : l.initial.out.items ++ curves_text l.namer.names.now l.namer.of_object.now l.scale 0 l.curves
-      ≡ l.out.items ++ curves_text l.namer.names.now l.namer.of_object.now l.scale l.at (drop l.at l.curves);
+  within : l.at ≤ length l.lines;
+  lines : l.initial.out.items ++ curves_text l.namer.names.now l.namer.of_object.now l.scale 0 l.lines
+      ≡ l.out.items ++ curves_text l.namer.names.now l.namer.of_object.now l.scale l.at (drop l.at l.lines);
 }
 
 abbrev pub decreases-loop-at : goal.decreases-loop-at
-decreases-loop-at l = length l.curves - l.at
+decreases-loop-at l = length l.lines - l.at

@@ -1,6 +1,6 @@
 use Rattle.std.proofs.Common.{refl}
 use Rattle.curve_picture.specs.Svg.{disk_text, disks_text}
-use Rattle.curve_picture.proofs.Appending.{parts_more, parts_end}
+use Rattle.curve_lines.proofs.Appending.{parts_more, parts_end}
 use Rattle.curve_picture.proofs.curves.push_disks.Goals as goal
 
 pub loop-point-preserved : goal.loop-point-preserved

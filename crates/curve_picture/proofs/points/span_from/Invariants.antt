@@ -2,11 +2,11 @@ use Rattle.std.proofs.Common.{◌≡◌, ◌≤◌, drop, length}
 use Rattle.curve_picture.specs.Points.{span_from}
 use Rattle.curve_picture.proofs.points.span_from.Given as goal
 
--- what the points behind are is known
+-- what the corners behind are is known
 abbrev pub invariant-loop-left : goal.invariant-loop-left
 invariant-loop-left l = record {
-  within : l.left ≤ length l.points;
-  found : l.span ≡ span_from l.first (drop l.left l.points);
+  within : l.left ≤ length l.corners;
+  found : l.span ≡ span_from l.first (drop l.left l.corners);
   low : 1 ≤ l.span;
   high : l.span ≤ 110_000;
 }

@@ -2,21 +2,23 @@ use Rattle.std.proofs.Common.{refl}
 use Rattle.std.specs.Fmt.{digits}
 use Rattle.day_number.specs.Day.{civil_number, date_in_year, date_after, date_of}
 use Rattle.fixed_amount.specs.Decimal.{decimal_text}
-use Rattle.curve_picture.specs.Places.{day_place, factor_place}
-use Rattle.curve_picture.specs.Points.{all_points, first_day, span_from, lowest, highest, point_text}
+use Rattle.curve_picture.specs.Places.{day_place, height_place}
+use Rattle.curve_picture.specs.Points.{dated_text, from_text, line_corners, all_corners, first_day, span_from, lowest, highest}
 use Rattle.curve_picture.specs.Scale.{first_from, scale_of}
-use Rattle.curve_picture.specs.Table.{row_text, rows_text, curves_rows, table_text}
+use Rattle.curve_picture.specs.Table.{table_heading, row_text, rows_text, lines_rows, table_text}
 use Rattle.curve_picture.proofs.rows.a_curve_is_worked_through.Goals as goal
 
 pub returns : goal.returns
-unfolding digits civil_number date_in_year date_after date_of decimal_text day_place factor_place all_points first_day span_from lowest highest point_text first_from scale_of row_text rows_text curves_rows table_text
+unfolding digits civil_number date_in_year date_after date_of decimal_text day_place height_place dated_text from_text line_corners all_corners first_day span_from lowest highest first_from scale_of row_text rows_text lines_rows table_text table_heading
 returns c = record {
   scale = refl;
+  rates = refl;
   weeks = refl;
   above = refl;
   sixty = refl;
   earlier = refl;
   bare_span = refl;
+  no_rate = refl;
   bare_rise = refl;
   least_step = refl;
   within_step = refl;
@@ -50,4 +52,6 @@ returns c = record {
   hundredths = refl;
   most_places = refl;
   table = refl;
+  zeros = refl;
+  forwards = refl;
 }

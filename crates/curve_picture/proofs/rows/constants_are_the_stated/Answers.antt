@@ -1,14 +1,16 @@
 use Rattle.std.proofs.Common.{refl}
 use Rattle.std.specs.Fmt.{digits}
 use Rattle.day_number.specs.Day.{civil_number, date_in_year, date_after, date_of}
-use Rattle.curve_picture.specs.Svg.{counted, counted_text, heading_text}
+use Rattle.curve_picture.specs.Svg.{title_text, counted, counted_text, top_text, heading_text}
 use Rattle.curve_picture.proofs.rows.constants_are_the_stated.Goals as goal
 
 pub returns : goal.returns
-unfolding digits civil_number date_in_year date_after date_of counted counted_text heading_text
+unfolding digits civil_number date_in_year date_after date_of counted counted_text top_text heading_text title_text
 returns c = record {
   heading = refl;
   in_days = refl;
+  zeros = refl;
+  forwards = refl;
   frame = refl;
   footer = refl;
   left = refl;

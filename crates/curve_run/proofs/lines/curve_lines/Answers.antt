@@ -21,7 +21,7 @@ returns-in-Ok-clause-lines g c =
     let p = standing c.args.namer.now.names.now c.args.namer.now.of_object.now c.args.desk.now in
     let found = rw c.in-Ok.is at c.in_ok-named.ensures.named in
     subst (λ (text : List ℕ). IfOk c.priced_lines.result (λ lines. lines.items ≡ text))
-    (sym (text_found (g.B.Bench.calc c.args.bench.now) p (map string_bytes c.args.texts.now) c.args.sheet.as_table c.args.sheet.today c.in-Ok.objects.items found))
+    (sym (text_found (g.B.Bench.calc c.args.bench.now) p (map string_bytes c.args.texts.now) c.args.sheet c.in-Ok.objects.items found))
     (rw c.as_slice.ensures.value at c.priced_lines.ensures.lines)
 
 pub returns-in-Ok-clause-calls : goal.returns-in-Ok-clause-calls
@@ -41,7 +41,7 @@ returns-in-Ok-clause-alone g c =
 pub returns-in-Err-clause-lines : goal.returns-in-Err-clause-lines
 returns-in-Err-clause-lines g c =
     let p = standing c.args.namer.now.names.now c.args.namer.now.of_object.now c.args.desk.now in
-    sym (text_lines (g.B.Bench.calc c.args.bench.now) p (map string_bytes c.args.texts.now) c.args.sheet.as_table c.args.sheet.today c.in-Err.lines.items
+    sym (text_lines (g.B.Bench.calc c.args.bench.now) p (map string_bytes c.args.texts.now) c.args.sheet c.in-Err.lines.items
     (rw c.in-Err.is at c.in_ok-named.ensures.named))
 
 pub returns-in-Err-clause-calls : goal.returns-in-Err-clause-calls

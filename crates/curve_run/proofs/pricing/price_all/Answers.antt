@@ -8,7 +8,7 @@ use Rattle.bump_model.specs.Asking.{ask_of}
 use Rattle.bump_model.proofs.Calls.{progress_none, progress_more, progress_front, progress_stops, last_next, last_made}
 use Rattle.bump_ladder.proofs.Answered.{front_asks}
 use Rattle.curve_run.specs.Pricing.{curve_at, curve_in, refused_in, curves_of, refused_lines, curves_asking}
-use Rattle.curve_picture.proofs.Appending.{parts_more, parts_end}
+use Rattle.curve_lines.proofs.Appending.{parts_more, parts_end}
 use Rattle.curve_run.proofs.Asked.{next_object, first_lazy, rest_curves, asking_step, asking_ended, did_then, front_then, value_then, curves_first, curves_last, lines_first, lines_last}
 use Rattle.curve_run.proofs.pricing.price_all.Goals as goal
 

@@ -1,6 +1,7 @@
 use Rattle.std.proofs.Common.{inr, refl, [], pos, true}
 use Rattle.std.specs.Prelude.{map}
 use Rattle.std.specs.String.{string_bytes}
+use Rattle.curve_lines.specs.declared.lines.Plot.TheVariants.{Factors}
 use Rattle.desk_edge.specs.Shelf.{files_of}
 use Rattle.bump_model.specs.Asking.{Made, MadeFront}
 use Rattle.bump_model.proofs.Calls.{front_none}
@@ -16,7 +17,7 @@ use Rattle.curve_run.proofs.running.run_curve.Goals as goal
 any_wanted : Wanted
 any_wanted = record {
   market = record { today = pos 0; made = []; names = [] };
-  request = record { as_table = true; market = []; curves = [] };
+  request = record { as_table = true; plot = Factors; market = []; curves = [] };
 }
 
 pub returns-in-Err-clause-carried : goal.returns-in-Err-clause-carried

@@ -1,0 +1,4 @@
+pub mod Days
+pub mod Lines
+pub mod Rates
+pub mod Rows

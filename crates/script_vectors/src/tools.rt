@@ -7,6 +7,7 @@ use desk_edge::{CallList, MemoryShelf, MemorySink};
 use explain_run::run_explain;
 use graph_run::run_graph;
 use grid_run::run_grid;
+use measure_run::run_measure;
 use std::alloc::{AllocError, Global};
 use std::{fs, io};
 use tool_process::Ending;
@@ -25,6 +26,7 @@ enum Tool {
     Explain,
     Graph,
     Grid,
+    Measure,
     Why,
     Yield,
 }
@@ -57,6 +59,9 @@ pub(crate) fn compare(rt: &HostRuntime) -> io::Result<()> {
     // Answers of which each shows one thing, and of scripts cut off at some command: every kind, mark and cause.
     compare_file(rt, Tool::Why, "why_by_hand")?;
     compare_file(rt, Tool::Why, "why_sessions")?;
+    // The same prices and days as for yields.
+    compare_file(rt, Tool::Measure, "measure_by_hand")?;
+    compare_file(rt, Tool::Measure, "measure_bonds")?;
     // Prices at the limits and beyond, days on and beside those of coupons.
     compare_file(rt, Tool::Yield, "yield_by_hand")?;
     compare_file(rt, Tool::Yield, "yield_bonds")
@@ -143,6 +148,11 @@ fn ended(
             alloc,
             why_run::NAME,
             run_why(alloc, words, shelf, out, &mut bench),
+        ),
+        Tool::Measure => line(
+            alloc,
+            measure_run::NAME,
+            run_measure(alloc, words, shelf, out),
         ),
         Tool::Yield => line(alloc, yield_run::NAME, run_yield(alloc, words, shelf, out)),
     }

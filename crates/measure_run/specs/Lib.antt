@@ -1,0 +1,5 @@
+pub mod Lines
+pub mod Named
+pub mod Rows
+pub mod Verdict
+pub mod Words

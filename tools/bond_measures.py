@@ -1,0 +1,106 @@
+#!/usr/bin/env python3
+"""A plain model of the lines of desk_measure, written beside the definitions and not after the code.
+
+    tools/bond_measures.py MODEL < CASES
+
+MODEL is the folder of an independent model of markets and yields, a package of Python that this repository does not have. CASES are those of
+crates/script_vectors of desk_yield; writes them with the lines of desk_measure.
+"""
+
+import importlib
+import pathlib
+import re
+import sys
+
+STEP = 10**5
+MOST = 10**10
+
+
+def nearest(top, bottom):
+    size = (2 * abs(top) + bottom) // (2 * bottom)
+    return -size if top < 0 else size
+
+
+def price(flows, settle, y):
+    """The full price in units: each flow over what 1 has grown to, from one payment to the next, rounded down, and the sum once."""
+    day, factor, total = settle, 10**12, 0
+    for flow in flows:
+        if flow.paid > settle:
+            whole = 10**9 * 11_221_560
+            factor = factor * whole // (whole + y * (flow.paid - day) * 30_744)
+            total += flow.amount * factor
+            day = flow.paid
+    return nearest(total, 10**12)
+
+
+def measures(name, flows, settle, y):
+    here = price(flows, settle, y)
+    high = y + STEP > MOST
+    fault = "worthless" if here <= 0 else "low" if y < STEP else "high" if high else None
+    lines = [f"{name} refused bpv high" if high else f"{name} bpv {decimal(price(flows, settle, y + STEP) - here, 6)}"]
+    for word in ("duration", "convexity"):
+        if fault:
+            lines.append(f"{name} refused {word} {fault}")
+            continue
+        below, above = price(flows, settle, y - STEP), price(flows, settle, y + STEP)
+        if word == "duration":
+            lines.append(f"{name} duration {decimal(nearest((below - above) * 10**13, 2 * here), 9)}")
+        else:
+            lines.append(f"{name} convexity {nearest((below + above - 2 * here) * 10**8, here)}")
+    return "".join(line + "\n" for line in lines)
+
+
+def decimal(units, places):
+    sign = "-" if units < 0 else ""
+    return f"{sign}{abs(units) // 10**places}.{abs(units) % 10**places:0{places}d}"
+
+
+def shown(model, given):
+    """What a terminal shows of a case: the words and the files, by the model, with the measures behind a yield."""
+    words = given.split("\n")[1].split(" ")
+    files = []
+    for part in given.split("-- ")[1:]:
+        path, _, text = part.partition("\n")
+        filled = re.search(r"\\\+(\d+)\s*$", text)
+        if filled:
+            front = text[: filled.start()]
+            text = front + "\n" * (int(filled[1]) - len(front.encode()))
+        files.append((path, text.encode()))
+    shelf, sink = model.outside.MemoryShelf(files, 4096), model.outside.MemorySink(10**6, 4096)
+    try:
+        model.tools.yield_tool(words, shelf, sink)
+    except model.cli.Status as status:
+        return (status.line or "").replace("desk_yield", "desk_measure") + ("\n" if status.line else "")
+    text = bytes(sink.bytes).decode().replace("refused yield ", "refused measure ")
+    found = re.search(r"^(\w+) yield (\d+)\.(\d{9})\n", text, re.M)
+    if not found:
+        return text
+    market = model.cli.load_market(model.outside.MemoryShelf(files, 4096), words[0], "desk_measure")
+    flows = market.made[market.by_name[words[1].encode()]].flows
+    settle = model.days.read_day(words[2].encode())
+    return text + measures(found[1], flows, settle, int(found[2] + found[3]))
+
+
+class Model:
+    """The modules of the independent model."""
+
+    def __init__(self, folder):
+        folder = pathlib.Path(folder).resolve()
+        sys.path.insert(0, str(folder.parent))
+        for name in ("cli", "config", "days", "outside", "tools"):
+            setattr(self, name, importlib.import_module(f"{folder.name}.{name}"))
+        # the last of the formats that it knows
+        self.config.set_stage(20)
+
+
+def main():
+    model = Model(sys.argv[1])
+    out = []
+    for case in sys.stdin.read().split("==\n"):
+        given = case.partition("-- shown\n")[0]
+        out.append(given + "-- shown\n" + shown(model, given))
+    sys.stdout.write("==\n".join(out))
+
+
+if __name__ == "__main__":
+    main()

@@ -199,6 +199,31 @@ pub mod collections {
         fn into_iter(self) -> Self::IntoIter { self.0.into_iter() }
     }
     #[derive(Debug, PartialEq, Eq)]
+    pub struct VecDeque<T>(std_collections::VecDeque<T>);
+    impl<T> VecDeque<T> {
+        #[inline(always)]
+        pub fn new(_: Global) -> Self { VecDeque(std_collections::VecDeque::new()) }
+        #[inline(always)]
+        pub fn reserve(&mut self, n: usize) -> Result<(), AllocError> { self.0.reserve(n); Ok(()) }
+        #[inline(always)]
+        pub fn insert(&mut self, i: usize, x: T) -> Result<(), AllocFailed<T>> { self.0.insert(i, x); Ok(()) }
+        #[inline(always)]
+        pub fn remove(&mut self, i: usize) -> Option<T> { self.0.remove(i) }
+        #[inline(always)]
+        pub fn pop_front(&mut self) -> Option<T> { self.0.pop_front() }
+        #[inline(always)]
+        pub fn get(&self, i: usize) -> Option<&T> { self.0.get(i) }
+        #[inline(always)]
+        pub fn len(&self) -> usize { self.0.len() }
+        #[inline(always)]
+        pub fn capacity(&self) -> usize { self.0.capacity() }
+    }
+    impl<T> ::std::ops::Index<usize> for VecDeque<T> {
+        type Output = T;
+        #[inline(always)]
+        fn index(&self, i: usize) -> &T { &self.0[i] }
+    }
+    #[derive(Debug, PartialEq, Eq)]
     pub struct BTreeMap<K, V>(std_collections::BTreeMap<K, V>);
     impl<K: Ord, V> BTreeMap<K, V> {
         pub fn new(_: Global) -> Self { BTreeMap(std_collections::BTreeMap::new()) }

@@ -33,6 +33,21 @@ pub trait Listener {
     ) -> Self::Status;
 }
 
+/// A program that notes lines on standard error, too: what it does with words over files, a sink of bytes and a sink of notes.
+pub trait Noter {
+    /// How a run of it ends.
+    type Status: Ending;
+
+    /// Its run. The words are those behind its name. The line of its status comes behind the notes.
+    fn run<H: Shelf, K: Sink, N: Sink>(
+        alloc: Global,
+        words: &[String],
+        shelf: &mut H,
+        out: &mut K,
+        notes: &mut N,
+    ) -> Self::Status;
+}
+
 /// Runs a program of this name on the words of the command line, and answers how that ended.
 pub fn run_process<P: Program>(rt: &HostRuntime, program: &'static str) -> Ended<P::Status> {
     Ended {
@@ -46,6 +61,14 @@ pub fn run_listener<P: Listener>(rt: &HostRuntime, program: &'static str) -> End
     Ended {
         program,
         status: listen::<P>(rt),
+    }
+}
+
+/// Runs a program of this name on the words of the command line, with standard error for its notes, and answers how that ended.
+pub fn run_noter<P: Noter>(rt: &HostRuntime, program: &'static str) -> Ended<P::Status> {
+    Ended {
+        program,
+        status: note::<P>(rt),
     }
 }
 
@@ -76,6 +99,21 @@ fn listen<P: Listener>(rt: &HostRuntime) -> P::Status {
     let mut feed = InFeed::new(rt.stdin());
     let mut out = OutSink::new(io::writer(rt));
     P::run(rt.alloc(), &words, &mut shelf, &mut feed, &mut out)
+}
+
+// The same with standard error for notes.
+fn note<P: Noter>(rt: &HostRuntime) -> P::Status {
+    let words = match words_of(rt) {
+        Ok(words) => words,
+        Err(status) => return status,
+    };
+    let Ok(files) = rt.clone() else {
+        return P::Status::no_memory();
+    };
+    let mut shelf = FileShelf::new(files);
+    let mut out = OutSink::new(io::writer(rt));
+    let mut notes = OutSink::new(rt.stderr());
+    P::run(rt.alloc(), &words, &mut shelf, &mut out, &mut notes)
 }
 
 // The words behind the program's name. Words that are no text ask for nothing.

@@ -1,4 +1,5 @@
-//! The lab's program: `desk_lab run MARKET SCRIPT [ORDER]`, `desk_lab live WORDS..`, `desk_lab grid MARKET SCRIPT` and `desk_lab load N`.
+//! The lab's program: `desk_lab run MARKET SCRIPT [ORDER]`, `desk_lab check MARKET`, `desk_lab live WORDS..`, `desk_lab grid MARKET SCRIPT` and
+//! `desk_lab load N`. Under the name `desk_grid` it takes the words of that program.
 use desk_bench::DeskBench;
 use desk_names::Names;
 use rt_std::Vec;
@@ -161,9 +162,17 @@ fn main() {
     if args[1] == "live" {
         std::process::exit(live(&args[2..]));
     }
+    if args[0].ends_with("/desk_grid") {
+        grid(&args[1], &file(&args[2]));
+        std::process::exit(0);
+    }
     if args[1] == "grid" {
         grid(&args[2], &file(&args[3]));
         std::process::exit(0);
+    }
+    if args[1] == "check" {
+        let begun = played(std::vec::Vec::new(), &args[2], b"", Order::First);
+        std::process::exit(if begun.is_some() { 0 } else { 3 });
     }
     let order = match args.get(4).map(|a| a.as_str()) {
         None | Some("first") => Order::First,

@@ -86,14 +86,11 @@ fn is_negative_sum(rate: i128, parts: i128) -> bool
     rate < 0 && rate * parts <= -WHOLE
 }
 
-// How far from a guess the excess is tried, either way: rounding moves the place where it turns by less, nearly always.
-const NEAR: i128 = 2;
-
 // The greatest discount factor, for products with an excess that is cut.
 const MOST_UNITS: u128 = 4_000_000_000_000;
 
-// What an excess is divided by, so that its product with a discount factor fits 128 bits.
-const CUT: u128 = 20_000_000_000_000;
+// What an excess is divided by, so that its product with a discount factor fits 128 bits: 2^44.
+const CUT: u128 = 17_592_186_044_416;
 
 // The factor at which the excess turns, found by halving.
 fn least_root(
@@ -111,13 +108,15 @@ fn least_root(
     requires rate { unsigned_abs rate ≤ 10 ^ 10 }
     ensures { IsRoot (split_excess last.now end rate settled coupons.now) result }
 {
-    if excess_at(last, end, rate, settled, coupons, 0) >= 0 {
+    let below = excess_at(last, end, rate, settled, coupons, 0);
+    if below >= 0 {
         return None;
     }
-    if excess_at(last, end, rate, settled, coupons, MOST_FACTOR) < 0 {
+    let above = excess_at(last, end, rate, settled, coupons, MOST_FACTOR);
+    if above < 0 {
         return None;
     }
-    let guess = guess_of(last, end, rate, settled, coupons);
+    let guess = guess_of(below, above);
     let root = halved(last, end, rate, settled, coupons, guess);
     Some(factor_of(root))
 }
@@ -131,8 +130,8 @@ fn factor_of(root: i128) -> Discount
     Discount(root as i64)
 }
 
-// The place at which the excess turns between 0 and the greatest factor. Places near a guess are tried first, and then the
-// middle of what is left.
+// The place at which the excess turns between 0 and the greatest factor. A guess is tried first, then places ever farther
+// from it, and then the middle of what is left.
 fn halved(
     last: &CurveNode,
     end: Day,
@@ -167,25 +166,19 @@ fn halved(
     high
 }
 
-// A place near which the excess turns, as if it rose evenly from 0 to the greatest factor. Any answer will do.
-fn guess_of(last: &CurveNode, end: Day, rate: i128, settled: i128, coupons: &[Coupon]) -> i128
-    requires few { length coupons.now ≤ 801 }
-    requires after { AreAfter last.now.day coupons.now }
-    requires up_to { AreUpTo end coupons.now }
-    requires settled { pos 0 ≤ℤ settled }
-    requires settled_high { settled ≤ℤ pos (801 * (8 * 10 ^ 24)) }
-    requires rate { unsigned_abs rate ≤ 10 ^ 10 }
-{
-    let below = excess_at(last, end, rate, settled, coupons, 0).unsigned_abs() / CUT;
-    let above = excess_at(last, end, rate, settled, coupons, MOST_FACTOR).unsigned_abs() / CUT;
-    let all = below + above;
+// A place near which an excess turns, as if it rose evenly from one at 0 to another at the greatest factor. Any answer will
+// do.
+fn guess_of(below: i128, above: i128) -> i128 {
+    let below = below.unsigned_abs() / CUT;
+    let all = below + above.unsigned_abs() / CUT;
     if all == 0 {
         return 0;
     }
     i128::try_from(MOST_UNITS * below / all).unwrap_or(0)
 }
 
-// A number strictly between two that differ by more than 1: a little below a guess, a little above it, or in the middle.
+// A number strictly between two that differ by more than 1: a guess, then ever farther from it on the side where it lies
+// not between them, or else their middle. The guess and a neighbour are nearly always the last two.
 fn tried(low: i128, high: i128, guess: i128) -> i128
     requires low { pos 0 ≤ℤ low }
     requires apart { (low +ℤ pos 1) <ℤ high }
@@ -193,13 +186,11 @@ fn tried(low: i128, high: i128, guess: i128) -> i128
     ensures low { low <ℤ result }
     ensures high { result <ℤ high }
 {
-    let below = guess.saturating_sub(NEAR);
-    if low < below && below < high {
-        return below;
-    }
-    let above = guess.saturating_add(NEAR);
-    if low < above && above < high {
-        return above;
+    let near = guess
+        .max((2 * low + 1).saturating_sub(guess))
+        .min((2 * high - 1).saturating_sub(guess));
+    if low < near && near < high {
+        return near;
     }
     mean(low, high)
 }

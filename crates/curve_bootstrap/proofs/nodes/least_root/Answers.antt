@@ -13,12 +13,12 @@ returns c =
     let e = c.factor_of.ensures ∙ to_z-of_z w128 c.halved-root.result fr in
     let er = to_z-of_z w128 c.args.rate c.ranges.rate in
     let es = to_z-of_z w128 c.args.settled c.ranges.settled in
-    let f1 : FitsSigned w128 c.excess_at.result = omega (arith, ints) in
-    let f2 : FitsSigned w128 c.excess_at-2.result = omega (arith, ints) in
+    let f1 : FitsSigned w128 c.excess_at-below.result = omega (arith, ints) in
+    let f2 : FitsSigned w128 c.excess_at-above.result = omega (arith, ints) in
     let zero_fits : FitsSigned w128 (pos 0) = omega (arith, ints) in
     let most_fits : FitsSigned w128 most = omega (arith, ints) in
-    let low = sign_through f c.args.rate c.args.settled (pos 0) c.excess_at.result f1 c.ranges.rate c.ranges.settled zero_fits c.excess_at.ensures in
-    let high = sign_through f c.args.rate c.args.settled most c.excess_at-2.result f2 c.ranges.rate c.ranges.settled most_fits c.excess_at-2.ensures in
+    let low = sign_through f c.args.rate c.args.settled (pos 0) c.excess_at-below.result f1 c.ranges.rate c.ranges.settled zero_fits c.excess_at-below.ensures in
+    let high = sign_through f c.args.rate c.args.settled most c.excess_at-above.result f2 c.ranges.rate c.ranges.settled most_fits c.excess_at-above.ensures in
     let above = rw (er, es) at c.halved-root.ensures.above in
     let below = rw (er, es) at c.halved-root.ensures.below in
-    rw e (subst (λ (z : ℤ). z <ℤ pos 0) low (le_not _ c.if-excess_at-ge0.false), subst (λ (z : ℤ). pos 0 ≤ℤ z) high (lt_not _ c.if-excess_at-lt0.false), c.halved-root.ensures.low, c.halved-root.ensures.high, above, below)
+    rw e (subst (λ (z : ℤ). z <ℤ pos 0) low (le_not _ c.if-below-ge0.false), subst (λ (z : ℤ). pos 0 ≤ℤ z) high (lt_not _ c.if-above-lt0.false), c.halved-root.ensures.low, c.halved-root.ensures.high, above, below)

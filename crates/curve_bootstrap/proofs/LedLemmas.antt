@@ -1,5 +1,5 @@
 -- Lemmas on the days that the tenors of helpers lead to.
-use Rattle.std.proofs.Common.{◌≡◌, ℕ, ◌+◌, ◌<◌, ◌≤◌, arith, refl, ap, subst, ◌∙◌, ℤ, List, [], ◌∷◌, length, get_or, Option, Some, None, Result, Ok, Err, IfNone}
+use Rattle.std.proofs.Common.{◌≡◌, ℕ, ◌+◌, ◌<◌, ◌≤◌, arith, refl, ap, subst, ◌∙◌, ℤ, List, [], ◌∷◌, length, get_or, Option, Some, None, Result, Ok, Err, IfNone, IsSome}
 use Rattle.holiday_calendars.specs.declared.calendars.Calendar.{Calendar}
 use Rattle.curve_terms.specs.declared.terms.Helper.{Helper}
 use Rattle.curve_bootstrap.specs.declared.faults.HelperFault.{HelperFault}
@@ -44,3 +44,13 @@ led_all P calendar reference (first ∷ helpers) at h led = by_day (led_to calen
   by_day : (o : Option ℤ) → IfNone o (at ≡ 0) → IfNone o P
   by_day (Some day) none = tt
   by_day None none = absurd (omega arith)
+
+-- a day that is there
+pub led_there : (o : Option ℤ) (P : Type 0) → IsSome o → IfNone o P
+led_there (Some day) P there = tt
+led_there None P there = absurd cc
+
+-- what is given shows that a day is there
+pub led_if : (X : Type 0) (o : Option ℤ) (x : X) (fault : HelperFault) → IfNone o (◌≡◌ {A = Result X HelperFault} (Ok x) (Err fault)) → IsSome o
+led_if X (Some day) x fault led = refl
+led_if X None x fault led = absurd cc

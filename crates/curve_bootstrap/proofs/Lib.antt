@@ -10,5 +10,6 @@ pub mod LawLemmas
 pub mod Rows
 pub mod NodesLaw
 pub mod LedLemmas
+pub mod KeptLemmas
 pub mod MemoryLemmas
 pub mod BuiltRows

@@ -2,5 +2,6 @@ pub mod Coupon
 pub mod Node
 pub mod Split
 pub mod Built
+pub mod Kept
 pub mod Laws
 pub mod Examples

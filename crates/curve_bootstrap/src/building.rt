@@ -12,10 +12,12 @@ ghost use Rattle.curve_bootstrap.specs.Coupon.{AreCoupons};
 ghost use Rattle.curve_bootstrap.specs.Node.{last_of};
 ghost use Rattle.curve_bootstrap.specs.Built as due;
 ghost use Rattle.curve_bootstrap.specs.Laws.{IsBuilt};
+ghost use Rattle.curve_bootstrap.specs.Kept.{AreKept, IsPlan};
 
 use crate::faults::{HelperFault, numbered};
 use crate::helpers::{coupon, deposit_end, swap_coupons};
 use crate::nodes::{is_not_after, node};
+use crate::plans::{CurvePlans, HelperPlan, kept_coupons};
 use crate::{BuildFault, Coupon};
 use curve_points::{CurveNode, CurveValue, NodeList, ONE};
 use curve_terms::{CurveStart, CurveTerms, Helper};
@@ -48,8 +50,51 @@ pub fn build(
     ensures memory { due.takes_memory terms.now today rates.now ≡ false → result ≡ due.built_curve owner terms.now today rates.now }
 {
     match reference_day(terms, today) {
-        Some(reference) => built(alloc, owner, terms, reference, rates),
+        Some(reference) => built(alloc, owner, terms, reference, rates, &[]),
         None => Err(BuildFault::DateRange),
+    }
+}
+
+/// The same curve, by what is kept of the curves that were built before. What is made of its helpers anew is kept, too;
+/// where memory is wanting for that, it is built without.
+pub fn build_by(
+    alloc: Global,
+    owner: ObjId,
+    terms: &CurveTerms,
+    today: Day,
+    rates: &[Rate],
+    kept: &mut CurvePlans,
+) -> Result<CurveValue, BuildFault>
+    requires range { IsInRange terms.now }
+    requires rates { length rates.now ≡ length terms.now.helpers }
+    ensures curve { due.Gives (due.built_curve owner terms.now today rates.now) result }
+    ensures nodes { IfOk result (λ curve. IsBuilt terms.now today rates.now curve) }
+    ensures reference { IfNone (due.reference_day terms.now today) (result ≡ Err BuildFault.DateRange) }
+{
+    match reference_day(terms, today) {
+        Some(reference) => built_by(alloc, owner, terms, reference, rates, kept),
+        None => Err(BuildFault::DateRange),
+    }
+}
+
+// The curve from a reference day, by what is kept.
+fn built_by(
+    alloc: Global,
+    owner: ObjId,
+    terms: &CurveTerms,
+    reference: Day,
+    rates: &[Rate],
+    kept: &mut CurvePlans,
+) -> Result<CurveValue, BuildFault>
+    requires range { IsInRange terms.now }
+    requires rates { length rates.now ≡ length terms.now.helpers }
+    ensures { due.Gives (due.curve_of owner reference
+        (due.nodes_of (due.coupons_of terms.now.cal reference) (origin reference) 1 [] terms.now.helpers rates.now)) result }
+{
+    kept.keep(alloc, owner, terms, reference);
+    match kept.helpers_of(owner, &terms.cal, reference) {
+        Some(plans) => built(alloc, owner, terms, reference, rates, plans),
+        None => built(alloc, owner, terms, reference, rates, &[]),
     }
 }
 
@@ -71,23 +116,32 @@ fn settled_day(cal: &Calendar, settlement: u8, today: Day) -> Option<Day>
     advance(cal, today, on, Unit::Days, Convention::Following, false).ok()
 }
 
-// The curve from a reference day.
+// The curve from a reference day, by plans of its helpers.
 fn built(
     alloc: Global,
     owner: ObjId,
     terms: &CurveTerms,
     reference: Day,
     rates: &[Rate],
+    plans: &[HelperPlan],
 ) -> Result<CurveValue, BuildFault>
     requires range { IsInRange terms.now }
     requires rates { length rates.now ≡ length terms.now.helpers }
+    requires plans { All (IsPlan terms.now.cal reference) plans.now }
     ensures given { due.Gives (due.curve_of owner reference
         (due.nodes_of (due.coupons_of terms.now.cal reference) (origin reference) 1 [] terms.now.helpers rates.now)) result }
     ensures day { IfNone (due.first_led terms.now.cal reference terms.now.helpers) (result ≡ Err BuildFault.DateRange) }
     ensures memory { due.first_takes terms.now.cal reference terms.now.helpers rates.now ≡ false
         → result ≡ due.curve_of owner reference (due.nodes_of (due.coupons_of terms.now.cal reference) (origin reference) 1 [] terms.now.helpers rates.now) }
 {
-    match nodes_from(alloc, &terms.cal, reference, terms.helpers.items(), rates) {
+    match nodes_from(
+        alloc,
+        &terms.cal,
+        reference,
+        terms.helpers.items(),
+        rates,
+        plans,
+    ) {
         Ok(nodes) => Ok(CurveValue::new(owner, reference, nodes)),
         Err(fault) => Err(fault),
     }
@@ -100,8 +154,10 @@ fn nodes_from(
     reference: Day,
     helpers: &[Helper],
     rates: &[Rate],
+    plans: &[HelperPlan],
 ) -> Result<NodeList, BuildFault>
     requires range { All IsHelper helpers.now }
+    requires plans { All (IsPlan calendar.now reference) plans.now }
     requires count { length helpers.now ≤ 64 }
     requires rates { length rates.now ≡ length helpers.now }
     ensures given { due.Gives (due.nodes_of (due.coupons_of calendar.now reference) (origin reference) 1 [] helpers.now rates.now) result }
@@ -125,6 +181,7 @@ fn nodes_from(
             &last,
             helper,
             rates[at],
+            kept_coupons(plans, at, helper),
         ) {
             Ok(found) => {
                 last = found;
@@ -136,8 +193,35 @@ fn nodes_from(
     Ok(nodes)
 }
 
-// The node of one helper behind others.
+// The node of one helper behind others, by its coupons where they are kept.
 fn next_node(
+    alloc: Global,
+    calendar: &Calendar,
+    from: &CurveNode,
+    nodes: &[CurveNode],
+    last: &CurveNode,
+    helper: &Helper,
+    rate: Rate,
+    kept: Option<&[Coupon]>,
+) -> Result<CurveNode, HelperFault>
+    requires range { IsHelper helper.now }
+    requires rising { IsRisingFrom from.now.day nodes.now }
+    requires last { last.now ≡ last_of from.now nodes.now }
+    requires kept { IfSome kept (λ coupons. AreKept calendar.now from.now.day helper.now coupons.now) }
+    ensures given { due.GivesHelper (λ node. node) (due.node_by from.now nodes.now rate (due.coupons_of calendar.now from.now.day helper.now)) result }
+    ensures after { IfOk result (λ node. last.now.day <ℤ node.day) }
+    ensures day { IfNone (due.led_to calendar.now from.now.day helper.now) (result ≡ Err HelperFault.DateRange) }
+    ensures memory { due.takes_for calendar.now from.now nodes.now rate helper.now helper.now.every ≡ false
+        → result ≡ due.node_by from.now nodes.now rate (due.coupons_of calendar.now from.now.day helper.now) }
+{
+    match kept {
+        Some(coupons) => node_by(from, nodes, last, rate, coupons),
+        None => fresh_node(alloc, calendar, from, nodes, last, helper, rate),
+    }
+}
+
+// The node of one helper behind others, by coupons that are made anew.
+fn fresh_node(
     alloc: Global,
     calendar: &Calendar,
     from: &CurveNode,

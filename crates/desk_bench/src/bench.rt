@@ -4,15 +4,19 @@ ghost use Rattle.desk_terms.specs.Bench.{Answers, counted};
 ghost use Rattle.desk_terms.specs.Reading.{reading_of, IsWellFormed};
 
 use crate::pricing::{price_of, sum_answer};
+use curve_bootstrap::CurvePlans;
 use desk_names::ObjId;
 use desk_terms::{Bench, BenchFault, Job, Value};
 use fixed_amount::Amount;
 use std::alloc::{AllocError, Global};
 
-/// Prices by the rules of this project, and counts its calls.
+/// Prices by the rules of this project, and counts its calls. It keeps the coupons of curves from one price to the next, for
+/// 1,024 curves at most: what it answers does not depend on that.
 #[derive(Drop)]
 pub struct DeskBench {
     calls: u64,
+    // What is kept of curves.
+    plans: CurvePlans,
 }
 
 impl DeskBench {
@@ -20,7 +24,10 @@ impl DeskBench {
     pub fn new() -> DeskBench
         ensures { result.calls ≡ 0 }
     {
-        DeskBench { calls: 0 }
+        DeskBench {
+            calls: 0,
+            plans: CurvePlans::new(),
+        }
     }
 }
 
@@ -49,7 +56,7 @@ impl Bench for DeskBench {
         ensures memory { WantsOnly (MayWant job.now.object job.now.terms.now job.now.inputs.now) result }
     {
         self.calls = next_count(self.calls);
-        price_of(alloc, job)
+        price_of(alloc, job, &mut self.plans)
     }
 
     // The trait's clauses for this bench, which wants no memory for it.
@@ -76,11 +83,12 @@ pub struct LogEntry {
 pub type LogList = Vec<LogEntry>;
 
 /// Prices as `DeskBench` does, and keeps a log of its calls. Where the log has room for a call, this takes no more memory
-/// than its price.
+/// than its price and what is kept of a curve.
 #[derive(Drop)]
 pub struct ListBench {
     calls: u64,
     log: LogList,
+    plans: CurvePlans,
 }
 
 impl ListBench {
@@ -94,6 +102,7 @@ impl ListBench {
         ListBench {
             calls: 0,
             log: LogList::new(alloc),
+            plans: CurvePlans::new(),
         }
     }
 
@@ -104,7 +113,11 @@ impl ListBench {
         ensures room { IfOk result (λ bench. vec_capacity bench.log ≡ calls) }
     {
         let log = LogList::with_capacity(alloc, calls)?;
-        Ok(ListBench { calls: 0, log })
+        Ok(ListBench {
+            calls: 0,
+            log,
+            plans: CurvePlans::new(),
+        })
     }
 
     /// The calls so far. A call for which memory ran out is not among them.
@@ -144,7 +157,7 @@ impl Bench for ListBench {
         ensures room { vec_capacity self.old.log ≤ vec_capacity self.new.log }
     {
         self.calls = next_count(self.calls);
-        match price_of(alloc, job) {
+        match price_of(alloc, job, &mut self.plans) {
             Ok(value) => {
                 self.log.push(entry(job.object, true))?;
                 Ok(value)

@@ -7,7 +7,7 @@ ghost use Rattle.desk_terms.specs.declared.terms.Terms.TheVariants.{Curve};
 ghost use Rattle.desk_bench.specs.Pricing.{rates_of, build_cause, implied_cause, fault_of, built_answer, seen_answer, seen, curve_price, implied_price, MayWantSeen, WantsOnly};
 ghost use Rattle.curve_points.specs.Implied.{implied_curve};
 
-use curve_bootstrap::{BuildFault, build};
+use curve_bootstrap::{BuildFault, CurvePlans, build_by};
 use curve_points::{CurveValue, ImpliedFault, implied};
 use curve_terms::CurveTerms;
 use day_number::Day;
@@ -16,7 +16,7 @@ use desk_terms::{BenchFault, Cause, Input, Value};
 use fixed_amount::Rate;
 use std::alloc::{AllocError, Global};
 
-/// The curve of an object, by the rates of its helpers in their order.
+/// The curve of an object, by the rates of its helpers in their order and what is kept of curves.
 #[inline(never)]
 pub fn curve_price(
     alloc: Global,
@@ -24,13 +24,14 @@ pub fn curve_price(
     terms: &CurveTerms,
     today: Day,
     inputs: &[Input],
+    kept: &mut CurvePlans,
 ) -> Result<Value, BenchFault>
     requires range { IsInRange terms.now }
     requires rates { AreRates terms.now.helpers inputs.now }
     ensures { Answers (curve_price object terms.now (day_read (Curve terms.now) today) inputs.now) result }
 {
     let rates = rates_of(alloc, inputs)?;
-    let curve = build(alloc, object, terms, today, rates.as_slice());
+    let curve = build_by(alloc, object, terms, today, rates.as_slice(), kept);
     built_answer(object, curve)
 }
 

@@ -8,6 +8,7 @@ ghost use Rattle.discount_engines.specs.Money.{money_of};
 ghost use Rattle.discount_engines.specs.Price.{instrument_price};
 
 use crate::curves::{curve_price, implied_price};
+use curve_bootstrap::CurvePlans;
 use desk_names::ObjId;
 use desk_terms::{BenchFault, Job, Terms, Value};
 use discount_engines::{PriceFault, price, sum_price};
@@ -16,14 +17,14 @@ use std::alloc::Global;
 
 /// The price of a job. An instrument's takes no memory.
 #[inline(always)]
-pub fn price_of(alloc: Global, job: &Job<'_>) -> Result<Value, BenchFault>
+pub fn price_of(alloc: Global, job: &Job<'_>, kept: &mut CurvePlans) -> Result<Value, BenchFault>
     requires { IsWellFormed (reading_of job.now) }
     ensures price { Answers (desk_calc (reading_of job.now)) result }
     ensures memory { WantsOnly (MayWant job.now.object job.now.terms.now job.now.inputs.now) result }
 {
     let inputs = job.inputs.items();
     match job.terms {
-        Terms::Curve(terms) => curve_price(alloc, job.object, terms, job.today, inputs),
+        Terms::Curve(terms) => curve_price(alloc, job.object, terms, job.today, inputs, kept),
         Terms::Implied { reference, .. } => implied_price(alloc, job.object, *reference, inputs),
         Terms::Composite(_) => instrument_price(alloc, job),
         Terms::Stock { .. } => instrument_price(alloc, job),

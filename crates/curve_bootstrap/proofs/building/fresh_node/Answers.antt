@@ -8,7 +8,7 @@ use Rattle.curve_bootstrap.specs.Built.{led_by, node_by, swap_end, takes_for}
 use Rattle.curve_bootstrap.proofs.CouponLemmas.{coupons_are}
 use Rattle.curve_bootstrap.proofs.GivenLemmas.{gives_by}
 use Rattle.curve_bootstrap.proofs.MemoryLemmas.{gives_exact, deposit_day, swap_exact}
-use Rattle.curve_bootstrap.proofs.building.next_node.Goals as goal
+use Rattle.curve_bootstrap.proofs.building.fresh_node.Goals as goal
 
 -- the node is that of the coupons of the helper's kind
 pub returns-in-None-clause-memory : goal.returns-in-None-clause-memory

@@ -4,21 +4,30 @@ use crate::rows::Row;
 use crate::tallies::Tally;
 use crate::terms::Asked;
 use anyhow::{Result, bail};
-use curve_bootstrap::{BuildFault, build};
+use curve_bootstrap::{BuildFault, CurvePlans, build, build_by};
 use curve_points::{CurveNode, CurveValue};
 use curve_terms::is_in_range;
 use day_number::read_day;
 use desk_names::ObjId;
 use std::alloc::Global;
 
-// What the row's helpers give. None where they cannot be read, or are out of range.
-fn answer_of(alloc: Global, row: &Row<'_>) -> Option<Result<CurveValue, BuildFault>> {
+// What the row's helpers give, also by what is kept of the rows before it. None where they cannot be read, or are out of
+// range.
+fn answers_of(
+    alloc: Global,
+    row: &Row<'_>,
+    kept: &mut CurvePlans,
+) -> Option<[Result<CurveValue, BuildFault>; 3]> {
     let today = read_day(row.today.as_bytes())?;
     let asked = Asked::read(alloc, row)?;
     if !is_in_range(&asked.terms) || asked.rates.len() != asked.terms.helpers.len() {
         return None;
     }
-    Some(build(alloc, ObjId(1), &asked.terms, today, &asked.rates))
+    Some([
+        build(alloc, ObjId(1), &asked.terms, today, &asked.rates),
+        build_by(alloc, ObjId(1), &asked.terms, today, &asked.rates, kept),
+        build_by(alloc, ObjId(1), &asked.terms, today, &asked.rates, kept),
+    ])
 }
 
 // The text of a fault in the table.
@@ -75,11 +84,21 @@ fn is_curve(curve: &CurveValue, row: &Row<'_>) -> Option<bool> {
 }
 
 // Whether the row's helpers give what the row says. None where it cannot be read.
-fn agrees(alloc: Global, line: &str) -> Option<bool> {
+fn agrees(alloc: Global, line: &str, kept: &mut CurvePlans) -> Option<bool> {
     let row = Row::read(line)?;
-    match answer_of(alloc, &row)? {
+    for answer in answers_of(alloc, &row, kept)? {
+        if !is_answer(alloc, answer, &row)? {
+            return Some(false);
+        }
+    }
+    Some(true)
+}
+
+// Whether an answer is the row's.
+fn is_answer(alloc: Global, answer: Result<CurveValue, BuildFault>, row: &Row<'_>) -> Option<bool> {
+    match answer {
         Ok(_) if row.profile.starts_with("refused") => Some(false),
-        Ok(curve) => is_curve(&curve, &row),
+        Ok(curve) => is_curve(&curve, row),
         Err(fault) => Some(refusal(alloc, fault)?.as_str() == row.profile),
     }
 }
@@ -92,8 +111,9 @@ pub(crate) fn compare_curves(
     text: &str,
 ) -> Result<()> {
     let mut rows = Tally::new(kind);
+    let mut kept = CurvePlans::new();
     for line in text.lines().skip(1) {
-        let Some(agrees) = agrees(alloc, line) else {
+        let Some(agrees) = agrees(alloc, line, &mut kept) else {
             bail!("this row cannot be read: {line}");
         };
         rows.count(rt, line, agrees)?;

@@ -18,6 +18,7 @@ use Rattle.curve_bootstrap.specs.declared.faults.BuildFault.TheVariants as build
 use Rattle.curve_points.specs.Curve.{Curve, origin}
 use Rattle.curve_bootstrap.specs.Node.{node_of}
 use Rattle.curve_bootstrap.specs.Built.{coupons_of, reference_day, built_curve}
+use Rattle.curve_bootstrap.specs.Par.{par_rate}
 
 abbrev pub tenor_of : ℤ → TimeUnit → Tenor
 tenor_of count unit = record { count = count; unit = unit }
@@ -51,6 +52,10 @@ paid day parts = record { day = day; parts = parts }
 -- a curve from 2024-03-28 to a node
 abbrev pub curve_to : ℤ → ℤ → Curve
 curve_to day factor = record { owner = 1; reference = pos 19_810; nodes = record { day = day; factor = factor } ∷ [] }
+
+-- a curve from 2024-02-29 to the end of a swap of two coupons
+abbrev pub leap_year : ℤ → Curve
+leap_year factor = record { owner = 1; reference = pos 19_782; nodes = record { day = pos 20_147; factor = factor } ∷ [] }
 
 -- the days are 2024-01-02 (19,724), 2024-01-04 (19,726), 2024-02-29 (19,782), 2024-03-01 (19,783), 2024-03-27 to
 -- 2024-04-02 (19,809 to 19,815, with Good Friday and Easter Monday), 2024-04-29 (19,842), 2024-04-30 (19,843),
@@ -96,6 +101,12 @@ pub record AreWorked : Type 0 where
       ≡ Ok (paid (pos 20_147) (pos 5_673_122) ∷ paid (pos 20_329) (pos 5_673_122) ∷ [])
   pub swap_from_a_holiday_unadjusted : coupons_of (One Weekends) (pos 19_966) (swap Unadjusted false)
       ≡ Ok (paid (pos 20_147) (pos 5_641_951) ∷ paid (pos 20_331) (pos 5_735_464) ∷ [])
+  pub deposit_par : par_rate (One Target) (curve_to (pos 19_843) (pos 996_710_854_182)) (deposit ModifiedFollowing true)
+      ≡ Ok (record { end = pos 19_843; rate = pos 36_000_000 })
+  pub swap_par : par_rate (One Null) (leap_year (pos 960_641_622_065)) (swap Following false) ≡ Ok (record { end = pos 20_147; rate = pos 40_000_000 })
+  pub swap_below_par : par_rate (One Null) (leap_year (pos 1_000_000_000_000)) (swap Following false) ≡ Ok (record { end = pos 20_147; rate = pos 0 })
+  pub short_curve : par_rate (One Null) (curve_to (pos 19_811) (pos 996_000_000_000)) (swap Following false) ≡ Err helper.Discount
+  pub par_past : par_rate (One Null) (record { owner = 1; reference = pos 83_979; nodes = [] }) (deposit Following false) ≡ Err helper.DateRange
   pub deposit_past : coupons_of (One Null) (pos 83_979) (deposit Following false) ≡ Err helper.DateRange
   pub swap_past : coupons_of (One Null) (pos 83_979) (swap Following false) ≡ Err helper.DateRange
   pub built_past : built_curve 1 (terms_of (One Null) 1 (deposit Following false ∷ [])) (pos 84_005) (pos 36_000_000 ∷ [])

@@ -318,7 +318,7 @@ fn node_by(
 }
 
 // The day of the last coupon.
-fn end_of(reference: Day, coupons: &[Coupon]) -> Day
+pub(crate) fn end_of(reference: Day, coupons: &[Coupon]) -> Day
     ensures { result ≡ due.end_of reference coupons.now }
 {
     let count = coupons.len();

@@ -12,7 +12,7 @@ use Rattle.day_counters.specs.Counter.{frac}
 use Rattle.schedule_rules.specs.Step.{step, steps_from}
 use Rattle.schedule_rules.specs.Raw.{put_into, raw_days}
 use Rattle.schedule_rules.specs.Schedule.{each_of, schedule}
-use Rattle.curve_points.specs.Point.{beyond}
+use Rattle.curve_points.specs.Point.{beyond, discount_at}
 use Rattle.curve_bootstrap.specs.Coupon.{total}
 use Rattle.curve_bootstrap.specs.Node.{excess, node_of}
 use Rattle.curve_bootstrap.specs.Built.{coupons_of, nodes_of, built_curve}
@@ -20,7 +20,7 @@ use Rattle.curve_bootstrap.proofs.BuiltRows.{node_at_a_month_end, node_by_the_da
 use Rattle.curve_bootstrap.proofs.laws.curves_are_worked_through.Goals as goal
 
 pub returns : goal.returns
-unfolding schedule each_of adjusted next previous first_from last_to raw_days put_into step steps_from months_later last_of_month is_business_day is_target_holiday weekday_number date_of date_after date_in_year moon_days sunday_days early_weeks easter_place easter_day civil_number days_from_civil day_count days_of_years days_of_months advanced days_after days_before frac beyond total excess node_of coupons_of nodes_of built_curve
+unfolding schedule each_of adjusted next previous first_from last_to raw_days put_into step steps_from months_later last_of_month is_business_day is_target_holiday weekday_number date_of date_after date_in_year moon_days sunday_days early_weeks easter_place easter_day civil_number days_from_civil day_count days_of_years days_of_months advanced days_after days_before frac beyond total excess node_of coupons_of nodes_of built_curve discount_at
 returns c = record {
   settled = refl;
   settled_over_easter = refl;
@@ -44,6 +44,11 @@ returns c = record {
   swap_from_a_holiday_following = refl;
   swap_from_a_holiday_preceding = refl;
   swap_from_a_holiday_unadjusted = refl;
+  deposit_par = refl;
+  swap_par = refl;
+  swap_below_par = refl;
+  short_curve = refl;
+  par_past = refl;
   deposit_past = refl;
   swap_past = refl;
   built_past = refl;

@@ -80,6 +80,7 @@ for name in ("curve_by_hand", "curve_markets", "curve_version_two", "curve_fault
             pathlib.Path(path).write_text(text)
         ran = run(words)
         assert ran.stdout + ran.stderr == shown, case
+        assert (ran.stdout == "") == (ran.returncode != 0)
         if ran.stdout.startswith("<svg"):
             found["pictures"] += 1
             found["curves in pictures"] += len(points(ran.stdout, "--forward" in words))

@@ -4,7 +4,8 @@
     tools/curve_pictures.py [--csv] [--zero | --forward] DAY < TRANSCRIPT
 
 DAY is the market's day. TRANSCRIPT has the line of an ask for each curve, as `NAME curve DAY FACTOR DAY FACTOR .. MARK N` or
-`NAME refused CAUSE N`. Writes the picture (or with --csv the table), or the lines of the curves that are refused.
+`NAME refused CAUSE N`. Writes the picture (or with --csv the table); or to standard error the lines of the curves that are refused and
+that of the status, and ends with 10.
 """
 
 import datetime
@@ -181,10 +182,10 @@ def picture(today, lines, plot):
 
 
 def shown(today, curves, plot, as_table):
-    """The text of curves; the lines of those of which a rate is refused."""
+    """The text of curves, or the lines of those of which a rate is refused."""
     lines = lines_of(curves, plot)
-    refused = "".join(f"{name} refused raterange {name}\n" for name, points in lines if points is None)
-    return refused or (table(lines, plot) if as_table else picture(today, lines, plot))
+    refused = [f"{name} refused raterange {name}" for name, points in lines if points is None]
+    return "" if refused else table(lines, plot) if as_table else picture(today, lines, plot), refused
 
 
 def main():
@@ -193,10 +194,11 @@ def main():
     plot = {"--zero": "zero", "--forward": "forward"}.get(words[as_table], "factor")
     today = day(words[-1])
     curves, refused = read(line for line in sys.stdin if line.strip())
+    text, refused = ("", refused) if refused else shown(today, curves, plot, as_table)
+    sys.stdout.write(text)
     if refused:
-        sys.stdout.write("".join(line + "\n" for line in refused))
-    else:
-        sys.stdout.write(shown(today, curves, plot, as_table))
+        sys.stderr.write("".join(line + "\n" for line in [*refused, "desk_curve: refused"]))
+        sys.exit(10)
 
 
 if __name__ == "__main__":

@@ -25,7 +25,7 @@ module _ (calc : Calc) (p : Standing) (texts : List (List ℕ)) where
   text_found sheet objects is = ap (text_for calc p sheet) is
 
   pub text_lines : (sheet : Sheet) (lines : List ℕ) → named_of p.state.market p.names texts ≡ Err lines
-      → curve_text calc p sheet texts ≡ lines
+      → curve_text calc p sheet texts ≡ Err lines
   unfolding curve_text
   text_lines sheet lines is = ap (text_for calc p sheet) is
 

@@ -1,4 +1,4 @@
--- What is written of curves, and what is computed for it.
+-- What is shown of curves, and what is computed for it.
 use Rattle.std.specs.Prelude.{ℕ, ℤ, Bool, if◌then◌else◌, List, [], ◌∷◌, Result, Ok, Err}
 use Rattle.curve_points.specs.Curve.{Curve}
 use Rattle.curve_lines.specs.declared.lines.Plot.{Plot}
@@ -23,34 +23,38 @@ drawn_text names of_object sheet lines =
     if sheet.as_table then table_text names of_object sheet.plot lines
     else picture_text names of_object sheet.plot sheet.today lines
 
--- lines, or where there are none another text
-abbrev pub or_else : List ℕ → List ℕ → List ℕ
-or_else [] text = text
-or_else (byte ∷ bytes) text = byte ∷ bytes
+-- WHAT IS SHOWN of names: a picture or a table, or lines of what stands against it
+abbrev pub Shown : Type 0
+Shown = Result (List ℕ) (List ℕ)
 
--- what is written of the curves of which a rate is refused, or where there is none the table or the picture
-abbrev pub plotted_text : List (List ℕ) → List ℕ → Sheet → List Curve → List ℕ
+-- lines, or where there are none what is shown
+abbrev pub or_else : List ℕ → Shown → Shown
+or_else [] shown = shown
+or_else (byte ∷ bytes) shown = Err (byte ∷ bytes)
+
+-- the lines of the curves of which a rate is refused, or where there is none the table or the picture
+abbrev pub plotted_text : List (List ℕ) → List ℕ → Sheet → List Curve → Shown
 plotted_text names of_object sheet curves =
     or_else (unplotted names of_object sheet.plot curves)
-    (drawn_text names of_object sheet (plotted_lines sheet.plot curves))
+    (Ok (drawn_text names of_object sheet (plotted_lines sheet.plot curves)))
 
 -- the lines of the curves that are refused, or where there is none the table or the picture
-abbrev pub priced_text : Calc → Standing → Sheet → List ℕ → List ℕ
+abbrev pub priced_text : Calc → Standing → Sheet → List ℕ → Shown
 priced_text calc p sheet objects =
     or_else (refused_lines calc p.state.market p.names p.of_object objects)
     (plotted_text p.names p.of_object sheet (curves_of calc p.state.market objects))
 
 -- the same of names that may stand for no curves
-abbrev pub text_for : Calc → Standing → Sheet → Result (List ℕ) (List ℕ) → List ℕ
+abbrev pub text_for : Calc → Standing → Sheet → Result (List ℕ) (List ℕ) → Shown
 text_for calc p sheet (Ok objects) = priced_text calc p sheet objects
-text_for calc p sheet (Err lines) = lines
+text_for calc p sheet (Err lines) = Err lines
 
 abbrev pub calls_for : Calc → Standing → Result (List ℕ) (List ℕ) → List (ℕ × Outcome)
 calls_for calc p (Ok objects) = (curves_asking calc objects p.state).calls
 calls_for calc p (Err lines) = []
 
--- THE TEXT of names
-unfoldable pub curve_text : Calc → Standing → Sheet → List (List ℕ) → List ℕ
+-- THE PICTURE OR THE TABLE of names, or the lines of what stands against it
+unfoldable pub curve_text : Calc → Standing → Sheet → List (List ℕ) → Shown
 curve_text calc p sheet texts = text_for calc p sheet (named_of p.state.market p.names texts)
 
 -- THE COMPUTATIONS for names

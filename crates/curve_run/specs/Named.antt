@@ -49,10 +49,10 @@ named_of market names texts =
     then unless (lines_named market names texts) (objects_named market names texts)
     else Err (codes "refused curve none\n")
 
--- what the code found is this
-abbrev pub NamedIs : Result (Vec ℕ Global) (Vec ℕ Global) → Result (List ℕ) (List ℕ) → Type 0
-NamedIs (Ok curves) named = named ≡ Ok curves.items
-NamedIs (Err lines) named = named ≡ Err lines.items
+-- what the code found, or wrote, is this
+abbrev pub ItemsAre : Result (Vec ℕ Global) (Vec ℕ Global) → Result (List ℕ) (List ℕ) → Type 0
+ItemsAre (Ok curves) named = named ≡ Ok curves.items
+ItemsAre (Err lines) named = named ≡ Err lines.items
 
 -- each of these objects is a curve
 abbrev pub AreCurves : Market → List ℕ → Type 0

@@ -1,4 +1,4 @@
--- Small markets and words that are worked through by hand.
+-- Small markets, statuses and words that are worked through by hand.
 use Rattle.std.specs.Prelude.{◌≡◌, ℕ, List, [], ◌∷◌, codes, true, false, pos, None, Some, Ok, Err}
 use Rattle.curve_lines.specs.declared.lines.Plot.{Plot}
 use Rattle.curve_lines.specs.declared.lines.Plot.TheVariants.{Factors, Zeros, Forwards}
@@ -11,7 +11,11 @@ use Rattle.desk_model.specs.Examples.{curve_of}
 use Rattle.desk_model.specs.Visit.{log_of}
 use Rattle.market_file.specs.Market.{Market}
 use Rattle.market_desk.specs.Standing.{standing_of}
-use Rattle.curve_run.specs.Lines.{curve_text, curve_calls}
+use Rattle.tool_run.specs.declared.status.MarketStatus.TheVariants as ended
+use Rattle.curve_run.specs.declared.status.CurveStatus.{CurveStatus}
+use Rattle.curve_run.specs.declared.status.CurveStatus.TheVariants.{Of, Refused}
+use Rattle.curve_run.specs.Lines.{Shown, curve_text, curve_calls}
+use Rattle.curve_run.specs.Status.{code_of, words_of, status_for}
 use Rattle.curve_run.specs.Words.{request_of}
 
 -- The quote `r`, without a value, a curve `c`, and `m`, which is `c` seen from a later day.
@@ -47,24 +51,36 @@ abbrev pub straight : Calc
 straight reading = straight_price reading.object reading.terms
 
 -- the table of these names
-abbrev pub sheet_text : Plot → Market → List (List ℕ) → List ℕ
+abbrev pub sheet_text : Plot → Market → List (List ℕ) → Shown
 sheet_text plot market names =
     curve_text straight (standing_of market) (record { as_table = true; plot = plot; today = market.today }) names
 
-abbrev pub table_of : Market → List (List ℕ) → List ℕ
+abbrev pub table_of : Market → List (List ℕ) → Shown
 table_of market names = sheet_text Factors market names
 
 pub record IsWorked : Type 0 where
   pub curve : table_of small (codes "c" ∷ []) ≡
-      codes "curve,day,discount\nc,2024-01-02,1.000000000000\nc,2024-04-11,0.990099009901\n"
+      Ok (codes "curve,day,discount\nc,2024-01-02,1.000000000000\nc,2024-04-11,0.990099009901\n")
   pub zeros : sheet_text Zeros small (codes "c" ∷ []) ≡
-      codes "curve,day,zero\nc,2024-02-02,0.036249876\nc,2024-03-02,0.036354582\nc,2024-04-02,0.036467180\nc,2024-04-11,0.036500000\n"
-  pub refused : table_of small (codes "c" ∷ codes "m" ∷ []) ≡ codes "m refused toolarge m\n"
+      Ok (codes "curve,day,zero\nc,2024-02-02,0.036249876\nc,2024-03-02,0.036354582\nc,2024-04-02,0.036467180\nc,2024-04-11,0.036500000\n")
+  pub refused : table_of small (codes "c" ∷ codes "m" ∷ []) ≡ Err (codes "m refused toolarge m\n")
   pub unnamed : table_of small (codes "x" ∷ codes "c" ∷ codes "today" ∷ codes "r" ∷ []) ≡
-      codes "refused curve unknown x\nrefused curve kind today\nrefused curve kind r\n"
-  pub none : table_of bare (codes "c" ∷ codes "r" ∷ []) ≡ codes "refused curve none\n"
+      Err (codes "refused curve unknown x\nrefused curve kind today\nrefused curve kind r\n")
+  pub none : table_of bare (codes "c" ∷ codes "r" ∷ []) ≡ Err (codes "refused curve none\n")
+  pub drawn_so : status_for (table_of small (codes "c" ∷ [])) ≡ Of ended.Done
+  pub unnamed_so : status_for (table_of small (codes "x" ∷ codes "c" ∷ [])) ≡ Refused
+  pub valueless_so : status_for (table_of small (codes "m" ∷ [])) ≡ Refused
   pub calls : log_of (curve_calls straight (standing_of small) (codes "c" ∷ codes "m" ∷ codes "c" ∷ [])) ≡ (2, true) ∷ (3, false) ∷ []
   pub no_calls : curve_calls straight (standing_of small) (codes "c" ∷ codes "r" ∷ []) ≡ []
+
+-- a code, and the words behind the program's name
+abbrev pub Tells : CurveStatus → ℕ → List ℕ → Type 0
+Tells status code words = (code_of status ≡ code) × (words_of status ≡ words)
+
+pub record AreTold : Type 0 where
+  pub done : Tells (Of ended.Done) 0 []
+  pub no_memory : Tells (Of ended.NoMemory) 7 (codes "no memory")
+  pub refused : Tells Refused 10 (codes "refused")
 
 abbrev pub eight : List (List ℕ)
 eight = codes "a" ∷ codes "b" ∷ codes "c" ∷ codes "d" ∷ codes "e" ∷ codes "f" ∷ codes "g" ∷ codes "a" ∷ []

@@ -3,7 +3,7 @@ ghost use Rattle.std.specs.Prelude.{◌≡◌, ◌++◌, length, map, codes, IfO
 ghost use Rattle.std.specs.String.{string_bytes};
 ghost use Rattle.desk_terms.specs.declared.kind.Wanted.TheVariants.{CurveTarget};
 ghost use Rattle.market_desk.specs.Standing.{object_named};
-ghost use Rattle.curve_run.specs.Named.{is_curve, curve_below, object_in, line_in, objects_named, lines_named, unless, named_of, NamedIs, AreCurves};
+ghost use Rattle.curve_run.specs.Named.{is_curve, curve_below, object_in, line_in, objects_named, lines_named, unless, named_of, ItemsAre, AreCurves};
 
 use desk_names::{Names, ObjId};
 use desk_terms::{Kind, Wanted};
@@ -25,7 +25,7 @@ pub(crate) fn curves_named(
     names: &Names,
     texts: &[String],
 ) -> Result<Result<Vec<ObjId>, Vec<u8>>, AllocError>
-    ensures named { IfOk result (λ found. NamedIs found (named_of desk.now.market names.now (map string_bytes texts.now))) }
+    ensures named { IfOk result (λ found. ItemsAre found (named_of desk.now.market names.now (map string_bytes texts.now))) }
     ensures curves { IfOk result (λ found. IfOk found (λ curves. AreCurves desk.now.market curves.items)) }
 {
     if has_curve(desk) {
@@ -51,7 +51,7 @@ fn all_named(
     names: &Names,
     texts: &[String],
 ) -> Result<Result<Vec<ObjId>, Vec<u8>>, AllocError>
-    ensures named { IfOk result (λ found. NamedIs found
+    ensures named { IfOk result (λ found. ItemsAre found
         (unless (lines_named desk.now.market names.now (map string_bytes texts.now)) (objects_named desk.now.market names.now (map string_bytes texts.now)))) }
     ensures curves { IfOk result (λ found. IfOk found (λ curves. AreCurves desk.now.market curves.items)) }
 {

@@ -1,7 +1,8 @@
 //! What the program `desk_curve` does: from words and a market with its tables to the picture of curves, or to the table of
-//! their points, and a status, for every shelf of files, sink of bytes and bench of prices.
+//! their points, or to the lines of what stands against it, and a status, for every shelf of files, sinks of bytes and of notes,
+//! and bench of prices.
 //!
-//! `run_curve`, `NAME`, `CurveStatus`.
+//! `run_curve`, `NAME`, `CurveStatus`, `CurveWords`.
 #![tactic(auto)]
 
 mod finding;
@@ -10,10 +11,11 @@ mod plotting;
 mod pricing;
 mod rows;
 mod running;
+mod status;
 mod words;
 
 pub use running::run_curve;
-pub use tool_run::MarketStatus as CurveStatus;
+pub use status::{CurveStatus, CurveWords};
 
 /// The program's name.
 pub const NAME: &str = "desk_curve";

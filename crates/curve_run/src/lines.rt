@@ -1,4 +1,4 @@
-// What is written of curves.
+// What is shown of curves.
 ghost use Rattle.std.specs.Prelude.{◌≡◌, ◌⊎◌, map, IfOk};
 ghost use Rattle.std.specs.String.{string_bytes};
 ghost use Rattle.desk_model.specs.Sound.{IsSound};
@@ -6,7 +6,7 @@ ghost use Rattle.desk_model.specs.Unheld.{HoldsNothing};
 ghost use Rattle.bump_model.specs.Asking.{Calls};
 ghost use Rattle.market_desk.specs.Standing.{standing};
 ghost use Rattle.curve_run.specs.Lines.{drawn_text, plotted_text, priced_text, curve_text, curve_calls, AreNamed};
-ghost use Rattle.curve_run.specs.Named.{AreCurves};
+ghost use Rattle.curve_run.specs.Named.{AreCurves, ItemsAre};
 ghost use Rattle.curve_run.specs.Pricing.{curves_asking};
 
 use crate::finding::curves_named;
@@ -41,6 +41,9 @@ impl Model for Sheet {
     ghost inverse = { λ s. record { as_table = s.as_table; plot = s.plot; today = s.today } };
 }
 
+// A picture or a table, or the lines of what stands against it.
+pub(crate) type Shown = Result<Vec<u8>, Vec<u8>>;
+
 // The picture or the table of the curves that names stand for, or the lines of what stands against it.
 pub(crate) fn curve_lines<B: Bench>(
     alloc: Global,
@@ -49,12 +52,12 @@ pub(crate) fn curve_lines<B: Bench>(
     texts: &[String],
     namer: &Namer<'_>,
     bench: &mut B,
-) -> Result<Vec<u8>, AllocError>
+) -> Result<Shown, AllocError>
     requires sound { IsSound (B.calc bench.old) desk.old }
     requires unheld { HoldsNothing desk.old }
     ensures same { B.calc bench.new ≡ B.calc bench.old }
-    ensures lines { IfOk result (λ lines. lines.items
-        ≡ curve_text (B.calc bench.old) (standing namer.now.names.now namer.now.of_object.now desk.old) sheet (map string_bytes texts.now)) }
+    ensures shown { IfOk result (λ shown. ItemsAre shown
+        (curve_text (B.calc bench.old) (standing namer.now.names.now namer.now.of_object.now desk.old) sheet (map string_bytes texts.now))) }
     ensures calls { Calls (curve_calls (B.calc bench.old) (standing namer.now.names.now namer.now.of_object.now desk.old) (map string_bytes texts.now))
         result (B.count bench.old) (B.count bench.new) (B.log bench.old) (B.log bench.new) }
     ensures alone { AreNamed (standing namer.now.names.now namer.now.of_object.now desk.old) (map string_bytes texts.now) ⊎ (bench.new ≡ bench.old) }
@@ -62,7 +65,7 @@ pub(crate) fn curve_lines<B: Bench>(
     let named = curves_named(alloc, desk, namer.names, texts)?;
     match named {
         Ok(objects) => priced_lines(alloc, desk, sheet, objects.as_slice(), namer, bench),
-        Err(lines) => Ok(lines),
+        Err(lines) => Ok(Err(lines)),
     }
 }
 
@@ -74,19 +77,19 @@ fn priced_lines<B: Bench>(
     objects: &[ObjId],
     namer: &Namer<'_>,
     bench: &mut B,
-) -> Result<Vec<u8>, AllocError>
+) -> Result<Shown, AllocError>
     requires curves { AreCurves desk.old.market objects.now }
     requires sound { IsSound (B.calc bench.old) desk.old }
     requires unheld { HoldsNothing desk.old }
     ensures same { B.calc bench.new ≡ B.calc bench.old }
-    ensures lines { IfOk result (λ lines. lines.items
-        ≡ priced_text (B.calc bench.old) (standing namer.now.names.now namer.now.of_object.now desk.old) sheet objects.now) }
+    ensures shown { IfOk result (λ shown. ItemsAre shown
+        (priced_text (B.calc bench.old) (standing namer.now.names.now namer.now.of_object.now desk.old) sheet objects.now)) }
     ensures calls { Calls (curves_asking (B.calc bench.old) objects.now desk.old).calls
         result (B.count bench.old) (B.count bench.new) (B.log bench.old) (B.log bench.new) }
 {
     let priced = price_all(alloc, desk, objects, namer, bench)?;
     if !priced.lines.is_empty() {
-        return Ok(priced.lines);
+        return Ok(Err(priced.lines));
     }
     plotted(alloc, sheet, priced.curves.as_slice(), namer)
 }
@@ -97,15 +100,15 @@ fn plotted(
     sheet: Sheet,
     curves: &[CurveValue],
     namer: &Namer<'_>,
-) -> Result<Vec<u8>, AllocError>
-    ensures { IfOk result (λ lines. lines.items
-        ≡ plotted_text namer.now.names.now namer.now.of_object.now sheet curves.now) }
+) -> Result<Shown, AllocError>
+    ensures { IfOk result (λ shown. ItemsAre shown
+        (plotted_text namer.now.names.now namer.now.of_object.now sheet curves.now)) }
 {
     let plotted = plot_all(alloc, sheet.plot, curves, namer)?;
     if !plotted.refused.is_empty() {
-        return Ok(plotted.refused);
+        return Ok(Err(plotted.refused));
     }
-    drawn(alloc, sheet, plotted.lines.as_slice(), namer)
+    Ok(Ok(drawn(alloc, sheet, plotted.lines.as_slice(), namer)?))
 }
 
 // The picture or the table of lines.

@@ -7,13 +7,15 @@ ghost use Rattle.market_file.specs.Standing.{IsReady};
 ghost use Rattle.market_loader.specs.declared.faults.MarketRole.{MarketRole};
 ghost use Rattle.bump_model.specs.Asking.{Calls, Made, MadeFront};
 ghost use Rattle.tool_run.specs.Market.{wanted_in};
-ghost use Rattle.tool_run.specs.Run.{status_of, given_for, IsAccepted, IsAcceptedAs, IsThere};
+ghost use Rattle.tool_run.specs.Run.{given_for, IsAccepted, IsAcceptedAs, IsThere};
 ghost use Rattle.tool_run.specs.Stage.{IsOutside, IsEarly, IsQuiet, Writes, Computes, faults_then};
-ghost use Rattle.tool_run.specs.Status.{stage_of};
-ghost use Rattle.curve_run.specs.Verdict.{Wanted as Asked, verdict_of, output_in, computed_in, reading_calls, HasCurves};
+ghost use Rattle.curve_run.specs.Named.{ItemsAre};
+ghost use Rattle.curve_run.specs.Status.{stage_of, IsOf, Notes};
+ghost use Rattle.curve_run.specs.Verdict.{Wanted as Asked, verdict_of, ending_of, shown_in, output_in, notes_in, computed_in, reading_calls, HasCurves};
 ghost use Rattle.curve_run.specs.Words.{request_in, request_of};
 
-use crate::lines::{Sheet, curve_lines};
+use crate::CurveStatus;
+use crate::lines::{Sheet, Shown, curve_lines};
 use crate::words::Request;
 use desk_edge::{Shelf, Sink, write_whole};
 use desk_terms::Bench;
@@ -22,46 +24,54 @@ use price_report::Namer;
 use std::alloc::{AllocError, Global};
 use tool_run::{Found, MarketStatus, OpenMarket, find};
 
-/// Does what the words ask for over the files of the shelf, writes the text to `out`, and answers how that went. The words
-/// are those behind the program's name: `--csv` or nothing, `--zero`, `--forward` or nothing, the path of a market, and the names of one to eight curves. The
-/// prices are those of the bench.
+/// Does what the words ask for over the files of the shelf, writes the picture or the table to `out`, or the lines of what stands against it
+/// to `notes`, and answers how that went. The words are those behind the program's name: `--csv` or nothing, `--zero`, `--forward` or
+/// nothing, the path of a market, and the names of one to eight curves. The prices are those of the bench.
 ///
 /// The first failure in this order is the answer: the words; the market's file and the tables' names in it; the file of
-/// the quotes, and that of the fixings, where the market names them; the market. Then the text is made whole, and
-/// written. A fault outside, or want of memory, may come at any time.
-pub fn run_curve<H: Shelf, K: Sink, B: Bench>(
+/// the quotes, and that of the fixings, where the market names them; the market; the names and their curves. The text is made whole, and then
+/// written. A fault outside, or want of memory, may come at any time; where the notes cannot be written, the status tells all the same.
+pub fn run_curve<H: Shelf, K: Sink, N: Sink, B: Bench>(
     alloc: Global,
     words: &[String],
     shelf: &mut H,
     out: &mut K,
+    notes: &mut N,
     bench: &mut B,
-) -> MarketStatus
-    // The status is that of the words and the files, but for a fault outside or want of memory.
+) -> CurveStatus
+    // The status is that of the words, the files and the curves, but for a fault outside or want of memory.
     ensures status { IfSome (files_of (H.contents shelf.old)) (λ files.
-        IsOutside (stage_of result) ⊎ (result ≡ status_of MarketStatus.Done (verdict_of files (map string_bytes words.now)))) }
-    ensures usage { (result ≡ MarketStatus.Usage) ↔ (request_of (map string_bytes words.now) ≡ None) }
+        IsOutside (stage_of result) ⊎ (result ≡ ending_of (B.calc bench.old) (verdict_of files (map string_bytes words.now)))) }
+    ensures usage { (result ≡ CurveStatus.Of MarketStatus.Usage) ↔ (request_of (map string_bytes words.now) ≡ None) }
     // Memory is wanted only where the market's file is there.
     ensures there { IfSome (files_of (H.contents shelf.old)) (λ files.
-        result ≡ MarketStatus.NoMemory → IsThere (request_of (map string_bytes words.now)) (λ request. request.market) files) }
+        result ≡ CurveStatus.Of MarketStatus.NoMemory → IsThere (request_of (map string_bytes words.now)) (λ request. request.market) files) }
 
-    // What is accepted is done, where no fault is counted and memory is found.
+    // What is accepted ends so where no fault is counted and memory is found.
     ensures complete { IfSome (files_of (H.contents shelf.old)) (λ files.
         IsAccepted (verdict_of files (map string_bytes words.now))
         → IsQuiet (H.faults shelf.old) (H.faults shelf.new) → IsQuiet (K.faults out.old) (K.faults out.new)
-        → (result ≡ MarketStatus.Done) ⊎ (result ≡ MarketStatus.NoMemory)) }
+        → (result ≡ ending_of (B.calc bench.old) (verdict_of files (map string_bytes words.now))) ⊎ (result ≡ CurveStatus.Of MarketStatus.NoMemory)) }
 
-    // At Done the bytes written are the text: the picture or the table, or the lines of what stands against it; after a fault of writing they are a front of them, and else there are none.
+    // At Done the bytes written are the picture or the table; after a fault of writing they are a front of it, and else, where it is refused
+    // too, there are none.
     ensures written { IfSome (files_of (H.contents shelf.old)) (λ files.
         Writes (K.bytes out.old) (K.bytes out.new) (given_for (output_in (B.calc bench.old)) (verdict_of files (map string_bytes words.now))) (stage_of result)) }
     ensures nothing { IsEarly (stage_of result) → out.new ≡ out.old }
+    // Where it is refused the bytes noted are the lines that say so, but for a fault of noting them, and else there are none.
+    ensures noted { IfSome (files_of (H.contents shelf.old)) (λ files.
+        Notes (N.bytes notes.old) (N.bytes notes.new) (N.faults notes.old) (N.faults notes.new)
+        (given_for (notes_in (B.calc bench.old)) (verdict_of files (map string_bytes words.now))) result) }
+    ensures silent { IsOf result → notes.new ≡ notes.old }
 
     // The bench was called for the computations of the curves, in their order, and for no other; where memory ran out, for
-    // a front of them. `carried` says both of files told or not.
+    // a front of them. `carried` says all of this of files told or not.
     ensures computed { IfSome (files_of (H.contents shelf.old)) (λ files.
         Computes Made MadeFront (given_for (computed_in (B.calc bench.old)) (verdict_of files (map string_bytes words.now))) (stage_of result)
         (B.count bench.old) (B.count bench.new) (B.log bench.old) (B.log bench.new)) }
     ensures carried { IsEarly (stage_of result) ⊎ ((asked : Asked)
         × Writes (K.bytes out.old) (K.bytes out.new) (output_in (B.calc bench.old) asked) (stage_of result)
+        × Notes (N.bytes notes.old) (N.bytes notes.new) (N.faults notes.old) (N.faults notes.new) (notes_in (B.calc bench.old) asked) result
         × Computes Made MadeFront (computed_in (B.calc bench.old) asked) (stage_of result)
         (B.count bench.old) (B.count bench.new) (B.log bench.old) (B.log bench.new)) }
     ensures unnamed { IfSome (files_of (H.contents shelf.old)) (λ files.
@@ -70,11 +80,11 @@ pub fn run_curve<H: Shelf, K: Sink, B: Bench>(
     ensures same { B.calc bench.new ≡ B.calc bench.old }
 
     // Each fault was counted.
-    ensures read { result ≡ MarketStatus.ReadFault → Rose (H.faults shelf.old) (H.faults shelf.new) }
+    ensures read { result ≡ CurveStatus.Of MarketStatus.ReadFault → Rose (H.faults shelf.old) (H.faults shelf.new) }
     // A call of the shelf that failed is the answer, and was the last: any call may fail, and one more would be counted too.
     ensures counted { H.faults shelf.new ≡ faults_then (stage_of result) (H.faults shelf.old) }
-    ensures write { result ≡ MarketStatus.WriteFault → Rose (K.faults out.old) (K.faults out.new) }
-    ensures absent { (role : MarketRole) → result ≡ MarketStatus.Absent role → Rose (H.misses shelf.old) (H.misses shelf.new) }
+    ensures write { result ≡ CurveStatus.Of MarketStatus.WriteFault → Rose (K.faults out.old) (K.faults out.new) }
+    ensures absent { (role : MarketRole) → result ≡ CurveStatus.Of (MarketStatus.Absent role) → Rose (H.misses shelf.old) (H.misses shelf.new) }
     ensures files { files_of (H.contents shelf.new) ≡ files_of (H.contents shelf.old) }
 
     // Each file is read once, in the order above, and none behind the first failure.
@@ -83,25 +93,36 @@ pub fn run_curve<H: Shelf, K: Sink, B: Bench>(
 {
     let found = match find(alloc, words, shelf) {
         Ok(found) => found,
-        Err(status) => return status,
+        Err(status) => return CurveStatus::Of(status),
     };
-    match lines_of(alloc, found, bench) {
-        Ok(lines) => match write_whole(out, &lines) {
-            Ok(()) => MarketStatus::Done,
-            Err(_) => MarketStatus::WriteFault,
+    match shown_of(alloc, found, bench) {
+        Ok(Ok(text)) => match write_whole(out, &text) {
+            Ok(()) => CurveStatus::Of(MarketStatus::Done),
+            Err(_) => CurveStatus::Of(MarketStatus::WriteFault),
         },
-        Err(_) => MarketStatus::NoMemory,
+        Ok(Err(lines)) => {
+            note(notes, &lines);
+            CurveStatus::Refused
+        }
+        Err(_) => CurveStatus::Of(MarketStatus::NoMemory),
     }
 }
 
-// The lines of what is wanted.
-fn lines_of<B: Bench>(
+// Notes lines. Where they cannot be written, the status tells all the same.
+fn note<N: Sink>(notes: &mut N, lines: &[u8])
+    ensures { Notes (N.bytes notes.old) (N.bytes notes.new) (N.faults notes.old) (N.faults notes.new) lines.now CurveStatus.Refused }
+{
+    let _ = write_whole(notes, lines);
+}
+
+// What is shown of what is wanted.
+fn shown_of<B: Bench>(
     alloc: Global,
     found: Found<Request<'_>>,
     bench: &mut B,
-) -> Result<Vec<u8>, AllocError>
+) -> Result<Shown, AllocError>
     requires ready { IsReady found.market.names found.market.made.items }
-    ensures lines { IfOk result (λ lines. lines.items ≡ output_in (B.calc bench.old) (wanted_in request_in found.entry)) }
+    ensures shown { IfOk result (λ shown. ItemsAre shown (shown_in (B.calc bench.old) (wanted_in request_in found.entry))) }
     ensures calls { Calls (computed_in (B.calc bench.old) (wanted_in request_in found.entry)) result
         (B.count bench.old) (B.count bench.new) (B.log bench.old) (B.log bench.new) }
     ensures unnamed { HasCurves (wanted_in request_in found.entry) ⊎ (bench.new ≡ bench.old) }

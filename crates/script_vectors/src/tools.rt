@@ -124,11 +124,7 @@ fn ended(
             bump_run::NAME,
             run_bump(alloc, words, shelf, out, &mut bench),
         ),
-        Tool::Curve => line(
-            alloc,
-            curve_run::NAME,
-            run_curve(alloc, words, shelf, out, &mut bench),
-        ),
+        Tool::Curve => noted(alloc, words, shelf, out, &mut bench),
         Tool::Explain => line(
             alloc,
             explain_run::NAME,
@@ -155,6 +151,23 @@ fn ended(
             run_measure(alloc, words, shelf, out),
         ),
         Tool::Yield => line(alloc, yield_run::NAME, run_yield(alloc, words, shelf, out)),
+    }
+}
+
+// Runs `desk_curve`; its notes on standard error, and the line of its status behind them.
+fn noted(
+    alloc: Global,
+    words: &[String],
+    shelf: &mut MemoryShelf,
+    out: &mut MemorySink,
+    bench: &mut DeskBench,
+) -> Result<String, AllocError> {
+    let mut notes = MemorySink::new(alloc, ROOM, 4096, CallList::new(alloc))?;
+    let status = run_curve(alloc, words, shelf, out, &mut notes, bench);
+    let line = line(alloc, curve_run::NAME, status)?;
+    match std::str::from_utf8(notes.bytes()) {
+        Ok(said) => format!(in alloc; "{said}{line}"),
+        Err(_) => Ok(line),
     }
 }
 

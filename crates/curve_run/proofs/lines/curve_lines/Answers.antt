@@ -7,8 +7,8 @@ use Rattle.desk_terms.specs.Reading.{Outcome}
 use Rattle.bump_model.specs.Asking.{Calls}
 use Rattle.bump_model.proofs.Calls.{calls_none}
 use Rattle.market_desk.specs.Standing.{standing}
-use Rattle.curve_run.specs.Lines.{curve_calls}
-use Rattle.curve_run.specs.Named.{AreCurves}
+use Rattle.curve_run.specs.Lines.{Shown, curve_calls}
+use Rattle.curve_run.specs.Named.{AreCurves, ItemsAre}
 use Rattle.curve_run.proofs.Calling.{text_found, text_lines, calls_found, calls_lines, calls_begun, found_named}
 use Rattle.curve_run.proofs.lines.curve_lines.Goals as goal
 
@@ -16,13 +16,13 @@ pub priced_lines-requires-clause-curves : goal.priced_lines-requires-clause-curv
 priced_lines-requires-clause-curves g c =
     subst (λ (l : List ℕ). AreCurves c.args.desk.now.market l) (sym c.as_slice.ensures.value) (rw c.in-Ok.is at c.in_ok-named.ensures.curves)
 
-pub returns-in-Ok-clause-lines : goal.returns-in-Ok-clause-lines
-returns-in-Ok-clause-lines g c =
+pub returns-in-Ok-clause-shown : goal.returns-in-Ok-clause-shown
+returns-in-Ok-clause-shown g c =
     let p = standing c.args.namer.now.names.now c.args.namer.now.of_object.now c.args.desk.now in
     let found = rw c.in-Ok.is at c.in_ok-named.ensures.named in
-    subst (λ (text : List ℕ). IfOk c.priced_lines.result (λ lines. lines.items ≡ text))
+    subst (λ (text : Shown). IfOk c.priced_lines.result (λ shown. ItemsAre shown text))
     (sym (text_found (g.B.Bench.calc c.args.bench.now) p (map string_bytes c.args.texts.now) c.args.sheet c.in-Ok.objects.items found))
-    (rw c.as_slice.ensures.value at c.priced_lines.ensures.lines)
+    (rw c.as_slice.ensures.value at c.priced_lines.ensures.shown)
 
 pub returns-in-Ok-clause-calls : goal.returns-in-Ok-clause-calls
 returns-in-Ok-clause-calls g c =
@@ -38,11 +38,11 @@ returns-in-Ok-clause-alone g c =
     let p = standing c.args.namer.now.names.now c.args.namer.now.of_object.now c.args.desk.now in
     inl (found_named (g.B.Bench.calc c.args.bench.now) p (map string_bytes c.args.texts.now) c.in-Ok.objects.items (rw c.in-Ok.is at c.in_ok-named.ensures.named))
 
-pub returns-in-Err-clause-lines : goal.returns-in-Err-clause-lines
-returns-in-Err-clause-lines g c =
+pub returns-in-Err-clause-shown : goal.returns-in-Err-clause-shown
+returns-in-Err-clause-shown g c =
     let p = standing c.args.namer.now.names.now c.args.namer.now.of_object.now c.args.desk.now in
-    sym (text_lines (g.B.Bench.calc c.args.bench.now) p (map string_bytes c.args.texts.now) c.args.sheet c.in-Err.lines.items
-    (rw c.in-Err.is at c.in_ok-named.ensures.named))
+    text_lines (g.B.Bench.calc c.args.bench.now) p (map string_bytes c.args.texts.now) c.args.sheet c.in-Err.lines.items
+    (rw c.in-Err.is at c.in_ok-named.ensures.named)
 
 pub returns-in-Err-clause-calls : goal.returns-in-Err-clause-calls
 returns-in-Err-clause-calls g c =

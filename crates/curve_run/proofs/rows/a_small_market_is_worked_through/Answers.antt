@@ -35,6 +35,9 @@ returns c = record {
   refused = refl;
   unnamed = refl;
   none = refl;
+  drawn_so = refl;
+  unnamed_so = refl;
+  valueless_so = refl;
   calls = refl;
   no_calls = refl;
 }

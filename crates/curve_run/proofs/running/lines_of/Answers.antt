@@ -1,7 +1,0 @@
-use Rattle.curve_run.proofs.running.lines_of.Goals as goal
-
-pub curve_lines-requires-clause-sound : goal.curve_lines-requires-clause-sound
-curve_lines-requires-clause-sound g c = c.in_ok-named.ensures.sound (g.B.Bench.calc c.args.bench.now)
-
-pub returns-clause-lines : goal.returns-clause-lines
-returns-clause-lines g c = rw (c.in_ok-named.ensures.names, c.in_ok-named.ensures.desk) at c.curve_lines.ensures.lines

@@ -3,16 +3,19 @@
 //! the value in whole units over these nodes, and the gap between the two: half a unit for each rounding of a known amount
 //! or of the value, and for each floating amount what half a unit of 10^-9 of its rate is worth. Prints each row that
 //! differs, and how many agree. Then compares what instruments of `flows.csv` still pay after a day, and what bonds are worth
-//! on it at a yield, with an independent model's figures. A row that cannot be read is an error.
+//! on it at a yield, with an independent model's figures; and the measures of bonds of `measures.csv` with the figures of a plain model and,
+//! within bounds, with those by derivatives of the exact price. A row that cannot be read is an error.
 #![tactic(auto)]
 
 mod instruments;
 mod jobs;
+mod measures;
 mod numbers;
 mod paid;
 mod rows;
 
 use anyhow::Result;
+use measures::compare_measures;
 use paid::compare_flows;
 use row_markets::Markets;
 use rows::compare_values;
@@ -24,5 +27,7 @@ fn main(rt: HostRuntime) -> Result<()> {
     let instruments = fs::read_to_string(&rt, "instruments.csv")?;
     compare_values(&rt, rt.alloc(), &markets, &instruments)?;
     let flows = fs::read_to_string(&rt, "flows.csv")?;
-    compare_flows(&rt, rt.alloc(), &markets, &flows)
+    compare_flows(&rt, rt.alloc(), &markets, &flows)?;
+    let measures = fs::read_to_string(&rt, "measures.csv")?;
+    compare_measures(&rt, rt.alloc(), &markets, &measures)
 }

@@ -23,3 +23,12 @@ pub(crate) fn has_gap(units: &str, quantlib: &str, gap: &str) -> Option<bool> {
     let over = i128::from(stated).unsigned_abs();
     Some(off.unsigned_abs().abs_diff(over) <= HALF)
 }
+
+/// Whether a figure lies no farther from another than a bound says, each of at most 12 places.
+pub(crate) fn is_near(figure: &str, other: &str, bound: &str) -> Option<bool> {
+    let figure = read_decimal(figure.as_bytes(), 12).ok()?;
+    let other = read_decimal(other.as_bytes(), 12).ok()?;
+    let bound = read_decimal(bound.as_bytes(), 12).ok()?;
+    let off = i128::from(figure) - i128::from(other);
+    Some(bound >= 0 && off.unsigned_abs() <= i128::from(bound).unsigned_abs())
+}

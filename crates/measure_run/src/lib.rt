@@ -1,16 +1,13 @@
-//! What the program `desk_measure` does: from words and a market with its tables to the lines of a bond's accrued interest,
-//! price and yield, with its measures there, and a status, for every shelf of files and sink of bytes.
+//! What the program `desk_measure` says of a bond: behind the yield what a basis point does there.
 //!
-//! `run_measure`, `NAME`, `MeasureStatus`.
+//! `MeasureTool`, of which `run_bond` of bond_tool is the run; `NAME`, `MeasureStatus`.
 #![tactic(auto)]
 
 mod lines;
-mod named;
 mod rows;
-mod running;
-mod words;
+mod tool;
 
-pub use running::run_measure;
+pub use tool::MeasureTool;
 pub use tool_run::MarketStatus as MeasureStatus;
 
 /// The program's name.

@@ -1,5 +1,6 @@
-// The tools: runs `desk_bump`, `desk_curve`, `desk_explain`, `desk_graph`, `desk_grid`, `desk_why` and `desk_yield` over whole cases, and
-// compares the bytes with those that an independent model writes.
+// The tools: runs `desk_bump`, `desk_curve`, `desk_explain`, `desk_graph`, `desk_grid`, `desk_measure`, `desk_why` and `desk_yield` over
+// whole cases, and compares the bytes with those that an independent model writes.
+use bond_tool::run_bond;
 use bump_run::run_bump;
 use curve_run::run_curve;
 use desk_bench::DeskBench;
@@ -7,13 +8,13 @@ use desk_edge::{CallList, MemoryShelf, MemorySink};
 use explain_run::run_explain;
 use graph_run::run_graph;
 use grid_run::run_grid;
-use measure_run::run_measure;
+use measure_run::MeasureTool;
 use std::alloc::{AllocError, Global};
 use std::{fs, io};
 use tool_process::Ending;
 use whole_cases::{shelf, words};
 use why_run::run_why;
-use yield_run::run_yield;
+use yield_run::YieldTool;
 
 // The most bytes that a case may write.
 const ROOM: usize = 100_000;
@@ -148,9 +149,13 @@ fn ended(
         Tool::Measure => line(
             alloc,
             measure_run::NAME,
-            run_measure(alloc, words, shelf, out),
+            run_bond::<MeasureTool, MemoryShelf, MemorySink>(alloc, words, shelf, out),
         ),
-        Tool::Yield => line(alloc, yield_run::NAME, run_yield(alloc, words, shelf, out)),
+        Tool::Yield => line(
+            alloc,
+            yield_run::NAME,
+            run_bond::<YieldTool, MemoryShelf, MemorySink>(alloc, words, shelf, out),
+        ),
     }
 }
 

@@ -1,5 +1,1 @@
-pub mod Lines
-pub mod Named
-pub mod Rows
-pub mod Verdict
-pub mod Words
+pub mod Says

@@ -1,16 +1,11 @@
-//! What the program `desk_yield` does: from words and a market with its tables to the lines of a bond's accrued interest,
-//! price and yield, and a status, for every shelf of files and sink of bytes.
+//! What the program `desk_yield` says of a bond: its yield, and nothing behind it.
 //!
-//! `run_yield`, `NAME`, `YieldStatus`.
+//! `YieldTool`, of which `run_bond` of bond_tool is the run; `NAME`, `YieldStatus`.
 #![tactic(auto)]
 
-mod lines;
-mod named;
-mod rows;
-mod running;
-mod words;
+mod tool;
 
-pub use running::run_yield;
+pub use tool::YieldTool;
 pub use tool_run::MarketStatus as YieldStatus;
 
 /// The program's name.

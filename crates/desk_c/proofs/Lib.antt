@@ -1,0 +1,4 @@
+mod Values
+mod Handles
+mod Progress
+mod Setting

@@ -1,0 +1,142 @@
+-- What the calls of a session for C give.
+use Rattle.std.specs.Prelude.{◌≡◌, ◌++◌, ◌^◌, ◌<◌, unsigned_abs, ◌*ℤ◌, ◌+ℤ◌, pos, ℕ, ℤ, nat_eq, if◌then◌else◌, List, [], take, drop, length, Option, Some, None, Ok, Err}
+use Rattle.std.specs.Result.{result_err}
+use Rattle.desk_bench.specs.Pricing.{desk_calc}
+use Rattle.desk_names.specs.Names.{place_of}
+use Rattle.desk_terms.specs.declared.asked.Mark.{Mark}
+use Rattle.desk_terms.specs.declared.cause.Cause.{Cause}
+use Rattle.desk_terms.specs.declared.asked.Mark.TheVariants.{Fresh, Frozen, Late, Held, Recalc}
+use Rattle.pricing_session.specs.declared.answer.Answer.{Answer}
+use Rattle.pricing_session.specs.declared.answer.Worth.TheVariants.{Money, Curve}
+use Rattle.pricing_session.specs.Asking.{IsAnswered, IsCutShort as AskIsCutShort}
+use Rattle.session_commands.specs.declared.command.Command.{Command}
+use Rattle.session_commands.specs.declared.command.Command.TheVariants.{Set}
+use Rattle.session_commands.specs.declared.refusal.Refusal.{Refusal}
+use Rattle.session_model.specs.declared.place.Place.TheVariants.{Priced}
+use Rattle.session_model.specs.Course.{Meaning, taken}
+use Rattle.session_model.specs.Resolve.{find, resolve}
+use Rattle.session_model.specs.Standing.{Standing}
+use Rattle.session_model.specs.Turn.{turn}
+use Rattle.watch_rounds.specs.Order.{order_at, order_after}
+use Rattle.watch_rounds.specs.declared.picker.Order.{Order}
+use Rattle.watch_rounds.specs.declared.picker.Order.TheVariants.{First, Last, Seed}
+use Rattle.live_model.specs.Live.{said}
+use Rattle.live_session.specs.Saying.{IsCutShort}
+use Rattle.desk_c.specs.declared.kept.Kept.{Kept}
+
+-- the rule by which the bench prices, and the order of watchers that are due
+abbrev pub ordered : Meaning Order
+ordered = record { calc = desk_calc; at = order_at; after = order_after }
+
+-- a text laid into a room, as much of it as fits
+abbrev pub laid : List ℕ → List ℕ → List ℕ
+laid text room = take (length room) text ++ drop (length text) room
+
+-- the order that a number and a seed name
+abbrev pub order_in : ℕ → ℕ → Option Order
+order_in order seed =
+    if nat_eq order 0 then Some First else if nat_eq order 1 then Some Last else if nat_eq order 2 then Some (Seed seed) else None
+
+abbrev pub mark_number : Mark → ℕ
+mark_number Fresh = 0
+mark_number Frozen = 1
+mark_number Late = 2
+mark_number Held = 3
+mark_number Recalc = 4
+
+abbrev pub standing_of : Kept → Standing
+standing_of kept = kept.session.live.running.standing
+
+-- both hold something, and so it is with the two
+abbrev pub Both : {A : Type 0} → (A → A → Type 0) → Option A → Option A → Type 0
+Both R (Some old) (Some new) = R old new
+Both R (Some old) None = ⊥
+Both R None new = ⊥
+
+-- it holds something, of which this is true
+abbrev pub Holds : {A : Type 0} → (A → Type 0) → Option A → Type 0
+Holds R (Some kept) = R kept
+Holds R None = ⊥
+
+-- the text of the last call
+abbrev pub text_of : Option Kept → List ℕ
+text_of None = []
+text_of (Some kept) = kept.text.items
+
+-- A LINE IS SAID: the session after it, and its lines
+pub record Says (line : List ℕ) (old new : Kept) : Type 0 where
+  pub next : new.session.live ≡ (said ordered old.session.live line).next
+  pub text : new.text.items ≡ (said ordered old.session.live line).lines
+
+-- memory ran out in it: a front of its lines, and the session as it was but for names, or stopped
+pub record IsCutOff (line : List ℕ) (old new : Kept) : Type 0 where
+  pub rest : List ℕ
+  pub text : (said ordered old.session.live line).lines ≡ new.text.items ++ rest
+  pub session : IsCutShort Order old.session.live new.session.live
+
+-- the number of a name
+abbrev pub number_of : List ℕ → Kept → ℕ
+number_of name kept = place_of (standing_of kept).names name
+
+-- the command that gives the quote of a name a value
+abbrev pub setting : List ℕ → ℤ → Kept → Command
+setting name units kept = Set (number_of name kept) units
+
+-- the turn of a command is taken, its line is let go, and nothing else is changed
+abbrev pub after_turn : Command → Kept → Kept
+after_turn c kept = record kept {
+  session = record kept.session {
+    live = record kept.session.live {
+      running = (taken (turn desk_calc (standing_of kept) c) kept.session.live.running).next;
+    };
+  };
+}
+
+-- A QUOTE IS SET
+pub record Sets (name : List ℕ) (units : ℤ) (old new : Kept) : Type 0 where
+  pub allowed : result_err (resolve (standing_of old) (setting name units old)) ≡ None
+  pub next : new ≡ after_turn (setting name units old) old
+
+-- the name is refused
+pub record IsNotSet (name : List ℕ) (units : ℤ) (old new : Kept) : Type 0 where
+  pub refusal : Refusal
+  pub resolves : resolve (standing_of old) (setting name units old) ≡ Err refusal
+  pub same : standing_of new ≡ standing_of old
+  pub next : new ≡ after_turn (setting name units old) old
+
+-- AN OBJECT IS ASKED: its answer is such a one, and nothing else is changed
+pub record Asks (name : List ℕ) (Told : Answer → Type 0) (old new : Kept) : Type 0 where
+  pub answer : Answer
+  pub answers : IsAnswered desk_calc (number_of name old) (standing_of old) (standing_of new) answer old.session.bench.calls
+      new.session.bench.calls None None
+  pub told : Told answer
+  pub rest : new.session.live ≡ record old.session.live { running = record old.session.live.running { standing = standing_of new } }
+  pub text : new.text ≡ old.text
+
+-- an answer of money, in two parts of which the second is less than the unit of the first
+pub record IsPriced (high low : ℤ) (mark runs : ℕ) (answer : Answer) : Type 0 where
+  pub worth : answer.worth ≡ Ok (Money (high *ℤ pos (10 ^ 18) +ℤ low))
+  pub small : unsigned_abs low < 10 ^ 18
+  pub stands : mark ≡ mark_number answer.mark
+  pub number : runs ≡ answer.runs
+
+-- no value, for a cause
+abbrev pub IsUnpriced : Answer → Type 0
+IsUnpriced answer = (cause : Cause) × (answer.worth ≡ Err cause)
+
+-- a curve
+abbrev pub IsCurve : Answer → Type 0
+IsCurve answer = answer.worth ≡ Ok Curve
+
+-- the name is none of an object that is priced
+pub record IsNotAsked (name : List ℕ) (old new : Kept) : Type 0 where
+  pub refusal : Refusal
+  pub fails : find Priced (standing_of old) (number_of name old) ≡ Err refusal
+  pub same : new ≡ old
+
+-- memory ran out in the ask: what was computed is kept, and nothing else is changed
+pub record IsAskCut (name : List ℕ) (old new : Kept) : Type 0 where
+  pub stops : AskIsCutShort desk_calc (number_of name old) (standing_of old) (standing_of new) old.session.bench.calls
+      new.session.bench.calls None None
+  pub rest : new.session.live ≡ record old.session.live { running = record old.session.live.running { standing = standing_of new } }
+  pub text : new.text ≡ old.text

@@ -1,4 +1,5 @@
-"""An example, outside the gate and outside the proofs: a client of the program desk_live, for Python 3.9 and later.
+"""An example, outside the gate and outside the proofs: a client of the program desk_live, and of the library desk_c, for
+Python 3.9 and later.
 
     with Desk("market.toml") as desk:
         desk.set("s5", "0.0253")
@@ -7,11 +8,16 @@
 It is this one file, over the standard library alone. It starts `desk_live MARKET --ready`, writes a line to it, and
 reads what is written for that line. It takes DESK_LIVE, where that variable is set, for the program, else `desk_live`
 of the path. It has no thread and no lock: threads that share a Desk must take turns.
+
+LinkedDesk is the same over a session in this process: the shared library that examples/c/run.sh links, which DESK_C names.
+Only the thread that made one may use it.
 """
 
 from __future__ import annotations
 
+import ctypes
 import os
+import re
 import shutil
 import subprocess
 import tempfile
@@ -189,13 +195,9 @@ class Desk:
         order: Optional[str] = None,
         program: Optional[PathLike] = None,
     ) -> None:
-        words = [os.fspath(program or os.environ.get("DESK_LIVE") or "desk_live"), os.fspath(market)]
-        words += [] if script is None else [os.fspath(script)]
-        words += ["--ready"] if order is None else ["--ready", f"--order={order}"]
         self._count = 0
         self.ended: Optional[Ended] = None
-        pipe = subprocess.PIPE
-        self._process = subprocess.Popen(words, stdin=pipe, stdout=pipe, stderr=pipe)
+        self._open(market, script, order, program)
         self._said, self._written = tempfile.TemporaryFile(), tempfile.TemporaryFile()
         try:
             self.opening: list[Event] = self.send("")
@@ -296,18 +298,30 @@ class Desk:
         try:
             if self.ended is not None:
                 return
-            with suppress(OSError):
-                self._in.close()
-            rest = self._out.read().split()
-            end = self._ended()
-            if end.status:
-                raise end
+            rest = self._rest()
             if rest:
                 self._keep(self._said, b"end\n")
                 raise Fault(int(rest[1]), rest[2].decode())
         finally:
             self._said.close()
             self._written.close()
+
+    def _open(self, market: PathLike, script: Optional[PathLike], order: Optional[str], program: Optional[PathLike]) -> None:
+        words = [os.fspath(program or os.environ.get("DESK_LIVE") or "desk_live"), os.fspath(market)]
+        words += [] if script is None else [os.fspath(script)]
+        words += ["--ready"] if order is None else ["--ready", f"--order={order}"]
+        pipe = subprocess.PIPE
+        self._process = subprocess.Popen(words, stdin=pipe, stdout=pipe, stderr=pipe)
+
+    def _rest(self) -> list[bytes]:
+        """Ends the program: the words of the fault that it writes where an action is left open, else none."""
+        with suppress(OSError):
+            self._in.close()
+        rest = self._out.read().split()
+        end = self._ended()
+        if end.status:
+            raise end
+        return rest
 
     @property
     def _in(self) -> IO[bytes]:
@@ -358,6 +372,93 @@ class Desk:
         if isinstance(answer, Refused):
             raise answer
         return answer
+
+
+class _Handle(ctypes.Structure):
+    """What owns a session; all zeros, it holds none. It stays where it is, and is never copied."""
+
+    _fields_ = [("at", ctypes.c_void_p), ("is_open", ctypes.c_bool)]
+
+
+class LinkedDesk(Desk):
+    """A Desk whose session is in this process: PROGRAM is taken for the shared library, else DESK_C, else `libdesk_c.so`.
+
+    It differs from a Desk in that no program starts, and none is killed. Raises MemoryError where memory runs out.
+    """
+
+    def _open(self, market: PathLike, script: Optional[PathLike], order: Optional[str], program: Optional[PathLike]) -> None:
+        library = ctypes.CDLL(os.fspath(program or os.environ.get("DESK_C") or "libdesk_c.so"))
+        size, text, number = ctypes.c_size_t, ctypes.c_char_p, ctypes.c_uint32
+        self._handle, self._size, self._room = _Handle(), size(), ctypes.create_string_buffer(1 << 16)
+        self._at = ctypes.byref(self._handle)
+        self._say, self._text, self._close = library.desk_c_say, library.desk_c_text, library.desk_c_close
+        handle = ctypes.POINTER(_Handle)
+        library.desk_c_open.argtypes = [handle, *[text, size] * 4, number, ctypes.c_uint64, text, size]
+        self._say.argtypes = [handle, text, size, text, size, ctypes.POINTER(size)]
+        self._text.argtypes, self._text.restype = [handle, size, text, size], size
+        self._close.argtypes, self._close.restype = [handle], None
+        self._block, self._first = 0, b""
+        numbers = {None: 0, "first": 0, "last": 1}
+        if order not in numbers and not (str(order).isascii() and str(order).isdigit() and int(order) < 1 << 64):
+            self._end(2, "usage")
+        texts = [self._file("market", market)]
+        texts += [self._file(it, _table(texts[0], it)) for it in ("quotes", "fixings")] + [self._file("script", script)]
+        told = ctypes.create_string_buffer(80)
+        words = [it for one in texts for it in (one, len(one))]
+        seed = 0 if order in numbers else int(order)
+        status = library.desk_c_open(self._at, *words, numbers.get(order, 2), seed, told, len(told) - 1)
+        if status:
+            self._end(status, told.value.decode())
+        self._first = self._whole(self._text(self._at, 0, self._room, len(self._room)))
+
+    def _file(self, role: str, path: Optional[PathLike]) -> bytes:
+        if path is None:
+            return b""
+        try:
+            return Path(path).read_bytes()
+        except FileNotFoundError:
+            self._end(8, f"no file {role}")
+            raise
+
+    def _end(self, status: int, said: str) -> None:
+        self.ended = Ended(status, f"desk_c: {said}")
+        raise self.ended
+
+    def _answered(self, line: bytes) -> list[bytes]:
+        if self.ended is not None:
+            raise self.ended
+        line = line[:-2] if line.endswith(b"\r\n") else line[:-1]
+        status = self._say(self._at, line, len(line), self._room, len(self._room), self._size)
+        if status == 7:
+            raise MemoryError
+        if status:
+            self._end(status, "the session takes no line any more")
+        self._count += 1
+        written = self._whole(self._size.value)
+        word = line.partition(b"#")[0].split()[:1]
+        if word in ([b"action"], [b"end"]) and not written:
+            self._block = self._count if word == [b"action"] else 0
+        first, self._first = self._first, b""
+        return (first + written).split(b"\n")[:-1]
+
+    def _whole(self, size: int) -> bytes:
+        room = self._room
+        if size > len(room):
+            room = ctypes.create_string_buffer(size)
+            self._text(self._at, 0, room, size)
+        return ctypes.string_at(room, size)
+
+    def _rest(self) -> list[bytes]:
+        self._close(self._at)
+        self.ended = Ended(0, "")
+        return [b"fault", b"%d" % self._block, b"unclosed"] if self._block else []
+
+
+def _table(market: bytes, key: str) -> Optional[str]:
+    """The path of a table that a market names by a plain string in its top table."""
+    top = re.split(rb"^\s*\[", market, maxsplit=1, flags=re.M)[0]
+    found = re.search(rb"^\s*" + key.encode() + rb"\s*=\s*(\"([^\"\\]*)\"|'([^']*)')", top, re.M)
+    return None if found is None else (found[2] or found[3] or b"").decode()
 
 
 def _moved(old: IO[bytes], path: PathLike) -> IO[bytes]:

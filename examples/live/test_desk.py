@@ -1,8 +1,9 @@
-"""An example, outside the gate and outside the proofs: tests of desk.py against the programs desk_live and desk.
+"""An example, outside the gate and outside the proofs: tests of desk.py against the programs desk_live and desk, and of its
+LinkedDesk against the library that DESK_C names, where it names one (examples/c/run.sh).
 
     python3 -m unittest discover examples/live          # from the top of the repository
 
-Both are those of DESK_LIVE and DESK, else of crates/desk_live/out and crates/desk/out, else of the path.
+Both programs are those of DESK_LIVE and DESK, else of crates/desk_live/out and crates/desk/out, else of the path.
 """
 
 import doctest
@@ -108,8 +109,10 @@ def send(it, lines):
 
 
 class Answers(unittest.TestCase):
+    Desk = Desk
+
     def test_a_price(self):
-        with Desk(MARKET) as it:
+        with self.Desk(MARKET) as it:
             self.assertEqual(it.set("s5", "0.0253"), [])
             self.assertEqual(it.ask("book"), desk.Price("book", Decimal("5497271.244744"), "fresh", 7))
             self.assertEqual(it.set("acme", Decimal("4.2E1")), [])
@@ -127,7 +130,7 @@ class Answers(unittest.TestCase):
             self.assertRaises(ValueError, it.send, "ask share\nask book")
 
     def test_a_curve(self):
-        with Desk(MARKET) as it:
+        with self.Desk(MARKET) as it:
             curve = it.curve("euro")
             self.assertEqual(curve.nodes[:2], ((date(2024, 1, 17), 1), (date(2024, 1, 24), Decimal("0.999248065831"))))
             self.assertEqual((len(curve.nodes), curve.mark, curve.runs), (15, "fresh", 1))
@@ -135,7 +138,7 @@ class Answers(unittest.TestCase):
             self.assertEqual(factor, desk.Factor("euro", date(2024, 1, 24), Decimal("0.999248065831"), "fresh", 0))
 
     def test_names_that_are_words_of_lines(self):
-        with Desk(MARKET) as it:
+        with self.Desk(MARKET) as it:
             for name in ("refused", "over", "fault", "ready"):
                 send(it, f"stock {name} acme")
                 self.assertEqual(it.ask(name), desk.Price(name, Decimal("41.5"), "fresh", 1))
@@ -145,7 +148,7 @@ class Answers(unittest.TestCase):
                 self.assertEqual((got.exception.name, got.exception.cause), (name, "unset"))
 
     def test_watchers(self):
-        with Desk(MARKET) as it:
+        with self.Desk(MARKET) as it:
             it.watch("limit", action=["ask book", "set nobody 1"], on=["book"])
             it.ask("book")
             book, refused = it.set("s5", "0.0253")
@@ -168,7 +171,7 @@ class Answers(unittest.TestCase):
         market, script = (f"examples/limit_watch/{it}" for it in ("market.toml", "script.txt"))
         for order in (None, "last", "7"):
             words = [] if order is None else ["--order", order]
-            with Desk(market, script, order) as it, tempfile.TemporaryDirectory() as room:
+            with self.Desk(market, script, order) as it, tempfile.TemporaryDirectory() as room:
                 it.log(f"{room}/day", f"{room}/written")
                 self.assertEqual(it.opening[0].name, "book")
                 self.assertEqual(Path(room, "written").read_bytes(), played(market, script, *words))
@@ -181,9 +184,11 @@ class Answers(unittest.TestCase):
 
 
 class Refusals(unittest.TestCase):
+    Desk = Desk
+
     def test_each_cause(self):
         for lines, ask, cause, about, runs in CAUSES:
-            with self.subTest(cause), Desk(MARKET) as it:
+            with self.subTest(cause), self.Desk(MARKET) as it:
                 send(it, lines)
                 with self.assertRaises(desk.Refused) as got:
                     it.df(*ask.split()[1:]) if ask.startswith("df ") else it.ask(ask)
@@ -196,13 +201,13 @@ class Refusals(unittest.TestCase):
         with tempfile.TemporaryDirectory() as room:
             Path(room, "quotes.csv").write_text("name,value\nr0,0.03\nr1,0.03\n")
             Path(room, "market.toml").write_text(TWINS.format(quotes=f"{room}/quotes.csv"))
-            with Desk(f"{room}/market.toml") as it, self.assertRaises(desk.Refused) as got:
+            with self.Desk(f"{room}/market.toml") as it, self.assertRaises(desk.Refused) as got:
                 it.curve("twins")
         self.assertEqual((got.exception.cause, got.exception.about), ("pillar", ("twins", "2")))
 
     def test_each_refusal(self):
         for lines, line, refusal, about in REFUSALS:
-            with self.subTest(refusal), Desk(MARKET) as it:
+            with self.subTest(refusal), self.Desk(MARKET) as it:
                 send(it, lines)
                 with self.assertRaises(desk.Rejected) as got:
                     it.send(line)
@@ -211,14 +216,14 @@ class Refusals(unittest.TestCase):
                 self.assertNotIn("{", str(told))
 
     def test_too_many_objects(self):
-        with Desk(MARKET) as it, self.assertRaises(desk.Rejected) as got:
+        with self.Desk(MARKET) as it, self.assertRaises(desk.Rejected) as got:
             for number in range(4097):
                 it.send(f"quote q{number} 1")
         self.assertEqual(got.exception.refusal, "toomany")
 
     def test_each_fault(self):
         for lines, line, kind in FAULTS:
-            with self.subTest(kind), suppress(desk.Fault), Desk(MARKET) as it:
+            with self.subTest(kind), suppress(desk.Fault), self.Desk(MARKET) as it:
                 send(it, lines)
                 with self.assertRaises(desk.Fault) as got:
                     it.send(line)
@@ -228,7 +233,7 @@ class Refusals(unittest.TestCase):
                     self.assertEqual(it.ask("share").value, Decimal("41.5"))
 
     def test_too_many_names(self):
-        with Desk(MARKET) as it, self.assertRaises(desk.Fault) as got:
+        with self.Desk(MARKET) as it, self.assertRaises(desk.Fault) as got:
             for number in range(65536):
                 with suppress(desk.Rejected):
                     it.send(f"sum a{number} b{number} c{number}")
@@ -236,7 +241,7 @@ class Refusals(unittest.TestCase):
 
     def test_an_action_that_is_left_open(self):
         with tempfile.TemporaryDirectory() as room:
-            it = Desk(MARKET)
+            it = self.Desk(MARKET)
             it.log(f"{room}/day", f"{room}/written")
             send(it, "ask book; action a; ask share")
             with self.assertRaises(desk.Fault) as got:
@@ -250,15 +255,31 @@ class Refusals(unittest.TestCase):
         self.assertEqual({it[2] for it in FAULTS} | {"names", "unclosed"}, set(desk.FAULTS))
 
 
-class Ends(unittest.TestCase):
+class Starts(unittest.TestCase):
+    Desk = Desk
+    name = "desk_live"
+
     def test_a_closed_program(self):
-        it = Desk(MARKET)
+        it = self.Desk(MARKET)
         it.close()
         it.close()
         with self.assertRaises(desk.Ended) as got:
             it.ask("book")
         self.assertEqual(got.exception.status, 0)
 
+    def test_a_refused_start(self):
+        for words, status, said in [
+            (["no_market"], 8, f"{self.name}: no file market"),
+            (["examples/desk/quotes.csv"], 3, f"{self.name}: market top 0 toml"),
+            ([MARKET, "no_script"], 8, f"{self.name}: no file script"),
+            ([MARKET, None, "sideways"], 2, f"{self.name}: usage"),
+        ]:
+            with self.subTest(said), self.assertRaises(desk.Ended) as got:
+                self.Desk(*words)
+            self.assertEqual((got.exception.status, got.exception.said), (status, said))
+
+
+class Ends(unittest.TestCase):
     def test_a_killed_program(self):
         with self.assertRaises(desk.Ended) as got, Desk(MARKET) as it:
             it.ask("book")
@@ -288,19 +309,10 @@ class Ends(unittest.TestCase):
         it.close()
         self.assertEqual(got.exception.status, -signal.SIGKILL)
 
-    def test_a_refused_start(self):
-        for words, status, said in [
-            (["no_market"], 8, "desk_live: no file market"),
-            (["examples/desk/quotes.csv"], 3, "desk_live: market top 0 toml"),
-            ([MARKET, "no_script"], 8, "desk_live: no file script"),
-            ([MARKET, None, "sideways"], 2, "desk_live: usage"),
-        ]:
-            with self.subTest(said), self.assertRaises(desk.Ended) as got:
-                Desk(*words)
-            self.assertEqual((got.exception.status, got.exception.said), (status, said))
-
 
 class Logs(unittest.TestCase):
+    Desk = Desk
+
     def test_ten_thousand_random_commands(self):
         number = int(os.environ.get("DESK_SEED", "83"))
         pick = random.Random(number)
@@ -333,7 +345,7 @@ class Logs(unittest.TestCase):
             ])  # fmt: skip
 
         with tempfile.TemporaryDirectory() as room:
-            with suppress(desk.Fault), Desk(MARKET) as it:
+            with suppress(desk.Fault), self.Desk(MARKET) as it:
                 it.log(f"{room}/day", f"{room}/written")
                 told = {}
                 for _ in range(10000):
@@ -349,6 +361,31 @@ class Logs(unittest.TestCase):
         self.assertEqual(set(told), kinds, f"what the commands wrote: {told}")
         self.assertGreater(min(told.values()), 3, f"what the commands wrote: {told}")
         self.assertGreater(written.count(b"\n"), 2000)
+
+
+# The same of a session in this process.
+
+
+@unittest.skipUnless(os.environ.get("DESK_C"), "DESK_C names no library")
+class Linked:
+    Desk = desk.LinkedDesk
+    name = "desk_c"
+
+
+class LinkedAnswers(Linked, Answers):
+    test_the_session_of_the_readme = None
+
+
+class LinkedRefusals(Linked, Refusals):
+    test_every_word_is_tried = None
+
+
+class LinkedStarts(Linked, Starts):
+    pass
+
+
+class LinkedLogs(Linked, Logs):
+    pass
 
 
 if __name__ == "__main__":

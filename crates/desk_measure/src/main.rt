@@ -1,12 +1,11 @@
 //! The program `desk_measure`: of a bond of a market file, the interest that has accrued on a settlement day, the full price
 //! at a clean price, the yield at it, and what a basis point does there.
 //!
-//! `desk_measure MARKET NAME DAY PRICE`. What it does is `bond_tool::run_bond` of `measure_run::MeasureTool`.
+//! `desk_measure MARKET NAME DAY PRICE`. What it does is `measure_run::run_measure`.
 #![tactic(auto)]
 
-use bond_tool::run_bond;
 use desk_edge::{Shelf, Sink};
-use measure_run::{MeasureStatus, MeasureTool, NAME};
+use measure_run::{MeasureStatus, NAME, run_measure};
 use std::alloc::Global;
 use tool_process::{Ended, Program, run_process};
 
@@ -22,7 +21,7 @@ impl Program for DeskMeasure {
         shelf: &mut H,
         out: &mut K,
     ) -> MeasureStatus {
-        run_bond::<MeasureTool, H, K>(alloc, words, shelf, out)
+        run_measure(alloc, words, shelf, out)
     }
 }
 

@@ -1,14 +1,13 @@
 //! The program `desk_yield`: of a bond of a market file, the interest that has accrued on a settlement day, the full price
 //! at a clean price, and the yield at it.
 //!
-//! `desk_yield MARKET NAME DAY PRICE`. What it does is `bond_tool::run_bond` of `yield_run::YieldTool`.
+//! `desk_yield MARKET NAME DAY PRICE`. What it does is `yield_run::run_yield`.
 #![tactic(auto)]
 
-use bond_tool::run_bond;
 use desk_edge::{Shelf, Sink};
 use std::alloc::Global;
 use tool_process::{Ended, Program, run_process};
-use yield_run::{NAME, YieldStatus, YieldTool};
+use yield_run::{NAME, YieldStatus, run_yield};
 
 // The run of the program.
 struct DeskYield;
@@ -22,7 +21,7 @@ impl Program for DeskYield {
         shelf: &mut H,
         out: &mut K,
     ) -> YieldStatus {
-        run_bond::<YieldTool, H, K>(alloc, words, shelf, out)
+        run_yield(alloc, words, shelf, out)
     }
 }
 

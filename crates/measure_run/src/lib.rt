@@ -1,12 +1,14 @@
 //! What the program `desk_measure` says of a bond: behind the yield what a basis point does there.
 //!
-//! `MeasureTool`, of which `run_bond` of bond_tool is the run; `NAME`, `MeasureStatus`.
+//! `run_measure`; `MeasureTool`, by which `run_bond` of bond_tool does it; `NAME`, `MeasureStatus`.
 #![tactic(auto)]
 
 mod lines;
 mod rows;
+mod running;
 mod tool;
 
+pub use running::run_measure;
 pub use tool::MeasureTool;
 pub use tool_run::MarketStatus as MeasureStatus;
 

@@ -1,16 +1,17 @@
 // Runs with a call that fails, or with files that are not there.
 ghost use Rattle.std.specs.Prelude.{◌≤◌};
 
+use crate::cases::{Rows, compare_rows};
 use crate::{files_of, push_word};
 use desk_bench::DeskBench;
 use desk_edge::{CallList, MemoryShelf, MemorySink};
 use desk_top::{Status, run};
 use std::alloc::{AllocError, Global};
-use std::{fs, io};
+use std::io;
 
 // A script, and the lines that a whole run of it writes.
 #[derive(Clone, Copy)]
-struct Play {
+pub(crate) struct Play {
     script: &'static [u8],
     lines: &'static [u8],
 }
@@ -39,29 +40,13 @@ const WATCHED: Play = Play {
 
 // Compares the rows of each script and prints how many agree.
 pub(crate) fn compare(rt: &HostRuntime) -> io::Result<()> {
-    compare_rows(rt, "calls", STOCK)?;
-    compare_rows(rt, "composite_calls", COMPOSITE)?;
-    compare_rows(rt, "watched_calls", WATCHED)
+    compare_rows(rt, Rows::Calls(STOCK), "calls")?;
+    compare_rows(rt, Rows::Calls(COMPOSITE), "composite_calls")?;
+    compare_rows(rt, Rows::Calls(WATCHED), "watched_calls")
 }
 
-// Compares the rows of a file.
-fn compare_rows(rt: &HostRuntime, file: &str, play: Play) -> io::Result<()> {
-    let text = fs::read_to_string(rt, file)?;
-    let mut agree = 0u32;
-    let mut differ = 0u32;
-    for row in text.lines() {
-        if agrees(rt.alloc(), play, row)? {
-            agree = agree.saturating_add(1);
-        } else {
-            differ = differ.saturating_add(1);
-            println!(rt; "{file}: this differs: {row}")?;
-        }
-    }
-    println!(rt; "{file}: {agree} agree, {differ} differ")
-}
-
-// Whether a row agrees: before the arrow what is given, behind it what is seen.
-fn agrees(alloc: Global, play: Play, row: &str) -> Result<bool, AllocError> {
+/// Whether a row agrees: before the arrow what is given, behind it what is seen.
+pub(crate) fn agrees(alloc: Global, play: Play, row: &str) -> Result<bool, AllocError> {
     let Some((given, wanted)) = row.split_once(" -> ") else {
         return Ok(false);
     };

@@ -3,13 +3,14 @@
 //
 // In the input `\*` stands for repeated lines, as in the other whole cases, and `\=`, a number, a space, a byte's number and a `;` for
 // that byte so often.
+use crate::cases::{Cases, compare};
 use crate::tools::line;
 use crate::wholes::{number, parted, push_repeated};
 use desk_bench::DeskBench;
 use desk_edge::{CallList, MemoryFeed, MemorySink, SizeList};
 use live_run::{NAME, run_live};
 use std::alloc::{AllocError, Global};
-use std::{fs, io};
+use std::io;
 use whole_cases::{shelf, words};
 
 // The most bytes that a case may write.
@@ -21,30 +22,14 @@ const SIZES: [usize; 5] = [1, 2, 7, 4096, 0];
 // `live_by_hand` has faults of each kind, lines at the limit and one byte longer, ends of lines, blocks that stand open, actions that are
 // begun twice, names and sessions that are full, and watchers that are dropped and made again; `live_sessions` is made at random, with
 // scripts, orders and told lines, and `live_markets` the same over a market of every kind.
-pub(crate) fn compare(rt: &HostRuntime) -> io::Result<()> {
-    compare_file(rt, "live_by_hand")?;
-    compare_file(rt, "live_sessions")?;
-    compare_file(rt, "live_markets")
+pub(crate) fn compare_lives(rt: &HostRuntime) -> io::Result<()> {
+    compare(rt, Cases::Live, "live_by_hand")?;
+    compare(rt, Cases::Live, "live_sessions")?;
+    compare(rt, Cases::Live, "live_markets")
 }
 
-// Compares the cases of a file and prints how many agree. A line `==` stands between two cases.
-fn compare_file(rt: &HostRuntime, file: &str) -> io::Result<()> {
-    let text = fs::read_to_string(rt, file)?;
-    let mut agree = 0u32;
-    let mut differ = 0u32;
-    for case in text.split("==\n") {
-        if agrees(rt.alloc(), case)? {
-            agree = agree.saturating_add(1);
-        } else {
-            differ = differ.saturating_add(1);
-            println!(rt; "{file}: this differs: {case}")?;
-        }
-    }
-    println!(rt; "{file}: {agree} agree, {differ} differ")
-}
-
-// Whether the run that a case asks for shows the text behind its line `-- shown`, whatever the sizes of the pieces.
-fn agrees(alloc: Global, case: &str) -> Result<bool, AllocError> {
+/// Whether the run that a case asks for shows the text behind its line `-- shown`, whatever the sizes of the pieces.
+pub(crate) fn agrees(alloc: Global, case: &str) -> Result<bool, AllocError> {
     let (given, text) = parted(case, "-- shown\n");
     let (files, lines) = parted(given, "-- lines\n");
     let input = input_of(alloc, lines)?;

@@ -6,6 +6,7 @@
 #![tactic(auto)]
 
 mod calls;
+mod cases;
 mod cuts;
 mod endless;
 mod lives;
@@ -14,11 +15,12 @@ mod spoken;
 mod tools;
 mod wholes;
 
+use cases::{Cases, Rows};
 use desk_bench::DeskBench;
 use desk_edge::{CallList, FileList, MemoryFile, MemoryShelf, MemorySink, Shelf};
 use desk_top::{Status, run};
 use std::alloc::{AllocError, Global};
-use std::{fs, io};
+use std::io;
 use wholes::Told;
 
 pub(crate) const MARKET: &[u8] = b"version = 1\ntoday = \"2024-01-02\"\n";
@@ -69,48 +71,33 @@ pub(crate) const FILES: [&str; 24] = [
 
 fn main(rt: HostRuntime) -> io::Result<()> {
     for file in FILES {
-        compare(&rt, file)?;
+        cases::compare(&rt, Cases::Told(Told::Run), file)?;
     }
     cuts::compare(&rt)?;
-    endless::compare(&rt)?;
+    cases::compare_rows(&rt, Rows::Endless, "endless")?;
     calls::compare(&rt)?;
     tools::compare(&rt)?;
     spoken::compare(&rt)?;
-    lives::compare(&rt)?;
-    printed::compare(&rt)
+    lives::compare_lives(&rt)?;
+    cases::compare(&rt, Cases::Printed, "printed")
 }
 
-// Compares the cases of a file and prints how many agree. A line `==` stands between two cases. One that begins with a
-// file gives its files to the cases behind it.
-fn compare(rt: &HostRuntime, file: &str) -> io::Result<()> {
-    let text = fs::read_to_string(rt, file)?;
-    let mut common = "";
-    let mut agree = 0u32;
-    let mut differ = 0u32;
-    for case in text.split("==\n") {
-        if let Some(files) = case.strip_prefix("-- ") {
-            common = files;
-        } else if agrees(rt.alloc(), common, case)? {
-            agree = agree.saturating_add(1);
-        } else {
-            differ = differ.saturating_add(1);
-            println!(rt; "{file}: this differs: {case}")?;
-        }
-    }
-    println!(rt; "{file}: {agree} agree, {differ} differ")
-}
-
-// Whether the run that a case asks for shows the case's text. What is given stands before a line `-- shown`, or else is
-// a script over the two-line market, and stands before `--` and a newline: so the script may lack its last newline.
-fn agrees(alloc: Global, common: &str, case: &str) -> Result<bool, AllocError> {
+/// Whether a script that is told shows the text of its case. What is given stands before a line `-- shown`, or else is
+/// a script over the two-line market, and stands before `--` and a newline: so the script may lack its last newline.
+pub(crate) fn agrees(
+    alloc: Global,
+    told: Told,
+    common: &str,
+    case: &str,
+) -> Result<bool, AllocError> {
     if let Some((given, answers)) = case.split_once("-- shown") {
-        return wholes::agree(alloc, Told::Run, common, given, answers);
+        return wholes::agree(alloc, told, common, given, answers);
     }
     match case.split_once("--\n") {
         Some((script, text)) => {
             let words = texts(alloc, "run m s")?;
             let mut shelf = shelf(alloc, script)?;
-            shows(alloc, &words, &mut shelf, text.as_bytes())
+            told.shows(alloc, &words, &mut shelf, text.as_bytes())
         }
         None => Ok(false),
     }

@@ -3,26 +3,10 @@
 use desk_names::Names;
 use session_lang::{print_script, read_script};
 use std::alloc::Global;
-use std::{fs, io};
 
-// A line `==` stands between two cases. A case is a script, a line `--`, and what it prints as.
-pub(crate) fn compare(rt: &HostRuntime) -> io::Result<()> {
-    let text = fs::read_to_string(rt, "printed")?;
-    let mut agree = 0u32;
-    let mut differ = 0u32;
-    for case in text.split("==\n") {
-        if agrees(rt.alloc(), case) {
-            agree = agree.saturating_add(1);
-        } else {
-            differ = differ.saturating_add(1);
-            println!(rt; "this differs: {case}")?;
-        }
-    }
-    println!(rt; "printed: {agree} agree, {differ} differ")
-}
-
-// Whether the script of a case prints as the case says, and what it prints as prints as itself.
-fn agrees(alloc: Global, case: &str) -> bool {
+/// Whether the script of a case prints as the case says, and what it prints as prints as itself. A case is a script, a line `--`, and
+/// what it prints as.
+pub(crate) fn agrees(alloc: Global, case: &str) -> bool {
     match case.split_once("--\n") {
         Some((script, text)) => prints_as(alloc, script, text) && prints_as(alloc, text, text),
         None => false,

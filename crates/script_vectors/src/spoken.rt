@@ -1,7 +1,8 @@
 // Scripts that are said line by line: each line of a script is said to a session of its market, which must write what `run`
 // shows, where the script has no fault and each of its actions begins before the first line that names it.
-use crate::wholes::{Told, agree};
-use crate::{FILES, shelf, texts};
+use crate::FILES;
+use crate::cases::{Cases, counted};
+use crate::wholes::Told;
 use desk_bench::DeskBench;
 use desk_edge::Shelf;
 use desk_names::Names;
@@ -11,7 +12,7 @@ use market_loader::{load_file, load_market};
 use pricing_session::{LiveSession, NamedMarket};
 use script_words::next_line;
 use std::alloc::{AllocError, Global};
-use std::{fs, io};
+use std::io;
 use watch_rounds::Order;
 
 // Prints how many cases of each file are said alike. Otherwise is one whose script has a fault or an action that begins
@@ -25,38 +26,11 @@ pub(crate) fn compare(rt: &HostRuntime) -> io::Result<()> {
 
 // Prints how many cases of a file are said alike.
 fn compare_file(rt: &HostRuntime, file: &str) -> io::Result<()> {
-    let text = fs::read_to_string(rt, file)?;
-    let mut common = "";
-    let mut alike = 0u32;
-    let mut otherwise = 0u32;
-    for case in text.split("==\n") {
-        if let Some(files) = case.strip_prefix("-- ") {
-            common = files;
-        } else if is_alike(rt.alloc(), common, case)? {
-            alike = alike.saturating_add(1);
-        } else {
-            otherwise = otherwise.saturating_add(1);
-        }
-    }
+    let (alike, otherwise) = counted(rt, Cases::Told(Told::Said), file)?;
     println!(rt; "{file} said: {alike} alike, {otherwise} otherwise")
 }
 
-// Whether what a case gives is said alike.
-fn is_alike(alloc: Global, common: &str, case: &str) -> Result<bool, AllocError> {
-    if let Some((given, answers)) = case.split_once("-- shown") {
-        return agree(alloc, Told::Said, common, given, answers);
-    }
-    match case.split_once("--\n") {
-        Some((script, text)) => {
-            let words = texts(alloc, "run m s")?;
-            let mut shelf = shelf(alloc, script)?;
-            says(alloc, &words, &mut shelf, text.as_bytes())
-        }
-        None => Ok(false),
-    }
-}
-
-// Whether the lines of the script that these words name are said alike.
+/// Whether the lines of the script that these words name are said alike.
 pub(crate) fn says<H: Shelf>(
     alloc: Global,
     words: &[String],

@@ -1,5 +1,6 @@
 // The tools: runs `desk_bump`, `desk_curve`, `desk_explain`, `desk_graph`, `desk_grid`, `desk_measure`, `desk_why` and `desk_yield` over
 // whole cases, and compares the bytes with those that an independent model writes.
+use crate::cases::{self, Cases};
 use bond_tool::run_bond;
 use bump_run::run_bump;
 use curve_run::run_curve;
@@ -10,7 +11,7 @@ use graph_run::run_graph;
 use grid_run::run_grid;
 use measure_run::MeasureTool;
 use std::alloc::{AllocError, Global};
-use std::{fs, io};
+use std::io;
 use tool_process::Ending;
 use whole_cases::{shelf, words};
 use why_run::run_why;
@@ -19,9 +20,9 @@ use yield_run::YieldTool;
 // The most bytes that a case may write.
 const ROOM: usize = 100_000;
 
-// Which program a case runs.
-#[derive(Clone, Copy, PartialEq, Eq)]
-enum Tool {
+/// Which program a case runs.
+#[derive(Clone, Copy)]
+pub(crate) enum Tool {
     Bump,
     Curve,
     Explain,
@@ -68,24 +69,13 @@ pub(crate) fn compare(rt: &HostRuntime) -> io::Result<()> {
     compare_file(rt, Tool::Yield, "yield_bonds")
 }
 
-// Compares the cases of a file and prints how many agree. A line `==` stands between two cases.
+// Compares the cases of a file and prints how many agree.
 fn compare_file(rt: &HostRuntime, tool: Tool, file: &str) -> io::Result<()> {
-    let text = fs::read_to_string(rt, file)?;
-    let mut agree = 0u32;
-    let mut differ = 0u32;
-    for case in text.split("==\n") {
-        if agrees(rt.alloc(), tool, case)? {
-            agree = agree.saturating_add(1);
-        } else {
-            differ = differ.saturating_add(1);
-            println!(rt; "{file}: this differs: {case}")?;
-        }
-    }
-    println!(rt; "{file}: {agree} agree, {differ} differ")
+    cases::compare(rt, Cases::Tool(tool), file)
 }
 
-// Whether the run that a case asks for shows the text behind its line `-- shown`.
-fn agrees(alloc: Global, tool: Tool, case: &str) -> Result<bool, AllocError> {
+/// Whether the run that a case asks for shows the text behind its line `-- shown`.
+pub(crate) fn agrees(alloc: Global, tool: Tool, case: &str) -> Result<bool, AllocError> {
     match case.split_once("-- shown\n") {
         Some((given, text)) => {
             let mut shelf = shelf(alloc, given)?;

@@ -17,6 +17,22 @@ pub(crate) enum Told {
     Said,
 }
 
+impl Told {
+    /// Whether the words show these bytes where they are told so.
+    pub(crate) fn shows(
+        self,
+        alloc: Global,
+        words: &[String],
+        shelf: &mut MemoryShelf,
+        wanted: &[u8],
+    ) -> Result<bool, AllocError> {
+        match self {
+            Told::Run => shows(alloc, words, shelf, wanted),
+            Told::Said => says(alloc, words, shelf, wanted),
+        }
+    }
+}
+
 // What is given of a case.
 #[derive(Clone, Copy)]
 struct Given<'a> {
@@ -97,10 +113,7 @@ fn words_agree(
     wanted: &[u8],
 ) -> Result<bool, AllocError> {
     let mut shelf = shelf(alloc, given)?;
-    match given.told {
-        Told::Run => shows(alloc, words, &mut shelf, wanted),
-        Told::Said => says(alloc, words, &mut shelf, wanted),
-    }
+    given.told.shows(alloc, words, &mut shelf, wanted)
 }
 
 // The words of a line, with an order behind them where one is named.

@@ -1,7 +1,7 @@
 use Rattle.std.proofs.Common.{◌≡◌, ℕ, ◌+◌, ◌-◌, ◌*◌, ◌<◌, ◌≤◌, length}
 use denote.Text.{Utf8}
 use denote.Shadow.{shadow}
-use Rattle.script_vectors.proofs.spoken.compare_file.Given as goal
+use Rattle.script_vectors.proofs.cases.counted.Given as goal
 
 -- the text that several cases share stays text
 abbrev pub invariant-loop-case : goal.invariant-loop-case

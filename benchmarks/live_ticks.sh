@@ -1,15 +1,15 @@
 #!/usr/bin/env bash
-# Says ticks and asks to one live session of the built program live_rows, or of the one that is given: 1,000 lines and then
+# Says ticks and asks to the built program desk_live, or to the one that is given: 1,000 lines and then
 # 1,000,000, and compares the most bytes of heap that each of the two runs held. Fails where the second held more.
 #
-#   (cd crates/live_rows && rt run)     # proves and builds the program
+#   (cd crates/desk_live && rt run)     # proves and builds the program
 #   benchmarks/live_ticks.sh [PROGRAM]
 set -euo pipefail
 here=$(cd "$(dirname "$0")/.." && pwd)
-program=$(realpath "${1:-$here/crates/live_rows/out/live_rows}")
+program=$(realpath "${1:-$here/crates/desk_live/out/desk_live}")
 work=$(mktemp -d)
 trap 'rm -rf "$work"' EXIT
-cp "$here/crates/live_rows/data/market.toml" "$here/crates/live_rows/data/quotes.csv" "$work"
+cp "$here/crates/script_vectors/data/market.toml" "$here/crates/script_vectors/data/quotes.csv" "$work"
 cd "$work"
 python3 - > lines <<'MAKE'
 print("action a\nask book\nend\nwatch clerk a\nregister clerk rate")
@@ -59,11 +59,13 @@ __attribute__((destructor)) static void tell(void) { fprintf(stderr, "%zu %zu\n"
 C
 cc -shared -fPIC -O1 -o held.so held.c
 
-# The most bytes that the heap of a run held; what it wrote goes to standard error.
+# The most bytes that the heap of a run held over so many times the lines; how many lines and bytes it wrote goes to standard error. A block
+# stands open at the end, so it does not end with 0.
 most() {
-    LD_PRELOAD=./held.so "$program" market.toml lines "$1" 2> held > said
-    cat said >&2
-    awk '{ print $1 }' held
+    for ((k = 0; k < $1; k++)); do cat lines; done > all
+    LD_PRELOAD=./held.so "$program" market.toml < all 2> held > said || true
+    wc -lc said >&2
+    tail -n 1 held | awk '{ print $1 }'
 }
 
 few=$(most 1) many=$(most 1000)

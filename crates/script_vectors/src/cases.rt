@@ -1,20 +1,23 @@
 // The cases of a file, and how many of them agree.
+use crate::asked::Opening;
 use crate::tools::Tool;
 use crate::wholes::Told;
-use crate::{agrees, calls, endless, lives, printed, tools};
+use crate::{agrees, asked, calls, endless, lives, printed, tools};
 use std::alloc::{AllocError, Global};
 use std::{fs, io};
 
 /// What the cases of a file are, between two of which a line `==` stands. A case that begins with a file gives its files to the
 /// cases behind it.
 #[derive(Clone, Copy)]
-pub(crate) enum Cases {
+pub(crate) enum Cases<'a> {
     /// Scripts, which are run or said line by line.
     Told(Told),
     /// Runs of a tool.
     Tool(Tool),
     /// Live sessions.
     Live,
+    /// Live sessions that are asked by number.
+    Asked(Opening<'a>),
     /// Scripts that are printed.
     Printed,
 }
@@ -28,13 +31,14 @@ pub(crate) enum Rows {
     Endless,
 }
 
-impl Cases {
+impl Cases<'_> {
     // Whether a case agrees.
     fn agrees(self, alloc: Global, common: &str, case: &str) -> Result<bool, AllocError> {
         match self {
             Cases::Told(told) => agrees(alloc, told, common, case),
             Cases::Tool(tool) => tools::agrees(alloc, tool, case),
             Cases::Live => lives::agrees(alloc, case),
+            Cases::Asked(opening) => asked::agrees(alloc, opening, case),
             Cases::Printed => Ok(printed::agrees(alloc, case)),
         }
     }
@@ -43,19 +47,23 @@ impl Cases {
     fn is_told(self) -> bool {
         match self {
             Cases::Told(Told::Said) => false,
-            Cases::Told(Told::Run) | Cases::Tool(_) | Cases::Live | Cases::Printed => true,
+            Cases::Told(Told::Run)
+            | Cases::Tool(_)
+            | Cases::Live
+            | Cases::Asked(_)
+            | Cases::Printed => true,
         }
     }
 }
 
 /// Compares the cases of a file and prints how many agree.
-pub(crate) fn compare(rt: &HostRuntime, cases: Cases, file: &str) -> io::Result<()> {
+pub(crate) fn compare(rt: &HostRuntime, cases: Cases<'_>, file: &str) -> io::Result<()> {
     let (agree, differ) = counted(rt, cases, file)?;
     println!(rt; "{file}: {agree} agree, {differ} differ")
 }
 
 /// Compares the cases of a file, and counts how many agree and how many do not.
-pub(crate) fn counted(rt: &HostRuntime, cases: Cases, file: &str) -> io::Result<(u32, u32)> {
+pub(crate) fn counted(rt: &HostRuntime, cases: Cases<'_>, file: &str) -> io::Result<(u32, u32)> {
     let text = fs::read_to_string(rt, file)?;
     let mut common = "";
     let mut agree = 0u32;

@@ -2,9 +2,10 @@
 //! independent model of the session writes: prints each case that differs, and how many agree.
 //! Then runs one script with each call of the shelf and of the sink failing in turn, and compares how many calls were
 //! made, failed and missed, how many bytes were written, and the exit status with its line. Then the tools over whole cases
-//! of their own, the scripts said line by line, live sessions, and scripts that are printed and read back.
+//! of their own, the scripts said line by line, live sessions, what these answer by number, and scripts that are printed and read back.
 #![tactic(auto)]
 
+mod asked;
 mod calls;
 mod cases;
 mod cuts;
@@ -79,6 +80,7 @@ fn main(rt: HostRuntime) -> io::Result<()> {
     tools::compare(&rt)?;
     spoken::compare(&rt)?;
     lives::compare_lives(&rt)?;
+    asked::compare_answers(&rt)?;
     cases::compare(&rt, Cases::Printed, "printed")
 }
 

@@ -1,8 +1,0 @@
-use Rattle.std.proofs.Common.{◌≤◌, length}
-use Rattle.live_rows.proofs.conversation.parted.Given as goal
-
-abbrev pub invariant-loop-mark : goal.invariant-loop-mark
-invariant-loop-mark l = length l.rest ≤ length l.text
-
-abbrev pub decreases-loop-mark : goal.decreases-loop-mark
-decreases-loop-mark l = length l.rest

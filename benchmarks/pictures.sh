@@ -70,7 +70,7 @@ def sizes(rows, rates):
     return counts
 
 
-for name in ("curve_by_hand", "curve_markets", "curve_version_two", "curve_faults"):
+for name in ("curve_by_hand", "curve_markets", "curve_version_two", "curve_faults", "curve_pars"):
     for case in (top / "crates/script_vectors/data" / name).read_text().split("==\n"):
         given, _, shown = case.partition("-- shown\n")
         words, files = fields(given)
@@ -87,7 +87,7 @@ for name in ("curve_by_hand", "curve_markets", "curve_version_two", "curve_fault
         elif ran.stdout.startswith("curve,"):
             rows = list(csv.reader(io.StringIO(ran.stdout)))
             steps, rates = "--forward" in words, words[1].startswith("--")
-            assert all(len(row) == (4 if steps else 3) for row in rows)
+            assert all(len(row) == (5 if "--par" in words else 4 if steps else 3) for row in rows)
             found["tables"] += 1
             # a curve without a node has no rates, and no row
             assert [n for n in points(run(words[1:]).stdout, steps) if n] == sizes(rows[1:], rates)

@@ -1,10 +1,11 @@
 #!/usr/bin/env python3
 """A plain model of the texts of desk_curve, written beside the definitions and not after the code.
 
-    tools/curve_pictures.py [--csv] [--zero | --forward] DAY < TRANSCRIPT
+    tools/curve_pictures.py [--csv] [--zero | --forward | --par] DAY < TRANSCRIPT
 
 DAY is the market's day. TRANSCRIPT has the line of an ask for each curve, as `NAME curve DAY FACTOR DAY FACTOR .. MARK N` or
-`NAME refused CAUSE N`. Writes the picture (or with --csv the table); or to standard error the lines of the curves that are refused and
+`NAME refused CAUSE N`. For --par it has a line `NAME helper RATE DAY PARTS DAY PARTS ..` for each helper of a curve, in order: its quote, and the day and
+the parts of a year (of 11,221,560) of each coupon. Writes the picture (or with --csv the table); or to standard error the lines of the curves that are refused and
 that of the status, and ends with 10.
 """
 
@@ -24,17 +25,20 @@ def hundredths(n):
 
 
 def read(lines):
-    """The curves of a transcript, and the lines of those that are refused."""
-    curves, refused = [], []
+    """The curves of a transcript, the helpers of each by its name, and the lines of the curves that are refused."""
+    curves, helpers, refused = [], {}, []
     for line in lines:
         words = line.split()
         if words[1] == "refused":
             refused.append(" ".join(words[:-1]))
+        elif words[1] == "helper":
+            coupons = [(day(d), int(p)) for d, p in zip(words[3::2], words[4::2])]
+            helpers.setdefault(words[0], []).append((int(Decimal(words[2]) * 10**9), coupons))
         else:
             pairs = words[2:-2]
             points = [(day(d), int(Decimal(f) * 10**12)) for d, f in zip(pairs[::2], pairs[1::2])]
             curves.append((words[0], points))
-    return curves, refused
+    return curves, helpers, refused
 
 
 def decimal(units, places):
@@ -89,21 +93,39 @@ def rates(points, plot):
     return found
 
 
+def pars(points, helpers):
+    """The par rates of helpers with their ends and quotes; None where one, or a quote, is beyond 10 either way."""
+    found = []
+    for quote, coupons in helpers:
+        end = coupons[-1][0]
+        worth = sum(parts * discount(points, day) for day, parts in coupons)
+        units = nearest((10**12 - discount(points, end)) * 10**9 * 11_221_560, worth) if worth else None
+        if worth == 0 or abs(units) > 10**10 or abs(quote) > 10**10:
+            return None
+        found.append((end, quote, units))
+    return found
+
+
 # ---- the texts
 
-HEADINGS = {"factor": "curve,day,discount", "zero": "curve,day,zero", "forward": "curve,from,until,forward"}
-TITLES = {"factor": "Discount factors", "zero": "Simple zero rates", "forward": "Simple forward rates over three months"}
+HEADINGS = {"factor": "curve,day,discount", "zero": "curve,day,zero", "forward": "curve,from,until,forward", "par": "curve,day,quoted,par,residual"}
+TITLES = {"factor": "Discount factors", "zero": "Simple zero rates", "forward": "Simple forward rates over three months", "par": "Par rates of the helpers"}
 
 
-def lines_of(curves, plot):
-    """The points of each curve as the days from which and until which their values are, and these."""
+def lines_of(curves, helpers, plot):
+    """The points of each curve as the days from which and until which their values are, and these; of a par rate its quote and not a first day."""
     if plot == "factor":
         return [(name, [(d, d, f) for d, f in points]) for name, points in curves]
+    if plot == "par":
+        lines = [(name, pars(points, helpers.get(name, []))) for name, points in curves]
+        return [(name, line and [(quote, end, units) for end, quote, units in line]) for name, line in lines]
     return [(name, rates(points, plot)) for name, points in curves]
 
 
 def said(plot, point, separator):
     start, until, units = point
+    if plot == "par":
+        return separator.join([until.isoformat(), decimal(start, 9), decimal(units, 9), decimal(units - start, 9)])
     days = [start.isoformat()] if plot == "forward" else []
     return separator.join(days + [until.isoformat(), decimal(units, 12 if plot == "factor" else 9)])
 
@@ -171,7 +193,7 @@ def picture(today, lines, plot):
         out.append(f"<polyline fill='none' stroke-width='2' points='{line}'/>")
         for point in points:
             a, b = hundredths(x(point[0] if plot == "forward" else point[1])), hundredths(y(point[2]))
-            radius = "3" if plot == "factor" else "1.5"
+            radius = "1.5" if plot in ("zero", "forward") else "3"
             out.append(f"<circle cx='{a}' cy='{b}' r='{radius}'><title>{said(plot, point, ' ')}</title></circle>")
         left, foot = 7000 + 35000 * (k % 2), 45600 + 1600 * (k // 2)
         out.append(f"<path stroke-width='2' d='M{hundredths(left)} {hundredths(foot)}h24'/>")
@@ -181,9 +203,9 @@ def picture(today, lines, plot):
     return "".join(line + "\n" for line in out)
 
 
-def shown(today, curves, plot, as_table):
+def shown(today, curves, helpers, plot, as_table):
     """The text of curves, or the lines of those of which a rate is refused."""
-    lines = lines_of(curves, plot)
+    lines = lines_of(curves, helpers, plot)
     refused = [f"{name} refused raterange {name}" for name, points in lines if points is None]
     return "" if refused else table(lines, plot) if as_table else picture(today, lines, plot), refused
 
@@ -191,10 +213,10 @@ def shown(today, curves, plot, as_table):
 def main():
     words = sys.argv[1:]
     as_table = words[:1] == ["--csv"]
-    plot = {"--zero": "zero", "--forward": "forward"}.get(words[as_table], "factor")
+    plot = {"--zero": "zero", "--forward": "forward", "--par": "par"}.get(words[as_table], "factor")
     today = day(words[-1])
-    curves, refused = read(line for line in sys.stdin if line.strip())
-    text, refused = ("", refused) if refused else shown(today, curves, plot, as_table)
+    curves, helpers, refused = read(line for line in sys.stdin if line.strip())
+    text, refused = ("", refused) if refused else shown(today, curves, helpers, plot, as_table)
     sys.stdout.write(text)
     if refused:
         sys.stderr.write("".join(line + "\n" for line in [*refused, "desk_curve: refused"]))

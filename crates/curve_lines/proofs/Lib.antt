@@ -1,3 +1,4 @@
 pub mod Appending
 pub mod Daily
+pub mod Parred
 pub mod Rated

@@ -5,7 +5,8 @@ use Rattle.std.proofs.lemmas.List.{append_assoc, append-nil, drop_more, drop_all
 use Rattle.curve_points.specs.Curve.{Curve}
 use Rattle.desk_terms.specs.declared.cause.Cause.{Cause}
 use Rattle.curve_lines.specs.declared.lines.PlotPoint.{PlotPoint}
-use Rattle.curve_lines.specs.Lines.{rate_point, rate_then, then_points, rate_points}
+use Rattle.curve_lines.specs.Lines.{rate_point, rate_then, rate_points}
+use Rattle.curve_lines.specs.Points.{then_points}
 use Rattle.curve_lines.specs.Rates.{rate_between}
 
 -- points that are there, and those behind them
@@ -17,7 +18,7 @@ pub behind_none : (rest : Result (List PlotPoint) Cause) → rest ≡ behind [] 
 behind_none (Ok points) = refl
 behind_none (Err cause) = refl
 
-behind_one : (made : List PlotPoint) (point : PlotPoint) (rest : Result (List PlotPoint) Cause)
+pub behind_one : (made : List PlotPoint) (point : PlotPoint) (rest : Result (List PlotPoint) Cause)
     → behind made (then_points point rest) ≡ behind (made ++ point ∷ []) rest
 behind_one made point (Ok points) = ap (λ (l : List PlotPoint). Ok l) (sym (append_assoc made (point ∷ []) points))
 behind_one made point (Err cause) = refl

@@ -1,13 +1,14 @@
 -- What is drawn of a curve (this project's profile).
-use Rattle.std.specs.Prelude.{◌≡◌, ℕ, ℤ, ◌-◌, Bool, true, false, if◌then◌else◌, List, [], ◌∷◌, map, length, Option, None, Some, slice_get, Result, Ok, Err, Vec}
-use Rattle.std.specs.declared.alloc.Global.{Global}
+use Rattle.std.specs.Prelude.{ℕ, ℤ, ◌-◌, Bool, true, false, if◌then◌else◌, List, [], ◌∷◌, map, length, Option, None, Some, slice_get, Result, Ok, Err}
 use Rattle.curve_points.specs.declared.curves.CurveNode.{CurveNode}
 use Rattle.curve_points.specs.Curve.{Curve, points}
 use Rattle.desk_terms.specs.declared.cause.Cause.{Cause}
 use Rattle.curve_lines.specs.declared.lines.Plot.{Plot}
-use Rattle.curve_lines.specs.declared.lines.Plot.TheVariants.{Factors, Zeros, Forwards}
+use Rattle.curve_lines.specs.declared.lines.Plot.TheVariants.{Factors, Zeros, Forwards, Pars}
 use Rattle.curve_lines.specs.declared.lines.PlotPoint.{PlotPoint}
 use Rattle.curve_lines.specs.Days.{days_of}
+use Rattle.curve_lines.specs.Pars.{Quotes, par_points}
+use Rattle.curve_lines.specs.Points.{then_points}
 use Rattle.curve_lines.specs.Rates.{rate_between}
 
 -- a curve as its owner and the points that are drawn
@@ -17,16 +18,11 @@ pub record Line : Type 0 where
 
 -- a discount factor, in units of 10^-12
 abbrev pub factor_point : CurveNode → PlotPoint
-factor_point node = record { from = node.day; until = node.day; units = node.factor }
+factor_point node = record { from = node.day; until = node.day; units = node.factor; quoted = node.factor }
 
 -- a rate from a day to a later one, in units of 10^-9
 abbrev pub rate_point : ℤ → ℤ → ℤ → PlotPoint
-rate_point from until rate = record { from = from; until = until; units = rate }
-
--- a point, and those behind it; the first that is refused is the answer
-abbrev pub then_points : PlotPoint → Result (List PlotPoint) Cause → Result (List PlotPoint) Cause
-then_points point (Ok points) = Ok (point ∷ points)
-then_points point (Err cause) = Err cause
+rate_point from until rate = record { from = from; until = until; units = rate; quoted = rate }
 
 abbrev pub rate_then : ℤ → ℤ → Result ℤ Cause → Result (List PlotPoint) Cause → Result (List PlotPoint) Cause
 rate_then from until (Ok rate) rest = then_points (rate_point from until rate) rest
@@ -47,21 +43,17 @@ rates_to rolls every curve (Some node) =
 abbrev pub last_node : Curve → Option CurveNode
 last_node curve = slice_get curve.nodes (length curve.nodes - 1)
 
--- THE POINTS that are drawn of a curve: its factors, zero rates by the month, forward rates over three months
-abbrev pub plotted : Plot → Curve → Result (List PlotPoint) Cause
-plotted Factors curve = Ok (map factor_point (points curve))
-plotted Zeros curve = rates_to false 1 curve (last_node curve)
-plotted Forwards curve = rates_to true 3 curve (last_node curve)
-
--- points that were made are these
-abbrev pub PointsAre : Result (Vec PlotPoint Global) Cause → Result (List PlotPoint) Cause → Type 0
-PointsAre (Ok points) wanted = wanted ≡ Ok points.items
-PointsAre (Err cause) wanted = wanted ≡ Err cause
+-- THE POINTS that are drawn of a curve: its factors, zero rates by the month, forward rates over three months, par rates of its helpers
+abbrev pub plotted : Plot → Quotes → Curve → Result (List PlotPoint) Cause
+plotted Factors quotes curve = Ok (map factor_point (points curve))
+plotted Zeros quotes curve = rates_to false 1 curve (last_node curve)
+plotted Forwards quotes curve = rates_to true 3 curve (last_node curve)
+plotted Pars quotes curve = par_points quotes curve
 
 abbrev pub line_by : ℕ → Result (List PlotPoint) Cause → Result Line Cause
 line_by owner (Ok points) = Ok (record { owner = owner; points = points })
 line_by owner (Err cause) = Err cause
 
--- THE LINE of a curve
-abbrev pub line_of : Plot → Curve → Result Line Cause
-line_of plot curve = line_by curve.owner (plotted plot curve)
+-- THE LINE of a curve with its quoted helpers
+abbrev pub line_of : Plot → Quotes → Curve → Result Line Cause
+line_of plot quotes curve = line_by curve.owner (plotted plot quotes curve)

@@ -1,10 +1,14 @@
 // What is drawn of a curve.
-ghost use Rattle.std.specs.Prelude.{◌≡◌, ◌≤◌, ◌++◌, [], ◌∷◌, map, OnOk, IfOk, if◌then◌else◌};
+ghost use Rattle.std.specs.Prelude.{◌≡◌, ◌≤◌, ◌++◌, [], ◌∷◌, map, All, OnOk, IfOk, if◌then◌else◌};
 ghost use Rattle.curve_points.specs.Curve.{points};
+ghost use Rattle.curve_terms.specs.Terms.{IsHelper};
 ghost use Rattle.flow_terms.specs.Fixings.{IsRate};
-ghost use Rattle.curve_lines.specs.Lines.{factor_point, rate_point, rate_points, rates_to, last_node, plotted, line_of, PointsAre};
+ghost use Rattle.curve_lines.specs.Lines.{factor_point, rate_point, rate_points, rates_to, last_node, plotted, line_of};
+ghost use Rattle.curve_lines.specs.Pars.{quoted_in};
+ghost use Rattle.curve_lines.specs.Points.{PointsAre};
 
 use crate::days::days_of;
+use crate::pars::{Quoted, par_points};
 use crate::rates::rate_between;
 use curve_points::{CurveNode, CurveValue, ONE};
 use day_number::Day;
@@ -23,14 +27,18 @@ pub enum Plot {
     Zeros,
     /// Simple forward rates over three months, one after the other from the reference day; the last ends at the last node.
     Forwards,
+    /// Par rates of the curve's helpers, each at the end of its helper, beside their quotes.
+    Pars,
 }
 
-/// A point: a value that is one from a day until another, which is the same day for a discount factor.
+/// A point: a value that is one from a day until another, which is the same day for a discount factor, and what is quoted for it: of a par
+/// rate the quote of its helper, of all else the value itself.
 #[derive(Clone, Copy)]
 pub struct PlotPoint {
     pub from: Day,
     pub until: Day,
     pub units: PlotUnits,
+    pub quoted: PlotUnits,
 }
 
 /// A discount factor in units of 10^-12, or a rate in units of 10^-9: at most 4 * 10^12 either way. A clause sees the number.
@@ -82,17 +90,20 @@ impl PlotLine {
     }
 }
 
-/// What is drawn of a curve. A rate is refused with `RateRange` of its owner where it is beyond 10 either way, and the first that is
-/// refused is the answer.
+/// What is drawn of a curve with these helpers. A rate is refused with `RateRange` of its owner where it is beyond 10 either way, and the
+/// first that is refused is the answer; so is a par rate that there is not, or with `DateRange` where a day of its helper leaves the
+/// range.
 pub fn line_of(
     alloc: Global,
     curve: &CurveValue,
+    quoted: &Quoted<'_>,
     plot: Plot,
 ) -> Result<Result<PlotLine, Cause>, AllocError>
-    ensures { IfOk result (λ line. line ≡ line_of plot curve.now) }
+    requires { All IsHelper quoted.now.helpers.now }
+    ensures { IfOk result (λ line. line ≡ line_of plot (quoted_in quoted.now) curve.now) }
 {
     let owner = curve.owner();
-    match plotted(alloc, curve, plot)? {
+    match plotted(alloc, curve, quoted, plot)? {
         Ok(points) => Ok(Ok(PlotLine { owner, points })),
         Err(cause) => Ok(Err(cause)),
     }
@@ -102,14 +113,17 @@ pub fn line_of(
 fn plotted(
     alloc: Global,
     curve: &CurveValue,
+    quoted: &Quoted<'_>,
     plot: Plot,
 ) -> Result<Result<Vec<PlotPoint>, Cause>, AllocError>
-    ensures { IfOk result (λ given. PointsAre given (plotted plot curve.now)) }
+    requires { All IsHelper quoted.now.helpers.now }
+    ensures { IfOk result (λ given. PointsAre given (plotted plot (quoted_in quoted.now) curve.now)) }
 {
     match plot {
         Plot::Factors => Ok(Ok(factor_points(alloc, curve)?)),
         Plot::Zeros => rates_to(alloc, curve, false, 1),
         Plot::Forwards => rates_to(alloc, curve, true, 3),
+        Plot::Pars => par_points(alloc, curve, quoted),
     }
 }
 
@@ -122,6 +136,7 @@ fn factor_points(alloc: Global, curve: &CurveValue) -> Result<Vec<PlotPoint>, Al
         from: curve.reference(),
         until: curve.reference(),
         units: PlotUnits(ONE),
+        quoted: PlotUnits(ONE),
     })?;
     push_factors(curve.nodes(), &mut made)?;
     Ok(made)
@@ -145,6 +160,7 @@ fn push_factor(node: &CurveNode, made: &mut Vec<PlotPoint>) -> Result<(), AllocE
         from: node.day,
         until: node.day,
         units: PlotUnits(node.factor.units()),
+        quoted: PlotUnits(node.factor.units()),
     })?;
     Ok(())
 }
@@ -210,6 +226,7 @@ fn push_rate(
         from,
         until,
         units: PlotUnits(rate.units()),
+        quoted: PlotUnits(rate.units()),
     })?;
     Ok(())
 }

@@ -64,7 +64,7 @@ fn forward_rate(
 }
 
 // A rate of so many units, where it is within 10 either way.
-fn ranged(owner: ObjId, units: i128) -> Result<Rate, Cause>
+pub(crate) fn ranged(owner: ObjId, units: i128) -> Result<Rate, Cause>
     ensures value { result ≡ rate_or_cause owner units }
     ensures range { IfOk result IsRate }
 {

@@ -3,7 +3,7 @@ use Rattle.std.specs.Prelude.{ℕ, ℤ, pos, ◌-ℤ◌, ◌+ℤ◌, ◌^◌, un
 use Rattle.day_number.specs.Day.{day_text}
 use Rattle.fixed_amount.specs.Decimal.{decimal_text}
 use Rattle.curve_lines.specs.declared.lines.Plot.{Plot}
-use Rattle.curve_lines.specs.declared.lines.Plot.TheVariants.{Factors, Zeros, Forwards}
+use Rattle.curve_lines.specs.declared.lines.Plot.TheVariants.{Factors, Zeros, Forwards, Pars}
 use Rattle.curve_lines.specs.declared.lines.PlotPoint.{PlotPoint}
 use Rattle.curve_lines.specs.Lines.{Line}
 use Rattle.curve_picture.specs.declared.points.Corner.{Corner}
@@ -13,12 +13,14 @@ abbrev pub digits_of : Plot → ℕ
 digits_of Factors = 12
 digits_of Zeros = 9
 digits_of Forwards = 9
+digits_of Pars = 9
 
 -- the height of the value 0: rates lie within 10 either way
 abbrev pub base_of : Plot → ℕ
 base_of Factors = 0
 base_of Zeros = 10 ^ 10
 base_of Forwards = 10 ^ 10
+base_of Pars = 10 ^ 10
 
 -- the height of a value
 abbrev pub height_of : Plot → ℤ → ℕ
@@ -31,6 +33,7 @@ corner day height = record { day = day; height = height }
 abbrev pub corners_of : Plot → PlotPoint → List Corner
 corners_of Factors point = corner point.until (height_of Factors point.units) ∷ []
 corners_of Zeros point = corner point.until (height_of Zeros point.units) ∷ []
+corners_of Pars point = corner point.until (height_of Pars point.units) ∷ []
 corners_of Forwards point =
     corner point.from (height_of Forwards point.units) ∷ corner point.until (height_of Forwards point.units) ∷ []
 
@@ -79,6 +82,7 @@ abbrev pub some_height : Plot → List Corner → ℕ
 some_height Factors corners = 10 ^ 12
 some_height Zeros corners = first_height (10 ^ 10) corners
 some_height Forwards corners = first_height (10 ^ 10) corners
+some_height Pars corners = first_height (10 ^ 10) corners
 
 -- a day, and behind a separator a value of so many places
 unfoldable pub dated_text : List ℕ → ℤ → ℤ → ℕ → List ℕ
@@ -88,8 +92,20 @@ dated_text separator day units places = day_text day ++ separator ++ decimal_tex
 unfoldable pub from_text : List ℕ → ℤ → ℤ → ℤ → List ℕ
 from_text separator from until units = day_text from ++ separator ++ dated_text separator until units 9
 
--- the day of a point, and behind a separator the factor with twelve places, or the rate with nine; of a forward rate both days
+-- a par rate, and its residual: how far it is above its quote
+unfoldable pub par_text : List ℕ → PlotPoint → List ℕ
+par_text separator point =
+    decimal_text point.units 9 ++ separator ++ decimal_text (point.units -ℤ point.quoted) 9
+
+-- the day of a par rate, its quote, itself, and its residual
+unfoldable pub quoted_text : List ℕ → PlotPoint → List ℕ
+quoted_text separator point =
+    dated_text separator point.until point.quoted 9 ++ separator ++ par_text separator point
+
+-- the day of a point, and behind a separator the factor with twelve places, or the rate with nine; of a forward rate both days, of a
+-- par rate its quote too, and its residual
 abbrev pub point_text : Plot → List ℕ → PlotPoint → List ℕ
 point_text Factors separator point = dated_text separator point.until point.units 12
 point_text Zeros separator point = dated_text separator point.until point.units 9
 point_text Forwards separator point = from_text separator point.from point.until point.units
+point_text Pars separator point = quoted_text separator point

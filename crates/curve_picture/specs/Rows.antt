@@ -1,7 +1,7 @@
 -- Curves worked through by hand: from 2024-01-02 with the factor 0.990099009901 on 2024-04-11, of two weeks, above 1, and of
 -- sixty years.
 use Rattle.std.specs.Prelude.{◌≡◌, ◌*◌, ◌^◌, ℕ, ℤ, List, [], ◌∷◌, pos, negsuc, codes}
-use Rattle.curve_lines.specs.declared.lines.Plot.TheVariants.{Factors, Zeros, Forwards}
+use Rattle.curve_lines.specs.declared.lines.Plot.TheVariants.{Factors, Zeros, Forwards, Pars}
 use Rattle.curve_lines.specs.declared.lines.PlotPoint.{PlotPoint}
 use Rattle.curve_lines.specs.Lines.{Line}
 use Rattle.curve_picture.specs.declared.places.TheConstants.{LEFT, WIDTH, FOOT, HEIGHT}
@@ -21,7 +21,7 @@ abbrev pub four_objects : List ℕ
 four_objects = 0 ∷ 1 ∷ 2 ∷ 3 ∷ []
 
 abbrev pub point : ℤ → ℤ → ℤ → PlotPoint
-point from until units = record { from = from; until = until; units = units }
+point from until units = record { from = from; until = until; units = units; quoted = units }
 
 abbrev pub at_day : ℤ → ℤ → PlotPoint
 at_day day units = point day day units
@@ -43,6 +43,13 @@ two_rates = record {
   owner = 2;
   points = point (pos 19_724) (pos 19_824) (pos 36_500_000) ∷ point (pos 19_824) (pos 20_024) (negsuc 5_249_999) ∷ [];
 }
+
+-- a par rate of 3.6 % beside a quote that is a unit above it
+abbrev pub par_point : PlotPoint
+par_point = record { from = pos 19_824; until = pos 19_824; units = pos 36_000_000; quoted = pos 36_000_001 }
+
+abbrev pub one_par : Line
+one_par = record { owner = 2; points = par_point ∷ [] }
 
 abbrev pub scale_for : Line → Scale
 scale_for line = scale_of Factors (pos 19_724) (all_corners Factors (line ∷ []))
@@ -158,6 +165,8 @@ pub record AreWorked : Type 0 where
       codes "curve,day,zero\nc,2024-04-11,0.036500000\nc,2024-10-28,-0.005250000\n"
   pub forwards : table_text four_names four_objects Forwards (two_rates ∷ []) ≡
       codes "curve,from,until,forward\nc,2024-01-02,2024-04-11,0.036500000\nc,2024-04-11,2024-10-28,-0.005250000\n"
+  pub pars : table_text four_names four_objects Pars (one_par ∷ []) ≡
+      codes "curve,day,quoted,par,residual\nc,2024-04-11,0.036000001,0.036000000,-0.000000001\n"
 
 pub record AreDrawn : Type 0 where
   pub day : stride_mark hundred_days 5 ≡
@@ -182,6 +191,10 @@ pub record AreDrawn : Type 0 where
       codes "<polyline fill='none' stroke-width='2' points=' 70.00,74.50 303.33,74.50 303.33,366.75 770.00,366.75'/>\n"
   pub marked : disk_text three_hundred_days (point (pos 19_824) (pos 20_024) (negsuc 5_249_999)) ≡
       codes "<circle cx='303.33' cy='366.75' r='1.5'><title>2024-04-11 2024-10-28 -0.005250000</title></circle>\n"
+  pub par : line_text three_hundred_days (all_corners Pars (one_par ∷ [])) ≡
+      codes "<polyline fill='none' stroke-width='2' points=' 303.33,78.00'/>\n"
+  pub marked_par : disk_text (record three_hundred_days { plot = Pars }) par_point ≡
+      codes "<circle cx='303.33' cy='78.00' r='3'><title>2024-04-11 0.036000001 0.036000000 -0.000000001</title></circle>\n"
   pub curve : curve_text four_names four_objects hundred_days 1 one_node ≡
       codes "<g stroke='#d62728' fill='#d62728'>\n<polyline fill='none' stroke-width='2' points=' 70.00,50.00 770.00,396.54'/>\n<circle cx='70.00' cy='50.00' r='3'><title>2024-01-02 1.000000000000</title></circle>\n<circle cx='770.00' cy='396.54' r='3'><title>2024-04-11 0.990099009901</title></circle>\n<path stroke-width='2' d='M420.00 456.00h24'/>\n<text stroke='none' fill='black' dy='4' x='452.00' y='456.00'>c</text>\n</g>\n"
   -- the entry of the last of eight curves, sixteen pixels above the lower edge
@@ -197,6 +210,7 @@ pub record AreTheConstants : Type 0 where
       codes "<svg xmlns='http://www.w3.org/2000/svg' width='800' height='520' viewBox='0 0 800 520' font-family='sans-serif' font-size='12'>\n<rect width='800' height='520' fill='white'/>\n<text x='70' y='32' font-size='18'>Discount factors on 2024-01-04</text>\n<text x='420' y='436' text-anchor='middle'>days from 2024-01-02</text>\n"
   pub zeros : title_text Zeros ≡ codes "Simple zero rates on "
   pub forwards : title_text Forwards ≡ codes "Simple forward rates over three months on "
+  pub pars : title_text Pars ≡ codes "Par rates of the helpers on "
   pub frame : FRAME.now ≡ codes "<rect x='70' y='50' width='700' height='350' fill='none' stroke='#666666'/>\n"
   pub footer : FOOTER.now ≡ codes "</svg>\n"
   pub left : LEFT ≡ 70 * 100

@@ -7,11 +7,11 @@ use Rattle.day_number.specs.Day.{day_text}
 use Rattle.fixed_amount.specs.Decimal.{decimal_text}
 use Rattle.price_report.specs.Namer.{object_text}
 use Rattle.curve_lines.specs.declared.lines.Plot.{Plot}
-use Rattle.curve_lines.specs.declared.lines.Plot.TheVariants.{Factors, Zeros, Forwards}
+use Rattle.curve_lines.specs.declared.lines.Plot.TheVariants.{Factors, Zeros, Forwards, Pars}
 use Rattle.curve_lines.specs.declared.lines.PlotPoint.{PlotPoint}
 use Rattle.curve_lines.specs.Lines.{Line}
 use Rattle.curve_picture.specs.declared.points.Corner.{Corner}
-use Rattle.curve_picture.specs.declared.texts.TheConstants.{BELOW, BESIDE, CENTRED, CONTENT, DAYS_FROM, DISK, DISK_DOWN, DISK_END, ENTRY, ENTRY_DOWN, ENTRY_NAME, FILLED, FACTORS_ON, FLUSH, FOOTER, FORWARDS_ON, FRAME, GROUP, GROUP_END, HEAD, LINE, LINE_END, OPENED, RIGHTWARDS, SMALL_TITLE, TEXT_END, TITLE, UPWARDS, YEARS_FROM, ZEROS_ON}
+use Rattle.curve_picture.specs.declared.texts.TheConstants.{BELOW, BESIDE, CENTRED, CONTENT, DAYS_FROM, DISK, DISK_DOWN, DISK_END, ENTRY, ENTRY_DOWN, ENTRY_NAME, FILLED, FACTORS_ON, FLUSH, FOOTER, FORWARDS_ON, FRAME, GROUP, GROUP_END, HEAD, LINE, LINE_END, OPENED, PARS_ON, RIGHTWARDS, SMALL_TITLE, TEXT_END, TITLE, UPWARDS, YEARS_FROM, ZEROS_ON}
 use Rattle.curve_picture.specs.declared.scale.Scale.{Scale}
 use Rattle.curve_picture.specs.declared.scale.TheConstants.{DAY}
 use Rattle.curve_picture.specs.Places.{placed, day_place, height_place, stride_place, step_place}
@@ -103,12 +103,14 @@ unfoldable pub marked_day : Plot → PlotPoint → ℤ
 marked_day Factors point = point.until
 marked_day Zeros point = point.until
 marked_day Forwards point = point.from
+marked_day Pars point = point.until
 
--- a disk, which is smaller for rates, and what begins its title
+-- a disk, which is smaller where there are many, and what begins its title
 unfoldable pub disk_title : Plot → List ℕ
 disk_title Factors = TITLE.now
 disk_title Zeros = SMALL_TITLE.now
 disk_title Forwards = SMALL_TITLE.now
+disk_title Pars = TITLE.now
 
 -- a point marked by a disk, whose title says it
 unfoldable pub disk_text : Scale → PlotPoint → List ℕ
@@ -175,6 +177,7 @@ unfoldable pub title_text : Plot → List ℕ
 title_text Factors = FACTORS_ON.now
 title_text Zeros = ZEROS_ON.now
 title_text Forwards = FORWARDS_ON.now
+title_text Pars = PARS_ON.now
 
 -- the heading: what is drawn, and the day of the market
 unfoldable pub top_text : Plot → ℤ → List ℕ

@@ -3,7 +3,7 @@
 use Rattle.std.specs.Prelude.{ℕ, List, [], ◌∷◌, ◌++◌, codes}
 use Rattle.price_report.specs.Namer.{object_text}
 use Rattle.curve_lines.specs.declared.lines.Plot.{Plot}
-use Rattle.curve_lines.specs.declared.lines.Plot.TheVariants.{Factors, Zeros, Forwards}
+use Rattle.curve_lines.specs.declared.lines.Plot.TheVariants.{Factors, Zeros, Forwards, Pars}
 use Rattle.curve_lines.specs.declared.lines.PlotPoint.{PlotPoint}
 use Rattle.curve_lines.specs.Lines.{Line}
 use Rattle.curve_picture.specs.Points.{point_text}
@@ -28,6 +28,7 @@ unfoldable pub table_heading : Plot → List ℕ
 table_heading Factors = codes "curve,day,discount\n"
 table_heading Zeros = codes "curve,day,zero\n"
 table_heading Forwards = codes "curve,from,until,forward\n"
+table_heading Pars = codes "curve,day,quoted,par,residual\n"
 
 -- the heading, and a row for each point of each line
 unfoldable pub table_text : List (List ℕ) → List ℕ → Plot → List Line → List ℕ

@@ -177,18 +177,18 @@ fn marked_day(plot: Plot, point: &PlotPoint) -> Day
     ensures { result ≡ marked_day plot point.now }
 {
     match plot {
-        Plot::Factors | Plot::Zeros => point.until,
+        Plot::Factors | Plot::Zeros | Plot::Pars => point.until,
         Plot::Forwards => point.from,
     }
 }
 
-// What the title of a disk begins with, which is smaller for rates.
+// What the title of a disk begins with, which is smaller where there are many.
 #[tactic(auto, unfolding(crate::specs::Svg::disk_title))]
 fn disk_title(plot: Plot) -> &'static [u8]
     ensures { result.now ≡ disk_title plot }
 {
     match plot {
-        Plot::Factors => TITLE,
+        Plot::Factors | Plot::Pars => TITLE,
         Plot::Zeros | Plot::Forwards => SMALL_TITLE,
     }
 }

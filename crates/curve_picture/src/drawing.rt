@@ -8,7 +8,8 @@ use crate::marks::push_axes;
 use crate::points::all_corners;
 use crate::scale::{DAY, Scale, scale_of};
 use crate::texts::{
-    DAYS_FROM, FACTORS_ON, FOOTER, FORWARDS_ON, FRAME, HEAD, TEXT_END, YEARS_FROM, ZEROS_ON,
+    DAYS_FROM, FACTORS_ON, FOOTER, FORWARDS_ON, FRAME, HEAD, PARS_ON, TEXT_END, YEARS_FROM,
+    ZEROS_ON,
 };
 use curve_lines::{Plot, PlotLine};
 use day_number::{Day, print_day};
@@ -105,6 +106,7 @@ fn title_of(plot: Plot) -> &'static [u8]
         Plot::Factors => FACTORS_ON,
         Plot::Zeros => ZEROS_ON,
         Plot::Forwards => FORWARDS_ON,
+        Plot::Pars => PARS_ON,
     }
 }
 

@@ -48,6 +48,7 @@ fn heading_of(plot: Plot) -> &'static [u8]
         Plot::Factors => b"curve,day,discount\n",
         Plot::Zeros => b"curve,day,zero\n",
         Plot::Forwards => b"curve,from,until,forward\n",
+        Plot::Pars => b"curve,day,quoted,par,residual\n",
     }
 }
 

@@ -1,7 +1,7 @@
 // The points of lines as corners, and how far they reach.
-ghost use Rattle.std.specs.Prelude.{◌≡◌, ◌≤◌, ◌≤ℤ◌, ◌++◌, [], ◌∷◌, ◌^◌, ◌*◌, pos, IfOk, OnOk};
+ghost use Rattle.std.specs.Prelude.{◌≡◌, ◌≤◌, ◌≤ℤ◌, ◌-ℤ◌, ◌++◌, [], ◌∷◌, ◌^◌, ◌*◌, pos, IfOk, OnOk};
 ghost use Rattle.curve_lines.specs.Lines.{Line};
-ghost use Rattle.curve_picture.specs.Points.{digits_of, base_of, height_of, corner, corners_of, line_corners, all_corners, earlier, first_day, days_from, span_from, lowest, highest, first_height, some_height, dated_text, from_text, point_text};
+ghost use Rattle.curve_picture.specs.Points.{digits_of, base_of, height_of, corner, corners_of, line_corners, all_corners, earlier, first_day, days_from, span_from, lowest, highest, first_height, some_height, dated_text, from_text, par_text, quoted_text, point_text};
 
 use curve_lines::{Plot, PlotLine, PlotPoint, PlotUnits};
 use day_number::{Day, print_day};
@@ -44,7 +44,7 @@ pub(crate) fn digits_of(plot: Plot) -> u8
 {
     match plot {
         Plot::Factors => FACTOR_PLACES,
-        Plot::Zeros | Plot::Forwards => RATE_PLACES,
+        Plot::Zeros | Plot::Forwards | Plot::Pars => RATE_PLACES,
     }
 }
 
@@ -55,7 +55,7 @@ pub(crate) fn base_of(plot: Plot) -> u128
 {
     match plot {
         Plot::Factors => 0,
-        Plot::Zeros | Plot::Forwards => 10_000_000_000,
+        Plot::Zeros | Plot::Forwards | Plot::Pars => 10_000_000_000,
     }
 }
 
@@ -67,7 +67,7 @@ fn base_units(plot: Plot) -> i128
 {
     match plot {
         Plot::Factors => 0,
-        Plot::Zeros | Plot::Forwards => 10_000_000_000,
+        Plot::Zeros | Plot::Forwards | Plot::Pars => 10_000_000_000,
     }
 }
 
@@ -113,7 +113,7 @@ fn push_corners_of(plot: Plot, point: &PlotPoint, out: &mut Vec<Corner>) -> Resu
 {
     let height = height_of(plot, point.units);
     match plot {
-        Plot::Factors | Plot::Zeros => push_corner(point.until, height, out),
+        Plot::Factors | Plot::Zeros | Plot::Pars => push_corner(point.until, height, out),
         Plot::Forwards => {
             push_corner(point.from, height, out)?;
             push_corner(point.until, height, out)
@@ -171,7 +171,7 @@ pub(crate) fn some_height(plot: Plot, corners: &[Corner]) -> u128
 {
     match plot {
         Plot::Factors => 1_000_000_000_000,
-        Plot::Zeros | Plot::Forwards => first_height(10_000_000_000, corners),
+        Plot::Zeros | Plot::Forwards | Plot::Pars => first_height(10_000_000_000, corners),
     }
 }
 
@@ -233,7 +233,7 @@ pub(crate) fn units_of(height: Height) -> u128
     height.0
 }
 
-// Appends the day of a point, and behind a separator its value; of a forward rate both days.
+// Appends the day of a point, and behind a separator its value; of a forward rate both days; of a par rate its quote too, and the residual.
 pub(crate) fn push_point(
     alloc: Global,
     plot: Plot,
@@ -248,6 +248,7 @@ pub(crate) fn push_point(
         Plot::Factors => push_dated(alloc, separator, point.until, units, FACTOR_PLACES, out),
         Plot::Zeros => push_dated(alloc, separator, point.until, units, RATE_PLACES, out),
         Plot::Forwards => push_from(alloc, separator, point.from, point.until, units, out),
+        Plot::Pars => push_quoted(alloc, separator, point, out),
     }
 }
 
@@ -284,4 +285,42 @@ fn push_from(
     print_day(alloc, from, out)?;
     out.extend_from_slice(separator)?;
     push_dated(alloc, separator, until, units, RATE_PLACES, out)
+}
+
+// Appends the day of a par rate, its quote, itself, and its residual.
+#[tactic(auto, unfolding(crate::specs::Points::quoted_text))]
+fn push_quoted(
+    alloc: Global,
+    separator: &[u8],
+    point: &PlotPoint,
+    out: &mut Vec<u8>,
+) -> Result<(), AllocError>
+    ensures { OnOk result (out.new.items ≡ out.old.items ++ quoted_text separator.now point.now) }
+{
+    let quoted = point.quoted;
+    push_dated(alloc, separator, point.until, quoted, RATE_PLACES, out)?;
+    out.extend_from_slice(separator)?;
+    push_par(alloc, separator, point, out)
+}
+
+// Appends a par rate, and its residual.
+#[tactic(auto, unfolding(crate::specs::Points::par_text))]
+fn push_par(
+    alloc: Global,
+    separator: &[u8],
+    point: &PlotPoint,
+    out: &mut Vec<u8>,
+) -> Result<(), AllocError>
+    ensures { OnOk result (out.new.items ≡ out.old.items ++ par_text separator.now point.now) }
+{
+    print_decimal(alloc, i128::from(point.units.0), RATE_PLACES, out)?;
+    out.extend_from_slice(separator)?;
+    print_decimal(alloc, residual(point), RATE_PLACES, out)
+}
+
+// How far a par rate is above its quote.
+fn residual(point: &PlotPoint) -> i128
+    ensures { result ≡ point.now.units -ℤ point.now.quoted }
+{
+    i128::from(point.units.0) - i128::from(point.quoted.0)
 }

@@ -11,6 +11,8 @@ pub(crate) const ZEROS_ON: &[u8] = b"Simple zero rates on ";
 
 pub(crate) const FORWARDS_ON: &[u8] = b"Simple forward rates over three months on ";
 
+pub(crate) const PARS_ON: &[u8] = b"Par rates of the helpers on ";
+
 // Behind the day of the market, up to the day from which days or years count.
 pub(crate) const DAYS_FROM: &[u8] =
     b"</text>\n<text x='420' y='436' text-anchor='middle'>days from ";

@@ -1,3 +1,4 @@
 pub mod Asked
 pub mod Calling
+pub mod Quoting
 pub mod Served

@@ -2,6 +2,7 @@ pub mod Lines
 pub mod Named
 pub mod Plotting
 pub mod Pricing
+pub mod Quoted
 pub mod Rows
 pub mod Status
 pub mod Verdict

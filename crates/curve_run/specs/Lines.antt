@@ -4,6 +4,7 @@ use Rattle.curve_points.specs.Curve.{Curve}
 use Rattle.curve_lines.specs.declared.lines.Plot.{Plot}
 use Rattle.curve_lines.specs.Lines.{Line}
 use Rattle.desk_terms.specs.Reading.{Outcome, Calc}
+use Rattle.desk_model.specs.Market.{Market}
 use Rattle.market_desk.specs.Standing.{Standing}
 use Rattle.curve_picture.specs.Svg.{picture_text}
 use Rattle.curve_picture.specs.Table.{table_text}
@@ -33,16 +34,16 @@ or_else [] shown = shown
 or_else (byte ∷ bytes) shown = Err (byte ∷ bytes)
 
 -- the lines of the curves of which a rate is refused, or where there is none the table or the picture
-abbrev pub plotted_text : List (List ℕ) → List ℕ → Sheet → List Curve → Shown
-plotted_text names of_object sheet curves =
-    or_else (unplotted names of_object sheet.plot curves)
-    (Ok (drawn_text names of_object sheet (plotted_lines sheet.plot curves)))
+abbrev pub plotted_text : List (List ℕ) → List ℕ → Sheet → Market → List Curve → Shown
+plotted_text names of_object sheet market curves =
+    or_else (unplotted names of_object sheet.plot market curves)
+    (Ok (drawn_text names of_object sheet (plotted_lines sheet.plot market curves)))
 
 -- the lines of the curves that are refused, or where there is none the table or the picture
 abbrev pub priced_text : Calc → Standing → Sheet → List ℕ → Shown
 priced_text calc p sheet objects =
     or_else (refused_lines calc p.state.market p.names p.of_object objects)
-    (plotted_text p.names p.of_object sheet (curves_of calc p.state.market objects))
+    (plotted_text p.names p.of_object sheet p.state.market (curves_of calc p.state.market objects))
 
 -- the same of names that may stand for no curves
 abbrev pub text_for : Calc → Standing → Sheet → Result (List ℕ) (List ℕ) → Shown

@@ -1,7 +1,7 @@
 -- Small markets, statuses and words that are worked through by hand.
 use Rattle.std.specs.Prelude.{◌≡◌, ℕ, List, [], ◌∷◌, codes, true, false, pos, None, Some, Ok, Err}
 use Rattle.curve_lines.specs.declared.lines.Plot.{Plot}
-use Rattle.curve_lines.specs.declared.lines.Plot.TheVariants.{Factors, Zeros, Forwards}
+use Rattle.curve_lines.specs.declared.lines.Plot.TheVariants.{Factors, Zeros, Forwards, Pars}
 use Rattle.desk_terms.specs.declared.cause.Cause.TheVariants.{TooLarge}
 use Rattle.desk_terms.specs.declared.terms.Terms.{Terms}
 use Rattle.desk_terms.specs.declared.terms.Terms.TheVariants.{Quote, Derived, Handle, Curve, Implied, Index, Engine, Stock, Composite, Flows}
@@ -94,6 +94,8 @@ pub record AreTaken : Type 0 where
       Some (record { as_table = false; plot = Zeros; market = codes "m"; curves = codes "c" ∷ [] })
   pub forwards : request_of (codes "--csv" ∷ codes "--forward" ∷ codes "m" ∷ codes "c" ∷ []) ≡
       Some (record { as_table = true; plot = Forwards; market = codes "m"; curves = codes "c" ∷ [] })
+  pub pars : request_of (codes "--par" ∷ codes "m" ∷ codes "c" ∷ []) ≡
+      Some (record { as_table = false; plot = Pars; market = codes "m"; curves = codes "c" ∷ [] })
   pub both : request_of (codes "--zero" ∷ codes "--forward" ∷ codes "m" ∷ codes "c" ∷ []) ≡ None
   pub turned : request_of (codes "--zero" ∷ codes "--csv" ∷ codes "m" ∷ codes "c" ∷ []) ≡ None
   pub all : request_of (codes "m" ∷ eight) ≡ Some (record { as_table = false; plot = Factors; market = codes "m"; curves = eight })

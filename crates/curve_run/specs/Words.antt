@@ -4,7 +4,7 @@ use Rattle.std.specs.List.{list_all}
 use Rattle.std.specs.Str.{bytes_eq}
 use Rattle.std.specs.String.{string_bytes}
 use Rattle.curve_lines.specs.declared.lines.Plot.{Plot}
-use Rattle.curve_lines.specs.declared.lines.Plot.TheVariants.{Factors, Zeros, Forwards}
+use Rattle.curve_lines.specs.declared.lines.Plot.TheVariants.{Factors, Zeros, Forwards, Pars}
 use Rattle.tool_run.specs.Words.{is_word}
 use Rattle.curve_run.specs.declared.words.Request as given
 use Rattle.curve_run.specs.declared.words.TheConstants.{MOST_CURVES}
@@ -32,7 +32,8 @@ is_flag word = bytes_eq word (codes "--csv")
 -- what is drawn by an option
 abbrev pub plot_flag : List ℕ → Option Plot
 plot_flag word =
-    if bytes_eq word (codes "--zero") then Some Zeros else if bytes_eq word (codes "--forward") then Some Forwards else None
+    if bytes_eq word (codes "--zero") then Some Zeros else if bytes_eq word (codes "--forward") then Some Forwards
+    else if bytes_eq word (codes "--par") then Some Pars else None
 
 -- there is a name, and there are no more than there may be
 abbrev pub are_some : List (List ℕ) → Bool
@@ -56,7 +57,7 @@ abbrev pub request_drawn : Bool → List (List ℕ) → Option Request
 request_drawn as_table [] = None
 request_drawn as_table (first ∷ words) = request_by as_table (plot_flag first) first words
 
--- what the words ask for: `--csv` may stand before the others, and `--zero` or `--forward` behind it
+-- what the words ask for: `--csv` may stand before the others, and `--zero`, `--forward` or `--par` behind it
 abbrev pub request_of : List (List ℕ) → Option Request
 request_of [] = None
 request_of (first ∷ words) =

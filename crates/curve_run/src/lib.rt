@@ -9,6 +9,7 @@ mod finding;
 mod lines;
 mod plotting;
 mod pricing;
+mod quoted;
 mod rows;
 mod running;
 mod status;

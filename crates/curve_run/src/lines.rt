@@ -91,20 +91,21 @@ fn priced_lines<B: Bench>(
     if !priced.lines.is_empty() {
         return Ok(Err(priced.lines));
     }
-    plotted(alloc, sheet, priced.curves.as_slice(), namer)
+    plotted(alloc, desk, sheet, priced.curves.as_slice(), namer)
 }
 
 // The picture or the table of curves, or the lines of those of which a rate is refused.
 fn plotted(
     alloc: Global,
+    desk: &mut Desk,
     sheet: Sheet,
     curves: &[CurveValue],
     namer: &Namer<'_>,
 ) -> Result<Shown, AllocError>
     ensures { IfOk result (λ shown. ItemsAre shown
-        (plotted_text namer.now.names.now namer.now.of_object.now sheet curves.now)) }
+        (plotted_text namer.now.names.now namer.now.of_object.now sheet desk.old.market curves.now)) }
 {
-    let plotted = plot_all(alloc, sheet.plot, curves, namer)?;
+    let plotted = plot_all(alloc, desk, sheet.plot, curves, namer)?;
     if !plotted.refused.is_empty() {
         return Ok(Err(plotted.refused));
     }

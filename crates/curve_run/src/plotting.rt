@@ -1,14 +1,15 @@
 // What is drawn of curves that are priced.
 ghost use Rattle.std.specs.Prelude.{◌≡◌, ◌++◌, IfOk, OnOk};
-ghost use Rattle.curve_lines.specs.Lines.{line_of};
-ghost use Rattle.curve_run.specs.Plotting.{line_in, plotted_lines, unplotted};
+ghost use Rattle.curve_run.specs.Plotting.{line_at, line_in, plotted_lines, unplotted};
 ghost use Rattle.curve_run.specs.Pricing.{refused_in};
 
 use crate::pricing::refused_line;
-use curve_lines::{Plot, PlotLine, line_of};
+use crate::quoted::line_at;
+use curve_lines::{Plot, PlotLine};
 use curve_points::CurveValue;
 use desk_names::ObjId;
 use desk_terms::Cause;
+use lazy_objects::Desk;
 use price_report::Namer;
 use std::alloc::{AllocError, Global};
 
@@ -22,19 +23,20 @@ pub(crate) struct Plotted {
 // What is drawn of each curve, in order.
 pub(crate) fn plot_all(
     alloc: Global,
+    desk: &mut Desk,
     plot: Plot,
     curves: &[CurveValue],
     namer: &Namer<'_>,
 ) -> Result<Plotted, AllocError>
-    ensures lines { IfOk result (λ plotted. plotted.lines.items ≡ plotted_lines plot curves.now) }
+    ensures lines { IfOk result (λ plotted. plotted.lines.items ≡ plotted_lines plot desk.old.market curves.now) }
     ensures refused { IfOk result (λ plotted. plotted.refused.items
-        ≡ unplotted namer.now.names.now namer.now.of_object.now plot curves.now) }
+        ≡ unplotted namer.now.names.now namer.now.of_object.now plot desk.old.market curves.now) }
 {
     let lines = Vec::new(alloc);
     let refused = Vec::new(alloc);
     let mut plotted = Plotted { lines, refused };
     for curve in curves {
-        let line = line_of(alloc, curve, plot)?;
+        let line = line_at(alloc, desk, plot, curve)?;
         keep(alloc, curve.owner(), line, namer, &mut plotted)?;
     }
     Ok(plotted)

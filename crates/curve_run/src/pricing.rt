@@ -40,6 +40,7 @@ pub(crate) fn price_all<B: Bench>(
         ≡ refused_lines (B.calc bench.old) desk.old.market namer.now.names.now namer.now.of_object.now objects.now) }
     ensures asks { Asks (curves_asking (B.calc bench.old) objects.now desk.old) result desk.new
         (B.count bench.old) (B.count bench.new) (B.log bench.old) (B.log bench.new) }
+    ensures market { IfOk result (λ _. desk.new.market ≡ desk.old.market) }
 {
     let curves = Vec::new(alloc);
     let lines = Vec::new(alloc);

@@ -25,8 +25,8 @@ use std::alloc::{AllocError, Global};
 use tool_run::{Found, MarketStatus, OpenMarket, find};
 
 /// Does what the words ask for over the files of the shelf, writes the picture or the table to `out`, or the lines of what stands against it
-/// to `notes`, and answers how that went. The words are those behind the program's name: `--csv` or nothing, `--zero`, `--forward` or
-/// nothing, the path of a market, and the names of one to eight curves. The prices are those of the bench.
+/// to `notes`, and answers how that went. The words are those behind the program's name: `--csv` or nothing, `--zero`, `--forward`, `--par`
+/// or nothing, the path of a market, and the names of one to eight curves. The prices are those of the bench.
 ///
 /// The first failure in this order is the answer: the words; the market's file and the tables' names in it; the file of
 /// the quotes, and that of the fixings, where the market names them; the market; the names and their curves. The text is made whole, and then

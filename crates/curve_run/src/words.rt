@@ -71,6 +71,8 @@ fn plot_flag(word: &str) -> Option<Plot>
         Some(Plot::Zeros)
     } else if word == "--forward" {
         Some(Plot::Forwards)
+    } else if word == "--par" {
+        Some(Plot::Pars)
     } else {
         None
     }

@@ -1,7 +1,7 @@
 //! The program `desk_curve`: it prices curves of a market file on the market's day, and writes a picture of their discount
 //! factors or rates by day, or their points as a table; on standard error, why it does not.
 //!
-//! `desk_curve [--csv] [--zero | --forward] MARKET NAME [CURVE..]`. What it does is `curve_run::run_curve`.
+//! `desk_curve [--csv] [--zero | --forward | --par] MARKET NAME [CURVE..]`. What it does is `curve_run::run_curve`.
 #![tactic(auto)]
 
 use curve_run::{CurveStatus, NAME, run_curve};

@@ -45,6 +45,8 @@ pub(crate) fn compare(rt: &HostRuntime) -> io::Result<()> {
     compare_file(rt, Tool::Curve, "curve_markets")?;
     compare_file(rt, Tool::Curve, "curve_version_two")?;
     compare_file(rt, Tool::Curve, "curve_faults")?;
+    // Par rates of deposits and swaps, of sums and handles, of curves seen from another day, and one that a unit of a factor moves.
+    compare_file(rt, Tool::Curve, "curve_pars")?;
     // Steps that are refused, a day that moves, a fixing that is missing and then told, values that vanish and come back, twenty
     // steps, no step and no ask.
     compare_file(rt, Tool::Explain, "explain_by_hand")?;

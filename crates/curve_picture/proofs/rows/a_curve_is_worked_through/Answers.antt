@@ -3,13 +3,13 @@ use Rattle.std.specs.Fmt.{digits}
 use Rattle.day_number.specs.Day.{civil_number, date_in_year, date_after, date_of}
 use Rattle.fixed_amount.specs.Decimal.{decimal_text}
 use Rattle.curve_picture.specs.Places.{day_place, height_place}
-use Rattle.curve_picture.specs.Points.{dated_text, from_text, line_corners, all_corners, first_day, span_from, lowest, highest}
+use Rattle.curve_picture.specs.Points.{dated_text, from_text, par_text, quoted_text, line_corners, all_corners, first_day, span_from, lowest, highest}
 use Rattle.curve_picture.specs.Scale.{first_from, scale_of}
 use Rattle.curve_picture.specs.Table.{table_heading, row_text, rows_text, lines_rows, table_text}
 use Rattle.curve_picture.proofs.rows.a_curve_is_worked_through.Goals as goal
 
 pub returns : goal.returns
-unfolding digits civil_number date_in_year date_after date_of decimal_text day_place height_place dated_text from_text line_corners all_corners first_day span_from lowest highest first_from scale_of row_text rows_text lines_rows table_text table_heading
+unfolding digits civil_number date_in_year date_after date_of decimal_text day_place height_place dated_text from_text par_text quoted_text line_corners all_corners first_day span_from lowest highest first_from scale_of row_text rows_text lines_rows table_text table_heading
 returns c = record {
   scale = refl;
   rates = refl;
@@ -54,4 +54,5 @@ returns c = record {
   table = refl;
   zeros = refl;
   forwards = refl;
+  pars = refl;
 }

@@ -11,6 +11,7 @@ returns c = record {
   in_days = refl;
   zeros = refl;
   forwards = refl;
+  pars = refl;
   frame = refl;
   footer = refl;
   left = refl;

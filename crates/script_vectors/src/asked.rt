@@ -15,12 +15,12 @@ use watch_rounds::Order;
 // How many places an amount of money is printed with.
 const MONEY_PLACES: u8 = 6;
 
-/// What a conversation begins with: a market and its quotes, and the script that runs before it, where there is one.
+/// What a conversation begins with: a market and its quotes, and the script that runs before it, which is empty where there is none.
 #[derive(Clone, Copy)]
 pub(crate) struct Opening<'a> {
     market: &'a str,
     quotes: &'a str,
-    script: Option<&'a str>,
+    script: &'a str,
 }
 
 /// Compares what is written and answered: `conversations` begin with the market alone, those of `behind` with a script.
@@ -28,8 +28,8 @@ pub(crate) fn compare_answers(rt: &HostRuntime) -> io::Result<()> {
     let market = fs::read_to_string(rt, "market.toml")?;
     let quotes = fs::read_to_string(rt, "quotes.csv")?;
     let script = fs::read_to_string(rt, "script")?;
-    compare_file(rt, &market, &quotes, None, "conversations")?;
-    compare_file(rt, &market, &quotes, Some(script.as_str()), "behind")
+    compare_file(rt, &market, &quotes, "", "conversations")?;
+    compare_file(rt, &market, &quotes, &script, "behind")
 }
 
 // Compares the conversations of a file.
@@ -37,7 +37,7 @@ fn compare_file<'a>(
     rt: &HostRuntime,
     market: &'a str,
     quotes: &'a str,
-    script: Option<&'a str>,
+    script: &'a str,
     file: &str,
 ) -> io::Result<()> {
     let opening = Opening {
@@ -52,9 +52,10 @@ fn compare_file<'a>(
 pub(crate) fn agrees(alloc: Global, opening: Opening<'_>, case: &str) -> Result<bool, AllocError> {
     let mut written = Vec::new(alloc);
     let mut shelf = shelf(alloc, opening)?;
-    let script = match opening.script {
-        Some(script) => Some(script.as_bytes()),
-        None => None,
+    let script = if opening.script.is_empty() {
+        None
+    } else {
+        Some(opening.script.as_bytes())
     };
     match opened(alloc, "m", Order::First, script, &mut shelf, &mut written)? {
         Some(mut session) => talks(alloc, &mut session, case, &mut written),

@@ -1,4 +1,4 @@
-"""An example, outside the gate and outside the proofs: a client of the program desk_live, and of the library desk_c, for
+"""An example, outside the proofs: a client of the program desk_live, and of the library desk_c, for
 Python 3.9 and later.
 
     with Desk("market.toml") as desk:

@@ -1,5 +1,5 @@
 #!/usr/bin/env bash
-# An example, outside the gate and outside the proofs: plays the log of a live day by `desk run`, and compares what it
+# An example, outside the proofs: plays the log of a live day by `desk run`, and compares what it
 # writes with what desk_live wrote on that day.
 #
 #   examples/live/replay.sh                                         # makes a day over the example desk, and plays it

@@ -1,4 +1,4 @@
-"""An example, outside the gate and outside the proofs: tests of desk.py against the programs desk_live and desk, and of its
+"""An example, outside the proofs: tests of desk.py against the programs desk_live and desk, and of its
 LinkedDesk against the library that DESK_C names, where it names one (examples/c/run.sh).
 
     python3 -m unittest discover examples/live          # from the top of the repository

@@ -1,5 +1,5 @@
 #!/usr/bin/env python3
-"""An example, outside the gate and outside the proofs: writes moves of a market's quotes, one a line.
+"""An example, outside the proofs: writes moves of a market's quotes, one a line.
 
     examples/live/ticks.py QUOTES NUMBER [SECONDS]
 

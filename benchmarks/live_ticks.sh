@@ -1,5 +1,5 @@
 #!/usr/bin/env bash
-# Says ticks and asks to the built program desk_live, or to the one that is given: 1,000 lines and then
+# Says ticks and asks to the built program desk_live, or to the one that is given: 10,000 lines and then
 # 1,000,000, and compares the most bytes of heap that each of the two runs held. Fails where the second held more.
 #
 #   (cd crates/desk_live && rt run)     # proves and builds the program
@@ -68,8 +68,8 @@ most() {
     tail -n 1 held | awk '{ print $1 }'
 }
 
-few=$(most 1) many=$(most 1000)
-echo "1,000 lines: $few bytes of heap at most; 1,000,000 lines: $many bytes"
+few=$(most 10) many=$(most 1000)
+echo "10,000 lines: $few bytes of heap at most; 1,000,000 lines: $many bytes"
 if (( few == 0 || many > few )); then
     echo "live_ticks.sh: memory grew, or none was counted" >&2
     exit 1

@@ -57,7 +57,7 @@ impl<T> Items<T> {
 }
 
 impl<T: Drop> Items<T> {
-    ghost use Rattle.std.specs.Prelude.{◌≡◌, ◌++◌, ◌∷◌, [], take, OnOk, OnErr};
+    ghost use Rattle.std.specs.Prelude.{◌≡◌, ◌<◌, ◌++◌, ◌∷◌, [], length, take, slice_set, OnOk, OnErr};
 
     /// Appends an item, or leaves the list as it was where memory is wanting.
     pub fn push(&mut self, item: T) -> Result<(), AllocError>
@@ -68,10 +68,31 @@ impl<T: Drop> Items<T> {
         Ok(())
     }
 
+    /// Puts an item in the place of another, counted from 0. The other items stay, and no memory is taken.
+    pub fn set(&mut self, at: usize, item: T)
+        requires { at < length self.old }
+        ensures { self.new ≡ slice_set self.old at item }
+    {
+        self.items[at] = item;
+    }
+
     /// Keeps the first items, as many as are given, and all where there are no more.
     pub fn truncate(&mut self, len: usize)
         ensures { self.new ≡ take len self.old }
     {
         self.items.truncate(len);
+    }
+}
+
+impl<T: Copy> Items<T> {
+    ghost use Rattle.std.specs.Prelude.{◌≡◌, IfOk};
+
+    /// The same items in memory of their own, which is taken at once. It fails for want of memory alone.
+    pub fn copy(&self, alloc: Global) -> Result<Items<T>, AllocError>
+        ensures { IfOk result (λ copy. copy ≡ self.now) }
+    {
+        Ok(Items {
+            items: Vec::from_slice(alloc, &self.items)?,
+        })
     }
 }

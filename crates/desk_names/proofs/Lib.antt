@@ -1,3 +1,3 @@
+mod Copies
 pub mod NameLaws
 pub mod NameRows
-mod Taking

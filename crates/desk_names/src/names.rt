@@ -130,25 +130,7 @@ impl Names {
     pub fn copy(&self, alloc: Global) -> Result<Names, AllocError>
         ensures { IfOk result (λ copy. copy ≡ self.now) }
     {
-        let mut copy = Names::new(alloc);
-        for number in 0..self.len() {
-            add_name(&mut copy, self.text(NameId(number)))?;
-        }
-        Ok(copy)
-    }
-}
-
-// Adds a name that is new, where there is room.
-fn add_name(names: &mut Names, text: &[u8]) -> Result<(), AllocError>
-    requires named { IsName text.now }
-    requires room { length names.old < most_names }
-    ensures { OnOk result (names.new ≡ with_text names.old text.now) }
-{
-    match names.intern(text) {
-        Ok(_) => Ok(()),
-        Err(NameFault::NoMemory) => Err(AllocError),
-        // The text is a name, and there is room.
-        Err(NameFault::Form) => unreachable!(),
-        Err(NameFault::Full) => unreachable!(),
+        let texts = self.texts.clone()?;
+        Ok(Names { texts, alloc })
     }
 }

@@ -1,10 +1,10 @@
-use Rattle.std.proofs.Common.{ℕ, List, ◌∙◌, ap}
-use Rattle.desk_names.specs.Names.{with_text}
-use Rattle.desk_names.proofs.Taking.{with_next}
+use Rattle.std.proofs.Common.{sym, subst, ◌∙◌}
+use Rattle.desk_names.specs.Names.{IsNames}
+use Rattle.desk_names.proofs.Copies.{same_lists}
 use Rattle.desk_names.proofs.names.Names.copy.Goals as goal
 
-pub loop-number-preserved : goal.loop-number-preserved
-loop-number-preserved c =
-    c.in_ok-add_name.ensures
-    ∙ ap (λ (l : List (List ℕ)). with_text l c.text.result.now) c.loop-number.invariant
-    ∙ with_next c.args.self.now c.len-number-end.ensures.names c.loop-number.number c.text.result.now c.text.ensures.text
+pub returns : goal.returns
+returns c = same_lists _ (λ _ _ e. e) (λ text. text.items) _ _ _ c.in_ok-texts.ensures.cases ∙ c.self.view_is
+
+pub invariant_of-result : goal.invariant_of-result
+invariant_of-result c = subst IsNames (sym (same_lists _ (λ _ _ e. e) (λ text. text.items) _ _ _ c.in_ok-texts.ensures.cases)) c.self.invariant

@@ -28,7 +28,6 @@ pub enum HandleKind {
 }
 
 /// The terms of an object of a session.
-#[derive(Drop)]
 pub enum Terms {
     /// A quote with its value, or with none (QuantLib's `SimpleQuote`).
     Quote(Option<Rate>),
@@ -64,6 +63,34 @@ pub enum Terms {
     Composite(PartList),
     /// A bond, swap or forward rate agreement: its flows, and its engine if it has one (QuantLib's `Instrument`).
     Flows(FlowTerms, Option<ObjId>),
+}
+
+// Who lets terms go calls this at each exit, and does not let their parts go one by one.
+impl Drop for Terms {
+    fn drop(self) {
+        match self {
+            Terms::Quote(_) => {}
+            Terms::Derived {
+                minus: _,
+                first: _,
+                second: _,
+            } => {}
+            Terms::Handle {
+                target_kind: _,
+                target: _,
+            } => {}
+            Terms::Curve(_) => {}
+            Terms::Implied {
+                curve: _,
+                reference: _,
+            } => {}
+            Terms::Index(_, _) => {}
+            Terms::Engine { curve: _ } => {}
+            Terms::Stock { quote: _ } => {}
+            Terms::Composite(_) => {}
+            Terms::Flows(_, _) => {}
+        }
+    }
 }
 
 impl Terms {

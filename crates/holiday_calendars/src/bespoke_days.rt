@@ -37,13 +37,23 @@ impl From<AllocError> for BespokeFault {
 
 /// The holidays of a calendar of one's own: some weekdays, but not all, and a set of days. A clause sees it as the
 /// weekdays from Monday on and the set.
-#[derive(Drop)]
 pub struct BespokeHolidays {
     weekend: [bool; 7],
     // In the order of time.
     days: Vec<Day>,
     // The long ones, in the order of time.
     closures: Vec<Closure>,
+}
+
+// Who lets them go calls this at each exit, and does not let its parts go one by one.
+impl Drop for BespokeHolidays {
+    fn drop(self) {
+        let BespokeHolidays {
+            weekend: _,
+            days: _,
+            closures: _,
+        } = self;
+    }
 }
 
 impl Model for BespokeHolidays {

@@ -1,5 +1,5 @@
 // The pairs and their calls.
-ghost use Rattle.std.specs.Prelude.{◌≡◌, ◌<◌, ◌≤◌, ◌+◌, ℕ, length, IsTrue, IfOk, OnOk, OnErr, ◌↔◌, is_some, max, if◌then◌else◌};
+ghost use Rattle.std.specs.Prelude.{◌≡◌, ◌<◌, ◌≤◌, ◌+◌, ℕ, length, IsTrue, IfOk, OnOk, OnErr, ◌↔◌, true, is_some, max, slice_index_or, slice_set, if◌then◌else◌};
 ghost use Rattle.edge_lists.specs.declared.edge.Side.TheVariants.{Subject, Observer};
 ghost use Rattle.edge_lists.specs.Ends.{heads_at};
 ghost use Rattle.edge_lists.specs.Stands.{IsEdge};
@@ -23,15 +23,17 @@ pub const MOST_NODES: usize = 65_536;
 pub struct Edges {
     slots: Slab<Edge>,
     nodes: Vec<Option<Heads>>,
+    // For each node a number that none of its observers passes.
+    newest: Vec<u32>,
     // For how many pairs there is room that `link_spare` alone may take.
     spare: usize,
 }
 
 impl Model for Edges {
-    ghost use Rattle.std.specs.Prelude.{◌+◌, ◌≤◌, length};
+    ghost use Rattle.std.specs.Prelude.{◌≡◌, ◌+◌, ◌≤◌, length};
     ghost use Rattle.slab.specs.Slab.{slab_len};
     ghost use Rattle.edge_lists.specs.EdgesView.{EdgesView};
-    ghost use Rattle.edge_lists.specs.Stands.{Stands};
+    ghost use Rattle.edge_lists.specs.Stands.{Stands, AreWithin};
 
     ghost Value = { EdgesView };
 
@@ -42,7 +44,8 @@ impl Model for Edges {
     } };
 
     ghost invariant = { λ e. Stands e.slots e.nodes.items × (length e.nodes.items ≤ 65536)
-        × (slab_len e.slots + e.spare ≤ e.slots.capacity) };
+        × (slab_len e.slots + e.spare ≤ e.slots.capacity)
+        × (length e.newest.items ≡ length e.nodes.items) × AreWithin e.slots.slots e.newest.items };
 }
 
 impl Edges {
@@ -53,6 +56,7 @@ impl Edges {
         Edges {
             slots: Slab::new(alloc),
             nodes: Vec::new(alloc),
+            newest: Vec::new(alloc),
             spare: 0,
         }
     }
@@ -65,10 +69,12 @@ impl Edges {
         ensures err { OnErr result (self.new ≡ self.old) }
     {
         let node = ObjId(self.nodes.len() as u32);
+        self.newest.reserve(1)?;
         self.nodes.push(Some(Heads {
             observers: None,
             subjects: None,
         }))?;
+        self.newest.push_reserved(0);
         Ok(node)
     }
 
@@ -111,6 +117,7 @@ impl Edges {
     {
         let node = ObjId(self.nodes.len() as u32);
         self.nodes.reserve(1)?;
+        self.newest.reserve(1)?;
         let spare = self.spare + pairs;
         make_room(&mut self.slots, spare)?;
         self.spare = spare;
@@ -118,6 +125,7 @@ impl Edges {
             observers: None,
             subjects: None,
         }));
+        self.newest.push_reserved(0);
         Ok(node)
     }
 
@@ -132,6 +140,7 @@ impl Edges {
     {
         make_room(&mut self.slots, self.spare + 1)?;
         put_in(&mut self.slots, &mut self.nodes, subject, observer);
+        raise(&mut self.newest, subject, observer);
         Ok(())
     }
 
@@ -145,6 +154,7 @@ impl Edges {
         ensures spare { self.new.spare + 1 ≡ self.old.spare }
     {
         put_in(&mut self.slots, &mut self.nodes, subject, observer);
+        raise(&mut self.newest, subject, observer);
         self.spare -= 1;
     }
 
@@ -179,11 +189,14 @@ impl Edges {
     }
 
     /// Whether the observer observes the subject. Takes time in proportion to the fewer of the subjects of the observer and
-    /// the observers of the subject.
+    /// the observers of the subject, and none where the observer was created after all that ever observed the subject.
     pub fn has_pair(&self, subject: ObjId, observer: ObjId) -> bool
         requires { IsLive self.now observer }
         ensures { IsTrue result ↔ IsPair self.now subject observer }
     {
+        if is_newer(&self.newest, subject, observer) {
+            return false;
+        }
         match find(&self.slots, &self.nodes, subject, observer) {
             Some(_) => true,
             None => false,
@@ -249,4 +262,24 @@ impl Edges {
     {
         let _slots = &self.slots;
     }
+}
+
+// Whether a node has a greater number than each observer of a subject.
+fn is_newer(newest: &Vec<u32>, subject: ObjId, observer: ObjId) -> bool
+    ensures { result ≡ true → slice_index_or newest.now.items subject 0 < observer }
+{
+    match newest.get(subject.place()) {
+        Some(most) => *most < observer.0,
+        None => false,
+    }
+}
+
+// A node observes a subject, too.
+fn raise(newest: &mut Vec<u32>, subject: ObjId, observer: ObjId)
+    requires { subject < length newest.old.items }
+    ensures { newest.new.items
+        ≡ slice_set newest.old.items subject (max (slice_index_or newest.old.items subject 0) observer) }
+{
+    let most = newest[subject.place()];
+    newest[subject.place()] = most.max(observer.0);
 }

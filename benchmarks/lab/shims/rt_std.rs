@@ -212,6 +212,15 @@ pub mod collections {
         #[inline(always)]
         pub fn pop_front(&mut self) -> Option<T> { self.0.pop_front() }
         #[inline(always)]
+        pub fn push_front_reserved(&mut self, x: T) { self.0.push_front(x) }
+        pub fn clear(&mut self) { self.0.clear() }
+        #[inline(always)]
+        pub fn back(&self) -> Option<&T> { self.0.back() }
+        #[inline(always)]
+        pub fn is_empty(&self) -> bool { self.0.is_empty() }
+        #[inline(always)]
+        pub fn iter(&self) -> std_collections::vec_deque::Iter<'_, T> { self.0.iter() }
+        #[inline(always)]
         pub fn get(&self, i: usize) -> Option<&T> { self.0.get(i) }
         #[inline(always)]
         pub fn len(&self) -> usize { self.0.len() }

@@ -81,6 +81,13 @@ rising_at (first ∷ rest) zero (suc j) d e rising le low =
 rising_at (first ∷ rest) (suc i) zero d e rising le low = absurd (omega arith)
 rising_at (first ∷ rest) (suc i) (suc j) d e rising le low = rising_at rest i j d e rising.1 (omega arith) (omega arith)
 
+-- a number that is less than the first
+pub with_first : (entry : ℕ) (numbers : List ℕ) (first : ℕ) → entry < get_or numbers 0 first
+    → with_number entry numbers ≡ entry ∷ numbers
+with_first entry [] first less = refl
+with_first entry (one ∷ rest) first less =
+    rw (ne_eqb one entry (λ same. absurd (omega arith)), lt-ltb entry one less) refl
+
 -- no more stand there than have room
 rising_from : (low n : ℕ) (numbers : List ℕ) → AreAll (λ one. (low ≤ one) × (one < n)) numbers
     → IsRising numbers → low ≤ n → length numbers + low ≤ n

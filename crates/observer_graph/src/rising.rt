@@ -1,6 +1,6 @@
 // Rising lists of nodes. Both ends are near: the first is taken out, and a node that was made before all others is put in,
-// without a move of the others.
-ghost use Rattle.std.specs.Prelude.{◌≡◌, ◌↔◌, ◌<◌, ◌≤◌, ℕ, [], ◌∷◌, length, IsTrue, IfSome, IfNone, OnOk};
+// without a search and without a move of the others.
+ghost use Rattle.std.specs.Prelude.{◌≡◌, ◌↔◌, ◌<◌, ◌≤◌, ℕ, [], ◌∷◌, true, length, IsTrue, IfSome, IfNone, OnOk};
 ghost use Rattle.std.specs.VecDeque.{deque_len, deque_capacity};
 ghost use Rattle.observer_graph.specs.Noticed.{IsRising, IsPlace, with_number, without, is_at};
 
@@ -16,6 +16,10 @@ pub fn put_in(nodes: &mut VecDeque<ObjId>, entry: ObjId)
     ensures items { nodes.new.items ≡ with_number entry nodes.old.items }
     ensures room { deque_capacity nodes.old ≤ deque_capacity nodes.new }
 {
+    if comes_first(nodes, entry) {
+        nodes.push_front_reserved(entry);
+        return;
+    }
     let at = place_of(nodes, entry);
     if !is_at(nodes, at, entry) {
         match nodes.insert(at, entry) {
@@ -47,6 +51,16 @@ fn is_at(nodes: &VecDeque<ObjId>, at: usize, node: ObjId) -> bool
     match nodes.get(at) {
         Some(entry) => *entry == node,
         None => false,
+    }
+}
+
+// Whether all of them were created after a node.
+fn comes_first(nodes: &VecDeque<ObjId>, node: ObjId) -> bool
+    ensures { result ≡ true → with_number node nodes.now.items ≡ node ∷ nodes.now.items }
+{
+    match nodes.get(0) {
+        Some(first) => node.place() < first.place(),
+        None => true,
     }
 }
 

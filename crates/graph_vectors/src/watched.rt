@@ -13,6 +13,7 @@ ghost use Rattle.graph_vectors.specs.Watched.{HasRoom, is_apart};
 use crate::words::{name_of, notice_of, order_of, watcher_of};
 use desk_names::{NameId, ObjId};
 use std::alloc::Global;
+use std::collections::VecDeque;
 use watch_rounds::{DueWatcher, Order, Rounds};
 
 /// The rounds of a session, its order, and how many names and watchers have room.
@@ -140,7 +141,7 @@ impl Watched {
     fn due_agrees(&self, step: &str) -> Option<bool> {
         let mut words = step.split(' ');
         words.next()?;
-        for entry in self.rounds.due() {
+        for entry in self.rounds.due().iter() {
             if watcher_of(words.next()?)? != entry.watcher {
                 return Some(false);
             }
@@ -150,8 +151,8 @@ impl Watched {
 }
 
 // Whether no other due watcher has the name, and this one no other name.
-fn may_tell(due: &[DueWatcher], watcher: ObjId, name: NameId) -> bool
-    ensures { result ≡ list_all (is_apart watcher name) due.now }
+fn may_tell(due: &VecDeque<DueWatcher>, watcher: ObjId, name: NameId) -> bool
+    ensures { result ≡ list_all (is_apart watcher name) due.now.items }
 {
     due.iter().all(|one| is_apart(*one, watcher, name))
 }

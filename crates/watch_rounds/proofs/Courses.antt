@@ -1,14 +1,13 @@
 -- In a round a name runs at most eight times.
-use Rattle.std.proofs.Common.{◌≡◌, ◌≢◌, inl, inr, ℕ, ◌+◌, ◌<◌, ◌≤◌, true, false, List, [], ◌∷◌, length, refl, sym, ◌∙◌, ap, subst, arith, get_or, Option, Some, None}
-use Rattle.std.specs.Prelude.{◌==◌, slice_set, slice_get, if◌then◌else◌}
-use Rattle.std.proofs.lemmas.Bool.{cases_Bool, cases_eq, cases_lt, cond_both, eqb-true, eqb-false, eq-eqb, ne_eqb}
+use Rattle.std.proofs.Common.{◌≡◌, inl, inr, ℕ, ◌+◌, ◌<◌, ◌≤◌, true, List, [], ◌∷◌, length, refl, sym, ◌∙◌, ap, arith, get_or}
+use Rattle.std.specs.Prelude.{◌==◌, slice_set, if◌then◌else◌}
+use Rattle.std.proofs.lemmas.Bool.{cases_Bool, cases_eq, cases_lt, eq-eqb, ne_eqb}
 use Rattle.std.proofs.lemmas.List.{get_or-set_same, get_or-set_other}
 use Rattle.std.proofs.lemmas.Option.{slice_get_cases}
-use Rattle.watch_rounds.specs.declared.due.DueWatcher.{DueWatcher}
 use Rattle.watch_rounds.specs.declared.tally.Tally.{Tally}
-use Rattle.watch_rounds.specs.Round.{Round, RoundsView, IsRound, blank, one_more, no_round, tally_at, with_notice, with_run, gone}
-use Rattle.watch_rounds.specs.Course.{Happening, Tell, Start, Leave, after, MayHappen, AreACourse, starts, is_of, all_starts, AtMostEightRuns}
-use Rattle.watch_rounds.proofs.Stays.{view_of, round_empty, round_with, round_without, round_over, round_after, may_run, ran_is, told_due, told_first, told_again}
+use Rattle.watch_rounds.specs.Round.{Round, IsRound, blank, one_more, no_round, tally_at, with_notice, with_run}
+use Rattle.watch_rounds.specs.Course.{Happening, Tell, Start, Leave, after, MayHappen, AreACourse, starts, all_starts, AtMostEightRuns}
+use Rattle.watch_rounds.proofs.Stays.{view_of, round_empty, round_with, round_without, round_over, round_after, may_run, told_due, told_first, told_again}
 use Rattle.watch_rounds.proofs.Tallies.{read_blank}
 
 abbrev pub AreRound : Round → ℕ → Type 0

@@ -1,5 +1,5 @@
 -- Lists of due watchers, and edits of them.
-use Rattle.std.proofs.Common.{◌≡◌, ◌≢◌, ℕ, zero, suc, ◌+◌, ◌<◌, ◌≤◌, Bool, true, false, List, [], ◌∷◌, ◌++◌, length, drop, take, refl, sym, ◌∙◌, ap, subst, arith, get_or, nat_lt}
+use Rattle.std.proofs.Common.{◌≡◌, ◌≢◌, ℕ, zero, suc, ◌+◌, ◌-◌, ◌<◌, ◌≤◌, Bool, true, false, List, [], ◌∷◌, length, refl, sym, ap, arith, get_or, nat_lt}
 use Rattle.std.specs.Prelude.{◌==◌, if◌then◌else◌}
 use Rattle.std.specs.List.{insert, remove, filter}
 use Rattle.std.proofs.lemmas.Bool.{cond_both, ltb-true, ltb-false, eqb-true, eqb-false, lt-ltb, le-ltb, ne_eqb}
@@ -149,6 +149,42 @@ rising_at (first ∷ rest) zero (suc j) d e rising le low =
     let less = all_at (λ one. first.watcher < one.watcher) rest j e rising.0 (omega arith) in omega arith
 rising_at (first ∷ rest) (suc i) zero d e rising le low = absurd (omega arith)
 rising_at (first ∷ rest) (suc i) (suc j) d e rising le low = rising_at rest i j d e rising.1 (omega arith) (omega arith)
+
+rising_less : (due : List DueWatcher) (i j : ℕ) (d e : DueWatcher) → IsRising due → i < j → j < length due
+    → (get_or due i d).watcher < (get_or due j e).watcher
+rising_less [] i j d e rising less low = absurd (omega arith)
+rising_less (first ∷ rest) i zero d e rising less low = absurd (omega arith)
+rising_less (first ∷ rest) zero (suc j) d e rising less low =
+    all_at (λ one. first.watcher < one.watcher) rest j e rising.0 (omega arith)
+rising_less (first ∷ rest) (suc i) (suc j) d e rising less low =
+    rising_less rest i j d e rising.1 (omega arith) (omega arith)
+
+-- who stands at a place
+pub is_there : (due : List DueWatcher) (at watcher : ℕ) → is_at due at watcher ≡ true
+    → (at < length due) × ((d : DueWatcher) → (get_or due at d).watcher ≡ watcher)
+is_there [] zero watcher there = absurd (cc)
+is_there [] (suc at) watcher there = absurd (cc)
+is_there (first ∷ rest) zero watcher there = (omega arith, λ d. eqb-true first.watcher watcher there)
+is_there (first ∷ rest) (suc at) watcher there =
+    let is = is_there rest at watcher there in (let low = is.0 in omega arith, is.1)
+
+-- a watcher that is due stands at its place
+pub place_there : (due : List DueWatcher) (at watcher : ℕ) → IsRising due → is_at due at watcher ≡ true
+    → IsPlace due watcher at
+place_there due at watcher rising there = let is = is_there due at watcher there in (
+  let low = is.0 in omega arith,
+  λ i d before. let less = rising_less due i at d d rising before is.0 in let same = is.1 d in omega arith,
+  λ i d from low. let le = rising_at due at i d d rising from low in let same = is.1 d in omega arith,
+)
+
+-- a watcher that was created after the last
+pub place_last : (due : List DueWatcher) (watcher : ℕ) (last : DueWatcher) → IsRising due
+    → (get_or due (length due - 1) last).watcher < watcher → IsPlace due watcher (length due)
+place_last due watcher last rising less = (
+  omega arith,
+  λ i d low. let le = rising_at due i (length due - 1) d last rising (omega arith) (omega arith) in omega arith,
+  λ i d from low. absurd (omega arith),
+)
 
 -- no more are due than have room
 rising_from : (low n : ℕ) (due : List DueWatcher) → AreAll (λ one. (low ≤ one.watcher) × (one.watcher < n)) due

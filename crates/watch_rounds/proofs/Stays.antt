@@ -1,5 +1,5 @@
 -- What holds of a round is kept.
-use Rattle.std.proofs.Common.{◌≡◌, ◌≢◌, inl, inr, ℕ, zero, suc, ◌+◌, ◌-◌, ◌<◌, ◌≤◌, Bool, true, false, List, [], ◌∷◌, ◌++◌, length, refl, sym, ◌∙◌, ap, subst, arith, get_or, replicate, Option, Some, None}
+use Rattle.std.proofs.Common.{◌≡◌, ◌≢◌, inl, inr, ℕ, zero, suc, ◌<◌, ◌≤◌, Bool, true, false, List, [], ◌∷◌, ◌++◌, length, refl, sym, ◌∙◌, ap, subst, arith, get_or, replicate, Option, Some, None}
 use Rattle.std.specs.Prelude.{slice_set, slice_get, ◌==◌}
 use Rattle.std.proofs.lemmas.List.{get_or_default}
 use Rattle.std.specs.List.{remove, filter}
@@ -9,10 +9,10 @@ use Rattle.watch_rounds.specs.declared.due.DueWatcher.{DueWatcher}
 use Rattle.watch_rounds.specs.declared.tally.Tally.{Tally}
 use Rattle.watch_rounds.specs.declared.notice.Notice.{Notice}
 use Rattle.watch_rounds.specs.declared.notice.Notice.TheVariants as notices
-use Rattle.watch_rounds.specs.Due.{with_due, without, AreAll, AreUnlike, IsOnly}
-use Rattle.watch_rounds.specs.Round.{Round, RoundsView, IsRound, MayRunIn, blank, one_more, with_run, run_of, with_notice, with_notice_as, notice_of, tally_at, watcher_at, watcher_of, runs_left, left_in}
+use Rattle.watch_rounds.specs.Due.{with_due, without, is_at, AreAll, IsOnly}
+use Rattle.watch_rounds.specs.Round.{Round, RoundsView, IsRound, IsRoundOf, MayRunIn, blank, one_more, with_run, run_of, with_notice, with_notice_as, notice_of, tally_at, watcher_at}
 use Rattle.std.proofs.lemmas.Option.{slice_get_read, slice_get_within}
-use Rattle.watch_rounds.proofs.Places.{all_map, all_both, all_at, all_with, all_without, all_removed, all_filtered, order_without, order_filtered, order_removed, rising_with, unlike_with, removed_unlike, rising_room}
+use Rattle.watch_rounds.proofs.Places.{is_there, place_there, stays_there, all_map, all_both, all_at, all_with, all_without, all_removed, all_filtered, order_without, order_filtered, order_removed, rising_with, unlike_with, removed_unlike, rising_room}
 use Rattle.watch_rounds.proofs.Tallies.{tally_grown}
 
 abbrev pub round_in : List DueWatcher → List Tally → Round
@@ -94,15 +94,22 @@ unfolding with_notice
 notice_long watcher name round = noted_long (notice_of (tally_at round name)) watcher name round
 
 noted_all : (Q : DueWatcher → Type 0) (n : Notice) (watcher name : ℕ) (round : Round) → AreAll Q round.due
-    → Q (record { watcher = watcher; name = name }) → AreAll Q (with_notice_as n watcher name round).due
-noted_all Q notices.Due watcher name round all one = all_with Q (record { watcher = watcher; name = name }) round.due all one
+    → (n ≡ notices.Due → Q (record { watcher = watcher; name = name })) → AreAll Q (with_notice_as n watcher name round).due
+noted_all Q notices.Due watcher name round all one =
+    all_with Q (record { watcher = watcher; name = name }) round.due all (one refl)
 noted_all Q notices.OverFirst watcher name round all one = all
 noted_all Q notices.OverAgain watcher name round all one = all
 
+-- it need hold of who is told only where that makes it due
+pub notice_all_if : (Q : DueWatcher → Type 0) (watcher name : ℕ) (round : Round) → AreAll Q round.due
+    → (notice_of (tally_at round name) ≡ notices.Due → Q (record { watcher = watcher; name = name }))
+    → AreAll Q (with_notice watcher name round).due
+unfolding with_notice
+notice_all_if Q watcher name round all one = noted_all Q (notice_of (tally_at round name)) watcher name round all one
+
 pub notice_all : (Q : DueWatcher → Type 0) (watcher name : ℕ) (round : Round) → AreAll Q round.due
     → Q (record { watcher = watcher; name = name }) → AreAll Q (with_notice watcher name round).due
-unfolding with_notice
-notice_all Q watcher name round all one = noted_all Q (notice_of (tally_at round name)) watcher name round all one
+notice_all Q watcher name round all one = notice_all_if Q watcher name round all (λ due. one)
 
 pub ran_long : (o : Option DueWatcher) (at : ℕ) (round : Round) → length (run_of o at round).tallies ≡ length round.tallies
 ran_long None at round = refl
@@ -226,6 +233,23 @@ pub told_due : (watcher name : ℕ) (round : Round) (tally : Tally) → tally �
     }
 unfolding with_notice
 told_due watcher name round tally is left = rw (sym is, lt-ltb tally.runs 8 left) refl
+
+-- a due watcher is told by its name
+pub told_still : (round : Round) (nodes at watcher name : ℕ) → IsRoundOf round nodes → is_at round.due at watcher ≡ true
+    → IsOnly watcher name round.due
+    → (notice_of (tally_at round name) ≡ notices.Due) × (with_notice watcher name round ≡ round)
+told_still round nodes at watcher name holds there only =
+    let d : DueWatcher = record { watcher = watcher; name = name } in
+    let is = is_there round.due at watcher there in
+    let named = (all_at (λ one. (one.watcher ≡ watcher → one.name ≡ name) × (one.name ≡ name → one.watcher ≡ watcher))
+    round.due at d only is.0).0 (is.1 d) in
+    let left : (tally_at round name).runs < 8 = subst (λ (n : ℕ). (tally_at round n).runs < 8) named
+    (all_at (MayRunIn round nodes) round.due at d holds.due is.0).2 in (
+      rw (lt-ltb (tally_at round name).runs 8 left) refl,
+      told_due watcher name round (tally_at round name) refl left
+          ∙ ap (λ (due : List DueWatcher). round_in due round.tallies)
+          (sym (stays_there d round.due at (place_there round.due at watcher holds.rising there) there)),
+    )
 
 pub told_again : (watcher name : ℕ) (round : Round) (tally : Tally) → tally ≡ tally_at round name → 8 ≤ tally.runs
     → tally.over ≡ true → with_notice watcher name round ≡ round

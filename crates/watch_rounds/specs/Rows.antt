@@ -1,12 +1,10 @@
 -- Rounds worked by hand.
 use Rattle.std.specs.Prelude.{◌≡◌, ℕ, ◌^◌, ◌-◌, zero, suc, List, [], ◌∷◌, map, Some, None}
-use Rattle.watch_rounds.specs.declared.due.DueWatcher.{DueWatcher}
 use Rattle.watch_rounds.specs.declared.notice.Notice.TheVariants.{Due, OverFirst, OverAgain}
 use Rattle.watch_rounds.specs.declared.picker.Order.{Order}
 use Rattle.watch_rounds.specs.declared.picker.Order.TheVariants.{First, Last, Seed}
-use Rattle.watch_rounds.specs.Due.{with_due, without}
 use Rattle.watch_rounds.specs.Order.{order_at, order_after}
-use Rattle.watch_rounds.specs.Round.{Round, RoundsView, no_round, begun, grown, with_name, gone, notice_of, tally_at, watcher_at, with_notice, with_run, runs_left}
+use Rattle.watch_rounds.specs.Round.{Round, no_round, begun, grown, with_name, gone, notice_of, tally_at, watcher_at, with_notice, with_run, runs_left}
 
 -- the positions that an order chooses, one after another, among so many each time
 abbrev pub choices : Order → List ℕ → List ℕ

@@ -1,5 +1,5 @@
 -- What holds of rounds between two calls.
-use Rattle.std.specs.Prelude.{◌≡◌, ◌⊎◌, ℕ, ◌+◌, ◌<◌, ◌≤◌, ◌^◌, ◌==◌, if◌then◌else◌, List, [], ◌∷◌, length, slice_index_or}
+use Rattle.std.specs.Prelude.{◌≡◌, ℕ, ◌+◌, ◌<◌, ◌^◌, ◌==◌, if◌then◌else◌, List, length, slice_index_or}
 use Rattle.std.specs.List.{sum_by}
 use Rattle.walks.specs.Walk.{Among}
 use Rattle.watch_rounds.specs.declared.due.DueWatcher.{DueWatcher}

@@ -1,21 +1,25 @@
 // The due watchers of a round, and the runs of each name.
-ghost use Rattle.std.specs.Prelude.{◌≡◌, ◌+◌, ◌<◌, ◌≤◌, ◌*◌, ◌==◌, length, OnOk, OnErr, OnSome, if◌then◌else◌, ◌++◌, replicate, vec_capacity, slice_index_or, slice_set, max};
+ghost use Rattle.std.specs.Prelude.{◌≡◌, ℕ, true, ◌+◌, ◌<◌, ◌≤◌, ◌*◌, ◌==◌, length, OnOk, OnErr, OnSome, if◌then◌else◌, ◌++◌, replicate, vec_capacity, slice_index_or, slice_set, max};
+ghost use Rattle.watch_rounds.specs.declared.notice.Notice.TheVariants.{Due};
 ghost use Rattle.watch_rounds.specs.Due.{IsOnly};
 ghost use Rattle.watch_rounds.specs.Round.{no_rounds, grown, roomy, with_name, begun, tally_at, with_notice, notice_of, watcher_at, with_run, gone, runs_left, IsRound, blank, one_more};
 ghost use Rattle.watch_rounds.specs.Stands.{IsTracked};
 
-use crate::due::{DueWatcher, put_in, take_out};
+use crate::due::{DueWatcher, is_at, place_near, put_in, take_out};
 use crate::notice::Notice;
 use crate::picker::Picker;
 use crate::tally::{MOST_RUNS, Tally};
 use desk_names::{NameId, ObjId};
 use std::alloc::{AllocError, Global};
+use std::collections::VecDeque;
 use std::marker::Model;
 
 /// The due watchers of a round by creation, and the runs of each name in it. A clause sees a `RoundsView`.
 #[derive(Drop)]
 pub struct Rounds {
-    due: Vec<DueWatcher>,
+    due: VecDeque<DueWatcher>,
+    // Where the watcher that is told next may stand among the due: behind the one that was told last.
+    near: usize,
     tallies: Vec<Tally>,
     // The names of which a run began, each once: what `begin` has to clear.
     ran: Vec<NameId>,
@@ -27,6 +31,7 @@ pub struct Rounds {
 
 impl Model for Rounds {
     ghost use Rattle.std.specs.Prelude.{◌≤◌, length, vec_capacity};
+    ghost use Rattle.std.specs.VecDeque.{deque_capacity};
     ghost use Rattle.watch_rounds.specs.Round.{RoundsView};
     ghost use Rattle.watch_rounds.specs.Stands.{Stands};
 
@@ -39,7 +44,7 @@ impl Model for Rounds {
     } };
 
     ghost invariant = { λ r. Stands r.due.items r.tallies.items r.ran.items r.nodes
-        × (r.nodes ≤ vec_capacity r.due) × (length r.tallies.items ≤ r.names)
+        × (r.nodes ≤ deque_capacity r.due) × (length r.tallies.items ≤ r.names)
         × (r.names ≤ vec_capacity r.tallies) × (r.names ≤ vec_capacity r.ran) };
 }
 
@@ -49,7 +54,8 @@ impl Rounds {
         ensures { result ≡ no_rounds }
     {
         Rounds {
-            due: Vec::new(alloc),
+            due: VecDeque::new(alloc),
+            near: 0,
             tallies: Vec::new(alloc),
             ran: Vec::new(alloc),
             nodes: 0,
@@ -95,12 +101,12 @@ impl Rounds {
     }
 
     /// The due watchers, by creation.
-    pub fn due(&self) -> &[DueWatcher]
-        ensures due { result.now ≡ self.now.round.due }
+    pub fn due(&self) -> &VecDeque<DueWatcher>
+        ensures due { result.now.items ≡ self.now.round.due }
         // At all times each of them has room and a run left, and no name has run more than 8 times.
         ensures round { IsRound self.now }
     {
-        self.due.as_slice()
+        &self.due
     }
 
     /// A round begins: nobody is due, no name has run, and none is over. Takes time in proportion to the names that ran
@@ -125,7 +131,9 @@ impl Rounds {
     {
         let tally = self.tallies[name.place()];
         if tally.runs < MOST_RUNS {
-            put_in(&mut self.due, DueWatcher { watcher, name });
+            let at = place_near(&self.due, watcher, self.near);
+            put_in(&mut self.due, at, DueWatcher { watcher, name });
+            self.near = at + 1;
             return Notice::Due;
         }
         if tally.over {
@@ -136,6 +144,19 @@ impl Rounds {
             over: true,
         };
         Notice::OverFirst
+    }
+
+    /// Whether a watcher is seen to be due already, behind the watcher that was told last: a notice to it changes nothing then.
+    pub fn stays_due(&mut self, watcher: ObjId) -> bool
+        ensures same { self.new ≡ self.old }
+        ensures due { result ≡ true → (name : ℕ) → IsOnly watcher name self.old.round.due
+            → (notice_of (tally_at self.old.round name) ≡ Due) × (with_notice watcher name self.old.round ≡ self.old.round) }
+    {
+        if !is_at(&self.due, self.near, watcher) {
+            return false;
+        }
+        self.near += 1;
+        true
     }
 
     /// The watcher that runs next, if one is due: it is due no more, and a run more of its name has begun.
@@ -155,9 +176,13 @@ impl Rounds {
             return None;
         }
         let at = picker.pick(self.due.len() as u32) as usize;
-        let next = self.due.remove(at);
-        count_run(&mut self.tallies, &mut self.ran, next.name);
-        Some(next.watcher)
+        match self.due.remove(at) {
+            Some(next) => {
+                count_run(&mut self.tallies, &mut self.ran, next.name);
+                Some(next.watcher)
+            }
+            None => unreachable!(),
+        }
     }
 
     /// The watcher is not due: it was dropped, or has no registration left.

@@ -1,4 +1,4 @@
-use Rattle.std.proofs.Common.{◌≡◌, ◌<◌, ◌≤◌, ◌+◌, ◌-◌, ◌/◌, ℕ, length, get_or, sym, arith}
+use Rattle.std.proofs.Common.{◌<◌, ◌+◌, ◌-◌, ◌/◌, ℕ, ap, arith}
 use Rattle.watch_rounds.specs.declared.due.DueWatcher.{DueWatcher}
 use Rattle.watch_rounds.proofs.Places.{rising_at}
 use Rattle.watch_rounds.proofs.due.place_of.Goals as goal
@@ -14,8 +14,8 @@ loop-low-preserved-then-place c =
       low = omega arith;
       high = most;
       before = λ i d low.
-          let le = rising_at c.args.due.now i m d c.index-due-middle.result c.requires (omega arith) (omega arith) in
-          let here = c.place.ensures in let there = c.place-in-loop-low.ensures in let less = c.if-place.true in
+          let le = rising_at c.args.due.now.items i m d c.index.result.now c.requires (omega arith) (omega arith) in
+          let at = ap (λ (one : DueWatcher). one.watcher) c.index.ensures in let here = c.place.ensures in let there = c.place-in-loop-low.ensures in let less = c.if-place.true in
           omega arith;
       from = c.loop-low.invariant.from;
     }
@@ -29,7 +29,7 @@ loop-low-preserved c =
       high = omega arith;
       before = c.loop-low.invariant.before;
       from = λ i d high low.
-          let le = rising_at c.args.due.now m i c.index-due-middle.result d c.requires high low in
-          let here = c.place.ensures in let there = c.place-in-loop-low.ensures in let less = c.if-place.false in
+          let le = rising_at c.args.due.now.items m i c.index.result.now d c.requires high low in
+          let at = ap (λ (one : DueWatcher). one.watcher) c.index.ensures in let here = c.place.ensures in let there = c.place-in-loop-low.ensures in let less = c.if-place.false in
           omega arith;
     }

@@ -1,32 +1,21 @@
-use Rattle.std.proofs.Common.{◌≡◌, ◌∙◌, ℕ, true, false, List, sym, ap, subst, length, arith}
+use Rattle.std.proofs.Common.{◌∙◌, sym, ap, length, arith}
 use Rattle.std.proofs.lemmas.List.Edits.{length-insert}
-use Rattle.watch_rounds.specs.declared.due.DueWatcher.{DueWatcher}
-use Rattle.watch_rounds.specs.Due.{IsPlace, is_at}
 use Rattle.watch_rounds.proofs.Places.{put_there, stays_there}
 use Rattle.watch_rounds.proofs.due.put_in.Goals as goal
 
 pub returns-in-Ok-clause-items : goal.returns-in-Ok-clause-items
 returns-in-Ok-clause-items c = rw (c.in-Ok.ensures.items)
-    (put_there c.args.entry c.args.due.now.items c.place_of-at.result
-    (subst (λ (l : List DueWatcher). IsPlace l c.args.entry.watcher c.place_of-at.result) c.deref.ensures.value
-    c.place_of-at.ensures)
-    (ap (λ (l : List DueWatcher). is_at l c.place_of-at.result c.args.entry.watcher) (sym c.deref-2.ensures.value)
-    ∙ sym c.is_at.ensures ∙ c.if-not-is_at.true))
+    (put_there c.args.entry c.args.due.now.items c.args.at c.requires.place
+    (sym c.is_at.ensures ∙ c.if-not-is_at.true))
 
 pub returns-else-not-is_at-clause-items : goal.returns-else-not-is_at-clause-items
-returns-else-not-is_at-clause-items c = stays_there c.args.entry c.args.due.now.items c.place_of-at.result
-    (subst (λ (l : List DueWatcher). IsPlace l c.args.entry.watcher c.place_of-at.result) c.deref.ensures.value
-    c.place_of-at.ensures)
-    (ap (λ (l : List DueWatcher). is_at l c.place_of-at.result c.args.entry.watcher) (sym c.deref-2.ensures.value)
-    ∙ sym c.is_at.ensures ∙ c.if-not-is_at.false)
+returns-else-not-is_at-clause-items c = stays_there c.args.entry c.args.due.now.items c.args.at c.requires.place
+    (sym c.is_at.ensures ∙ c.if-not-is_at.false)
 
 pub unreachable-requires : goal.unreachable-requires
 unreachable-requires c =
-    let place = subst (λ (l : List DueWatcher). IsPlace l c.args.entry.watcher c.place_of-at.result)
-    c.deref.ensures.value c.place_of-at.ensures in
-    let is = put_there c.args.entry c.args.due.now.items c.place_of-at.result place
-    (ap (λ (l : List DueWatcher). is_at l c.place_of-at.result c.args.entry.watcher) (sym c.deref-2.ensures.value)
-    ∙ sym c.is_at.ensures ∙ c.if-not-is_at.true) in
-    let more = length-insert c.args.due.now.items c.place_of-at.result c.args.entry place.0 in
+    let is = put_there c.args.entry c.args.due.now.items c.args.at c.requires.place
+    (sym c.is_at.ensures ∙ c.if-not-is_at.true) in
+    let more = length-insert c.args.due.now.items c.args.at c.args.entry c.requires.place.0 in
     let long = ap length is in let room = c.requires.room in let len = c.args.due.now.ok.0 in
     let full = c.in-Err.ensures.full in omega arith

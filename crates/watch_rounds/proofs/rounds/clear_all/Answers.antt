@@ -1,8 +1,6 @@
-use Rattle.std.proofs.Common.{◌≡◌, ◌<◌, ◌∙◌, ℕ, length, replicate, slice_set, get_or, drop, refl, sym, ap, subst, arith}
+use Rattle.std.proofs.Common.{◌≡◌, ◌∙◌, ℕ, replicate, refl, ap, arith}
 use Rattle.std.proofs.lemmas.List.{length-set}
-use Rattle.watch_rounds.specs.declared.tally.Tally.{Tally}
 use Rattle.watch_rounds.specs.Round.{blank}
-use Rattle.walks.specs.Walk.{Among}
 use Rattle.watch_rounds.proofs.Tallies.{among_item, cleared_more, cleared_all}
 use Rattle.watch_rounds.proofs.rounds.clear_all.Goals as goal
 

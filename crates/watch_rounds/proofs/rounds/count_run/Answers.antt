@@ -1,9 +1,8 @@
-use Rattle.std.proofs.Common.{◌≡◌, ◌<◌, ◌∙◌, ℕ, true, false, List, length, get_or, slice_set, refl, sym, ap, subst, arith}
+use Rattle.std.proofs.Common.{slice_set, ap}
 use Rattle.watch_rounds.specs.declared.tally.Tally.{Tally}
-use Rattle.watch_rounds.specs.Round.{blank, one_more}
-use Rattle.watch_rounds.specs.Stands.{IsTracked}
+use Rattle.watch_rounds.specs.Round.{one_more}
 use Rattle.watch_rounds.proofs.Stays.{item_is}
-use Rattle.watch_rounds.proofs.Tallies.{counted_first, counted_again, counted_room}
+use Rattle.watch_rounds.proofs.Tallies.{counted_first, counted_again}
 use Rattle.watch_rounds.proofs.rounds.count_run.Goals as goal
 use Rattle.watch_rounds.proofs.rounds.count_run.Goals.{then-tally-eq0, else-tally-eq0}
 

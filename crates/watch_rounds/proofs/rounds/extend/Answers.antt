@@ -1,6 +1,4 @@
-use Rattle.std.proofs.Common.{◌≡◌, ◌<◌, ◌∙◌, ℕ, length, refl, sym, ap, subst, arith}
-use Rattle.watch_rounds.specs.declared.tally.Tally.{Tally}
-use Rattle.watch_rounds.specs.Round.{blank}
+use Rattle.std.proofs.Common.{◌∙◌, refl, arith}
 use Rattle.watch_rounds.proofs.Tallies.{refilled, filled_room}
 use Rattle.watch_rounds.proofs.rounds.extend.Goals as goal
 

@@ -1,4 +1,4 @@
-use Rattle.std.proofs.Common.{◌≡◌, refl}
+use Rattle.std.proofs.Common.{refl}
 use Rattle.watch_rounds.specs.Round.{runs_left}
 use Rattle.watch_rounds.proofs.Stays.{round_without}
 use Rattle.watch_rounds.proofs.rounds.Rounds.gone.Goals as goal

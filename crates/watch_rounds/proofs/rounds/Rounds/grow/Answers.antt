@@ -1,9 +1,8 @@
-use Rattle.std.proofs.Common.{◌≡◌, ◌≤◌, ◌++◌, ◌∙◌, ℕ, List, length, replicate, refl, sym, ap, subst, arith}
+use Rattle.std.proofs.Common.{◌++◌, ◌∙◌, List, replicate, ap, arith}
 use Rattle.std.proofs.lemmas.List.{length-append, length-replicate}
 use Rattle.watch_rounds.specs.declared.tally.Tally.{Tally}
-use Rattle.watch_rounds.specs.Round.{IsRound, blank}
-use Rattle.watch_rounds.specs.Stands.{IsTracked}
-use Rattle.watch_rounds.proofs.Stays.{view_of, room_of, round_grown}
+use Rattle.watch_rounds.specs.Round.{blank}
+use Rattle.watch_rounds.proofs.Stays.{room_of, round_grown}
 use Rattle.watch_rounds.proofs.Tallies.{tracked_grown}
 use Rattle.watch_rounds.proofs.rounds.Rounds.grow.Goals as goal
 

@@ -1,10 +1,8 @@
-use Rattle.std.proofs.Common.{◌≡◌, ◌<◌, ◌≤◌, ◌+◌, ◌*◌, ◌∙◌, ℕ, true, false, List, length, get_or, slice_set, Option, Some, None, refl, sym, ap, subst, arith, Fits, w32}
+use Rattle.std.proofs.Common.{◌∙◌, ℕ, length, get_or, sym, ap, arith}
 use Rattle.std.specs.Prelude.{◌==◌}
 use Rattle.std.proofs.lemmas.List.{length-set}
-use Rattle.watch_rounds.specs.declared.due.DueWatcher.{DueWatcher}
-use Rattle.watch_rounds.specs.declared.tally.Tally.{Tally}
-use Rattle.watch_rounds.specs.Round.{Round, RoundsView, IsRound, blank, one_more, with_run, watcher_at, runs_left}
-use Rattle.watch_rounds.proofs.Stays.{view_of, room_of, picked_is, may_run, round_after, watcher_is, ran_is, nobody_ran}
+use Rattle.watch_rounds.specs.Round.{Round, RoundsView, blank, one_more, runs_left}
+use Rattle.watch_rounds.proofs.Stays.{room_of, picked_is, may_run, round_after, watcher_is, ran_is, nobody_ran}
 use Rattle.watch_rounds.proofs.Tallies.{one_less, most_left, zero_of}
 use Rattle.watch_rounds.proofs.rounds.Rounds.next_due.Goals as goal
 
@@ -34,19 +32,19 @@ invariant_of-self g c =
     c.pick-at.ensures.at (c.len.ensures ∙ c.self.inside.due.ok.0)
     (ap (λ (k : ℕ). k == 0) c.len.ensures ∙ sym c.is_empty.ensures ∙ c.if-is_empty.false)
     (λ k some. g.met.P.Picker.below c.args.picker.now k some) in
-    rw (c.remove-next.ensures.items, c.remove-next.ensures.capacity, c.count_run.ensures.room, c.count_run.ensures.counts) (
+    rw (c.in-Some.ensures.items, c.in-Some.ensures.capacity, c.count_run.ensures.room, c.count_run.ensures.counts) (
       record {
         round = rw (c.count_run.ensures.counted)
             (round_after c.self.inside.due.items c.self.inside.tallies.items c.self.inside.nodes
-            c.pick-at.result c.remove-next.result picked.0 c.remove-next.ensures.value stands.round);
+            c.pick-at.result c.in-Some.next picked.0 c.in-Some.ensures.value stands.round);
         tracked = c.count_run.ensures.tracks;
         limit = stands.limit;
       },
       c.self.invariant.1,
       rw (
         c.count_run.ensures.counted,
-        length-set c.self.inside.tallies.items c.remove-next.result.name
-            (one_more (get_or c.self.inside.tallies.items c.remove-next.result.name blank)),
+        length-set c.self.inside.tallies.items c.in-Some.next.name
+            (one_more (get_or c.self.inside.tallies.items c.in-Some.next.name blank)),
       ) c.self.invariant.2,
       c.self.invariant.3,
       c.self.invariant.4,
@@ -61,7 +59,7 @@ returns-clause-due g c =
     (ap (λ (k : ℕ). k == 0) c.len.ensures ∙ sym c.is_empty.ensures ∙ c.if-is_empty.false)
     (λ k some. g.met.P.Picker.below c.args.picker.now k some) in
     rw (← c.self.view_is, ← picked.1)
-    (sym (watcher_is round c.pick-at.result c.remove-next.result picked.0 c.remove-next.ensures.value))
+    (sym (watcher_is round c.pick-at.result c.in-Some.next picked.0 c.in-Some.ensures.value))
 
 pub returns-clause-ran : goal.returns-clause-ran
 returns-clause-ran g c =
@@ -71,9 +69,9 @@ returns-clause-ran g c =
     c.pick-at.ensures.at (c.len.ensures ∙ c.self.inside.due.ok.0)
     (ap (λ (k : ℕ). k == 0) c.len.ensures ∙ sym c.is_empty.ensures ∙ c.if-is_empty.false)
     (λ k some. g.met.P.Picker.below c.args.picker.now k some) in
-    rw (c.remove-next.ensures.items, c.count_run.ensures.counted, ← c.self.view_is, ← picked.1)
+    rw (c.in-Some.ensures.items, c.count_run.ensures.counted, ← c.self.view_is, ← picked.1)
     (ap (λ (r : Round). let v : RoundsView = record { round = r; nodes = c.self.inside.nodes; names = c.self.inside.names } in v)
-    (sym (ran_is round c.pick-at.result c.remove-next.result picked.0 c.remove-next.ensures.value)))
+    (sym (ran_is round c.pick-at.result c.in-Some.next picked.0 c.in-Some.ensures.value)))
 
 pub returns-clause-left : goal.returns-clause-left
 unfolding runs_left
@@ -85,10 +83,10 @@ returns-clause-left g c =
     (ap (λ (k : ℕ). k == 0) c.len.ensures ∙ sym c.is_empty.ensures ∙ c.if-is_empty.false)
     (λ k some. g.met.P.Picker.below c.args.picker.now k some) in
     let may = may_run c.self.inside.due.items c.self.inside.tallies.items c.self.inside.nodes c.pick-at.result
-    c.remove-next.result
-    picked.0 c.remove-next.ensures.value stands.round in
+    c.in-Some.next
+    picked.0 c.in-Some.ensures.value stands.round in
     rw (c.count_run.ensures.counted, ← c.self.view_is)
-    (one_less c.self.inside.tallies.items c.self.inside.ran.items c.remove-next.result.name may.1 stands.tracked may.2)
+    (one_less c.self.inside.tallies.items c.self.inside.ran.items c.in-Some.next.name may.1 stands.tracked may.2)
 
 pub returns-clause-most : goal.returns-clause-most
 unfolding runs_left
@@ -102,6 +100,6 @@ returns-clause-round g c =
     c.pick-at.ensures.at (c.len.ensures ∙ c.self.inside.due.ok.0)
     (ap (λ (k : ℕ). k == 0) c.len.ensures ∙ sym c.is_empty.ensures ∙ c.if-is_empty.false)
     (λ k some. g.met.P.Picker.below c.args.picker.now k some) in
-    rw (c.remove-next.ensures.items, c.count_run.ensures.counted)
+    rw (c.in-Some.ensures.items, c.count_run.ensures.counted)
     (round_after c.self.inside.due.items c.self.inside.tallies.items
-    c.self.inside.nodes c.pick-at.result c.remove-next.result picked.0 c.remove-next.ensures.value stands.round)
+    c.self.inside.nodes c.pick-at.result c.in-Some.next picked.0 c.in-Some.ensures.value stands.round)

@@ -1,9 +1,8 @@
-use Rattle.std.proofs.Common.{◌≡◌, ◌<◌, ◌∙◌, ℕ, true, false, length, get_or, refl, sym, ap, subst, arith, slice_set}
+use Rattle.std.proofs.Common.{◌<◌, ◌∙◌, true, length, sym, ap, subst, arith, slice_set}
 use Rattle.std.proofs.lemmas.List.{length-set}
-use Rattle.watch_rounds.specs.declared.due.DueWatcher.{DueWatcher}
 use Rattle.watch_rounds.specs.declared.tally.Tally.{Tally}
 use Rattle.watch_rounds.specs.Due.{IsOnly}
-use Rattle.watch_rounds.specs.Round.{Round, RoundsView, IsRound, blank, with_notice, runs_left}
+use Rattle.watch_rounds.specs.Round.{Round, RoundsView, IsRound, runs_left}
 use Rattle.watch_rounds.proofs.Stays.{view_of, item_is, room_with, round_with, round_over, told_due, told_again, told_first}
 use Rattle.watch_rounds.proofs.Tallies.{over_tracked, left_noticed}
 use Rattle.watch_rounds.proofs.rounds.Rounds.told.Goals as goal

@@ -18,6 +18,6 @@ pub use copies::copy_curve;
 pub use curves::{CurveNode, CurveValue, MOST, ONE, are_rising};
 pub use laws::{between_nodes_law, implied_there_law, node_day_law, segment_law};
 pub use node_lists::NodeList;
-pub use points::{PointFault, discount, discount_near, factor_beyond};
+pub use points::{PointFault, discount, discount_near, factor_beyond, factor_beyond_near};
 pub use seen::{ImpliedFault, implied};
 pub use segments::factor_between;

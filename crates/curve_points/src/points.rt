@@ -1,5 +1,5 @@
 // The discount factor at a day.
-ghost use Rattle.std.specs.Prelude.{◌≡◌, IsTrue, ◌≤◌, length, pos, ◌<ℤ◌, ◌≤ℤ◌, int_lt};
+ghost use Rattle.std.specs.Prelude.{◌≡◌, IsTrue, ◌≤◌, ◌<◌, ◌+◌, length, pos, ◌<ℤ◌, ◌≤ℤ◌, int_lt};
 ghost use Rattle.std.specs.List.{AllWithin};
 ghost use Rattle.curve_points.specs.Curve.{IsRisingFrom, origin};
 ghost use Rattle.curve_points.specs.Segment.{on_segment, most};
@@ -53,7 +53,7 @@ pub fn discount_near(
         day: curve.reference,
         factor: Discount(ONE),
     };
-    match factor_near(&origin, curve.nodes.items(), day, guess) {
+    match factor_beyond_near(&origin, curve.nodes.items(), day, guess) {
         Some(factor) => Ok(factor),
         None => Err(PointFault::Past),
     }
@@ -66,12 +66,12 @@ pub fn factor_beyond(from: &CurveNode, nodes: &[CurveNode], day: Day) -> Option<
     ensures { result ≡ beyond from.now nodes.now day }
 {
     let mut guess = NO_GUESS;
-    factor_near(from, nodes, day, &mut guess)
+    factor_beyond_near(from, nodes, day, &mut guess)
 }
 
-// The same where the place is guessed.
+/// The same where the place among the nodes is guessed, as for `discount_near`.
 #[inline(always)]
-fn factor_near(
+pub fn factor_beyond_near(
     from: &CurveNode,
     nodes: &[CurveNode],
     day: Day,
@@ -94,7 +94,8 @@ fn factor_near(
     Some(on_segment(start, end, day))
 }
 
-// The place of the first node that is not before a day, or their number: by a guess, where it or the next one is the place.
+// The place of the first node that is not before a day, or their number: from a guess on, where the node there is before
+// the day, and the guess, where that is the place.
 #[inline(always)]
 fn place_near(nodes: &[CurveNode], day: Day, reference: Day, guess: usize) -> usize
     requires { IsRisingFrom reference nodes.now }
@@ -102,14 +103,33 @@ fn place_near(nodes: &[CurveNode], day: Day, reference: Day, guess: usize) -> us
     ensures before { AllWithin (λ node. node.day <ℤ day) nodes.now 0 result }
     ensures after { AllWithin (λ node. day ≤ℤ node.day) nodes.now result (length nodes.now) }
 {
+    if guess >= nodes.len() {
+        return place_of(nodes, day, reference);
+    }
+    if is_before(nodes[guess].day, day) {
+        return place_behind(nodes, day, reference, guess);
+    }
     if is_place(nodes, day, reference, guess) {
         return guess;
     }
-    let next = guess.saturating_add(1);
-    if is_place(nodes, day, reference, next) {
-        return next;
-    }
     place_of(nodes, day, reference)
+}
+
+// The place of the first node that is not before a day, or their number, where the node at a place is before it.
+#[inline(always)]
+fn place_behind(nodes: &[CurveNode], day: Day, reference: Day, from: usize) -> usize
+    requires rising { IsRisingFrom reference nodes.now }
+    requires within { from < length nodes.now }
+    requires before { AllWithin (λ node. node.day <ℤ day) nodes.now 0 (from + 1) }
+    ensures bound { result ≤ length nodes.now }
+    ensures before { AllWithin (λ node. node.day <ℤ day) nodes.now 0 result }
+    ensures after { AllWithin (λ node. day ≤ℤ node.day) nodes.now result (length nodes.now) }
+{
+    let mut at = from + 1;
+    while at < nodes.len() && is_before(nodes[at].day, day) {
+        at += 1;
+    }
+    at
 }
 
 // Whether a place is that of the first node that is not before a day.

@@ -1,6 +1,6 @@
 use Rattle.std.proofs.Common.{arith, ◌∙◌, ◌≡◌, ◌<◌, ◌-◌, sym, ap, Some, length, suc, refl}
 use Rattle.curve_points.proofs.PointLemmas.{beyond_none, beyond_some, end_after, start_at}
-use Rattle.curve_points.proofs.points.factor_near.Goals as goal
+use Rattle.curve_points.proofs.points.factor_beyond_near.Goals as goal
 
 pub returns-then-at-nodes : goal.returns-then-at-nodes
 returns-then-at-nodes c = sym (beyond_none c.args.from.now c.args.nodes.now c.args.day (rw c.if-at-nodes.true at c.place_near-at.ensures.before))

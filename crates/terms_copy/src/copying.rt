@@ -5,7 +5,6 @@ use curve_terms::CurveTerms;
 use desk_names::NameId;
 use desk_terms::Terms;
 use flow_terms::{FlowTerms, IndexTerms};
-use item_lists::Items;
 use std::alloc::{AllocError, Global};
 
 /// The same objects with the same names, in their order and in memory of their own. It fails for want of memory alone, and
@@ -16,7 +15,7 @@ pub fn copy_made(
 ) -> Result<Vec<(NameId, Terms)>, AllocError>
     ensures { IfOk result (λ copy. copy.items ≡ made.now) }
 {
-    let mut copy = Vec::new(alloc);
+    let mut copy = Vec::with_capacity(alloc, made.len())?;
     for (name, terms) in made {
         let terms = copy_terms(alloc, terms)?;
         copy.push((*name, terms))?;
@@ -54,7 +53,7 @@ pub fn copy_terms(alloc: Global, terms: &Terms) -> Result<Terms, AllocError>
         Terms::Index(index, fixings) => Terms::Index(copy_index(alloc, index)?, fixings.copy()?),
         Terms::Engine { curve } => Terms::Engine { curve: *curve },
         Terms::Stock { quote } => Terms::Stock { quote: *quote },
-        Terms::Composite(parts) => Terms::Composite(copy_items(alloc, parts)?),
+        Terms::Composite(parts) => Terms::Composite(parts.copy(alloc)?),
         Terms::Flows(flows, engine) => Terms::Flows(copy_flows(alloc, flows)?, *engine),
     })
 }
@@ -64,7 +63,7 @@ fn copy_curve(alloc: Global, curve: &CurveTerms) -> Result<CurveTerms, AllocErro
     ensures { IfOk result (λ copy. copy ≡ curve.now) }
 {
     let cal = curve.cal.copy(alloc)?;
-    let helpers = copy_items(alloc, &curve.helpers)?;
+    let helpers = curve.helpers.copy(alloc)?;
     Ok(CurveTerms {
         cal,
         start: curve.start,
@@ -92,20 +91,9 @@ fn copy_index(alloc: Global, index: &IndexTerms) -> Result<IndexTerms, AllocErro
 fn copy_flows(alloc: Global, flows: &FlowTerms) -> Result<FlowTerms, AllocError>
     ensures { IfOk result (λ copy. copy ≡ flows.now) }
 {
-    let items = copy_items(alloc, &flows.flows)?;
+    let items = flows.flows.copy(alloc)?;
     Ok(FlowTerms {
         flows: items,
         index: flows.index,
     })
-}
-
-// The same items.
-fn copy_items<T: Copy + Drop>(alloc: Global, items: &Items<T>) -> Result<Items<T>, AllocError>
-    ensures { IfOk result (λ copy. copy ≡ items.now) }
-{
-    let mut copy = Items::new(alloc);
-    for item in items.items() {
-        copy.push(*item)?;
-    }
-    Ok(copy)
 }

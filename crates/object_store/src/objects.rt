@@ -16,13 +16,14 @@ ghost use Rattle.observer_graph.specs.declared.node.Role.TheVariants as role;
 ghost use Rattle.object_store.specs.Objects.{quoted, with_quote, bare, has_quote, has_own_terms};
 ghost use Rattle.quote_board.specs.Board.{entry, IsPut, IsSame};
 ghost use Rattle.object_store.specs.Shape.{node_role, role_at};
+ghost use Rattle.object_store.specs.Parts.{parts_in};
 ghost use Rattle.object_store.specs.Slots.{holds_value, has_fixings};
 ghost use Rattle.object_store.specs.Store.{AddsObject};
 
 use crate::edges::role_of;
 use crate::engines::set_in;
 use crate::fixings::store_in;
-use crate::parts::{keep_in, push_in};
+use crate::parts::{keep_in, push_in, put_in};
 use crate::store::Store;
 use day_number::Day;
 use desk_model::Slot;
@@ -198,6 +199,15 @@ impl Objects {
         ensures { (parts : List Part) → terms_in (slice_index_or self.old composite Free) ≡ Some (Composite parts) → self.new ≡ slice_set self.old composite (Live (Composite (take len parts))) }
     {
         keep_in(&mut self.slots[composite.place()], len);
+    }
+
+    /// A composite has another part in a place, counted from 0. It takes no memory.
+    pub fn put_part(&mut self, composite: ObjId, at: usize, part: Part)
+        requires composite { kind_in (slice_index_or self.old composite Free) ≡ Some kind.Composite }
+        requires within { at < length (parts_in (slice_index_or self.old composite Free)) }
+        ensures { (parts : List Part) → terms_in (slice_index_or self.old composite Free) ≡ Some (Composite parts) → self.new ≡ slice_set self.old composite (Live (Composite (slice_set parts at part))) }
+    {
+        put_in(&mut self.slots[composite.place()], at, part);
     }
 
     /// Takes an object out.

@@ -1,5 +1,5 @@
-// The parts of a composite, and one more at their end.
-ghost use Rattle.std.specs.Prelude.{◌≡◌, ◌++◌, ◌∷◌, [], List, Some, OnOk, OnErr, length, take, slice_index_or};
+// The parts of a composite, one more at their end, and another in a place.
+ghost use Rattle.std.specs.Prelude.{◌≡◌, ◌<◌, ◌++◌, ◌∷◌, [], List, Some, OnOk, OnErr, length, take, slice_index_or, slice_set};
 ghost use Rattle.desk_terms.specs.declared.terms.Terms.TheVariants.{Composite};
 ghost use Rattle.desk_terms.specs.declared.terms.Part.{Part};
 ghost use Rattle.desk_model.specs.Changeable.{changeable};
@@ -87,6 +87,36 @@ fn keep_held(terms: &mut Terms, len: usize)
 {
     match terms {
         Terms::Composite(parts) => parts.truncate(len),
+        Terms::Quote(_)
+        | Terms::Derived { .. }
+        | Terms::Handle { .. }
+        | Terms::Curve(_)
+        | Terms::Implied { .. }
+        | Terms::Index(..)
+        | Terms::Engine { .. }
+        | Terms::Stock { .. }
+        | Terms::Flows(..) => {}
+    }
+}
+
+/// What stands at a number has another part in a place. It takes no memory.
+pub fn put_in(slot: &mut Slot, at: usize, part: Part)
+    requires { at < length (parts_in slot.old) }
+    ensures { (parts : List Part) → terms_in slot.old ≡ Some (Composite parts) → slot.new ≡ Live (Composite (slice_set parts at part)) }
+{
+    match slot {
+        Slot::Live(terms) => put_held(terms, at, part),
+        Slot::Free | Slot::Today | Slot::Watcher => {}
+    }
+}
+
+// Terms hold another part in a place.
+fn put_held(terms: &mut Terms, at: usize, part: Part)
+    requires { at < length (parts_held (changeable (Some terms.old))) }
+    ensures { (parts : List Part) → terms.old ≡ Composite parts → terms.new ≡ Composite (slice_set parts at part) }
+{
+    match terms {
+        Terms::Composite(parts) => parts.set(at, part),
         Terms::Quote(_)
         | Terms::Derived { .. }
         | Terms::Handle { .. }

@@ -4,6 +4,7 @@ pub mod Dropped
 pub mod Ends
 pub mod Flagged
 pub mod Linked
+pub mod Places
 pub mod Repriced
 pub mod Revised
 pub mod Rewatched

@@ -3,16 +3,15 @@ use Rattle.std.proofs.Common.{◌≡◌, ◌≢◌, ◌⊎◌, inl, inr, ℕ, �
 use Rattle.std.specs.Prelude.{◌↔◌, ◌==◌, ◌||◌, if◌then◌else◌, pos}
 use Rattle.std.specs.Ordering.{int_eq}
 use Rattle.std.proofs.lemmas.Bool.Decides.{Decides-int_eq}
-use Rattle.std.proofs.lemmas.Bool.{cases_Bool, eq-eqb, eqb-true, eqb-false, false≢true}
+use Rattle.std.proofs.lemmas.Bool.{cases_Bool, eqb-true, eqb-false, false≢true}
 use Rattle.walks.specs.Walk.{Among}
 use Rattle.desk_terms.specs.declared.terms.Part.{Part}
 use Rattle.desk_terms.specs.Terms.{part_references}
 use Rattle.desk_model.specs.Market.{named}
-use Rattle.desk_model.specs.Changeable.{weight_of, has_member, without_member, reweighted, with_member}
+use Rattle.desk_model.specs.Changeable.{has_member, without_member, reweighted, with_member}
 use Rattle.observer_graph.proofs.Members.{among_last}
 use Rattle.object_store.specs.Shape.{observed_by}
 use Rattle.object_store.specs.Store.{StoreView, Joins, Leaves, IsRewatched}
-use Rattle.lazy_objects.proofs.Reweighted.{no_weight}
 use Rattle.lazy_objects.proofs.Watched.{by_test}
 
 abbrev members : List Part → List ℕ
@@ -79,12 +78,6 @@ pub is_member_as : (parts : List Part) (m : ℕ) (b : Bool) → (b ≡ true) ↔
 is_member_as parts m b is = by_test b (has_member parts m)
     (λ e. elim (cases_Bool (has_member parts m)) [ inl there ↦ there | inr none ↦ absurd (no_member parts m none (is.0 e)) ])
     (λ e. is.1 (has_among parts m e))
-
--- who is no member has weight 0 and no other
-pub weighs_none : (parts : List Part) (m : ℕ) (weight : ℤ) → has_member parts m ≡ false → to_z w64 (of_z w64 weight) ≡ weight → (of_z w64 weight == 0) ≡ int_eq (weight_of parts m) weight
-weighs_none parts m weight none back = by_test (of_z w64 weight == 0) (int_eq (weight_of parts m) weight)
-    (λ e. (Decides-int_eq (weight_of parts m) weight).1 (no_weight parts m none ∙ sym (ap (to_z w64) (eqb-true (of_z w64 weight) 0 e)) ∙ back))
-    (λ e. eq-eqb (of_z w64 weight) 0 (ap (of_z w64) (sym ((Decides-int_eq (weight_of parts m) weight).0 e) ∙ no_weight parts m none)))
 
 module _ (k m : ℕ) (weight : ℤ) (parts : List Part) (old : StoreView) (watched : (x : ℕ) → Among x (observed_by old.shape k) ↔ Among x (members parts)) where
   pub rewatched_less : (new : StoreView) → int_eq weight (pos 0) ≡ true → Leaves old new m k → old.shape.spare ≤ new.shape.spare → IsRewatched k (with_member parts m weight) old new

@@ -32,3 +32,9 @@ pub with_new : (parts : List Part) (member : ℕ) (weight : ℤ) → int_eq weig
 with_new parts member weight some none =
     sym (ap (λ (b : Bool). if b then without_member parts member else if has_member parts member then reweighted parts member weight else parts ++ record { weight = weight; member = member } ∷ []) some
     ∙ ap (λ (b : Bool). if b then reweighted parts member weight else parts ++ record { weight = weight; member = member } ∷ []) none)
+
+pub with_other : (parts : List Part) (member : ℕ) (weight : ℤ) → int_eq weight (pos 0) ≡ false → has_member parts member ≡ true
+    → reweighted parts member weight ≡ with_member parts member weight
+with_other parts member weight some there =
+    sym (ap (λ (b : Bool). if b then without_member parts member else if has_member parts member then reweighted parts member weight else parts ++ record { weight = weight; member = member } ∷ []) some
+    ∙ ap (λ (b : Bool). if b then reweighted parts member weight else parts ++ record { weight = weight; member = member } ∷ []) there)

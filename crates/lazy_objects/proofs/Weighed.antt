@@ -7,6 +7,7 @@ use Rattle.std.specs.Ordering.{int_eq}
 use Rattle.std.proofs.lemmas.Bool.{false≢true}
 use Rattle.desk_terms.specs.declared.terms.Terms.TheVariants as terms_of
 use Rattle.desk_terms.specs.declared.terms.Part.{Part}
+use Rattle.desk_terms.specs.Parts.{AreEachInRange}
 use Rattle.desk_terms.specs.declared.terms.HandleKind.TheVariants as handle
 use Rattle.desk_terms.specs.declared.kind.Kind.TheVariants as kind
 use Rattle.desk_terms.specs.declared.kind.Wanted.TheVariants.{Member}
@@ -186,6 +187,11 @@ module _ (slots : List Slot) (k : ℕ) (is : kind_in (slice_index_or slots k Fre
       keeps (parts_at ++ part ∷ []) (ap (λ (l : List Slot). terms_in (slice_index_or l k Free)) are ∙ parts_after (parts_at ++ part ∷ []))
       ∙ ap (λ (l : List Slot). slice_set l k (Live (terms_of.Composite (take n (parts_at ++ part ∷ []))))) are
       ∙ parts_again part n same
+
+-- the parts of a composite are each in range
+pub parts_each : (today : ℤ) (slots : List Slot) (kept : List Kept) (registry : Registry) (scratch : ScratchView) → Stands (state_of today slots kept registry) scratch → (k : ℕ)
+    → kind_in (slice_index_or slots k Free) ≡ Some kind.Composite → AreEachInRange (parts_in (slice_index_or slots k Free))
+parts_each today slots kept registry scratch stands k is = (subst IsRanged (parts_there (slice_index_or slots k Free) is) (stands.ranged k)).each
 
 -- WHAT ANOTHER WEIGHT LEAVES of a desk
 module _ (today : ℤ) (slots slots2 : List Slot) (old mid : StoreView) (scratch : ScratchView) (k member : ℕ) (weight : ℤ)

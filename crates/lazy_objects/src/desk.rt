@@ -31,7 +31,7 @@ ghost use Rattle.lazy_objects.specs.Untold.{TellsNobody};
 use crate::changes::{revise, tell_changed};
 use crate::links::{link_of, watch_instead};
 use crate::room::make_room;
-use crate::weights::{has_weight, weigh};
+use crate::weights::{has_weight, place_of, weigh};
 use ask_walk::{Books, Recalced};
 use day_number::Day;
 use desk_model::Entry;
@@ -223,14 +223,16 @@ impl Desk {
         requires count { (parts : List Part) → terms_at self.old.market composite ≡ Some (terms_of.Composite parts) → length (with_member parts member weight) ≤ 4096 }
         ensures set { OnOk result (self.new ≡ member_set composite member weight self.old) }
         ensures same { OnErr result (self.new ≡ self.old) }
-        // No memory is wanted for the weight held.
+        // No memory is wanted for the weight held, nor for another one of a member that stays.
         ensures ready { weight_of (parts_in (slot_at self.old.market composite)) member ≡ weight → IsOk result }
+        ensures stays { has_member (parts_in (slot_at self.old.market composite)) member ≡ true → weight ≢ pos 0 → IsOk result }
         ensures keeps { KeepsCurrent self.old self.new }
         ensures sound { (calc : Calc) → IsSound calc self.old → IsSound calc self.new }
     {
         let is_member = self.is_member(composite, member);
         let parts = parts_of(&self.market.objects, composite);
-        if has_weight(parts, is_member, member, weight) {
+        let place = place_of(parts, is_member, member);
+        if has_weight(parts, member, place, weight) {
             return Ok(());
         }
         weigh(
@@ -240,7 +242,7 @@ impl Desk {
             composite,
             member,
             weight,
-            is_member,
+            place,
         )?;
         tell_changed(&self.market, &mut self.books.store, composite);
         Ok(())

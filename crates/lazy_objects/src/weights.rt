@@ -1,6 +1,7 @@
 // The weights of a composite's members.
-ghost use Rattle.std.specs.Prelude.{◌≡◌, ◌↔◌, ◌≤◌, ◌++◌, ◌∷◌, [], ℕ, true, false, is_some, Some, IfOk, OnOk, OnErr, slice_index_or, slice_set};
+ghost use Rattle.std.specs.Prelude.{◌≡◌, ◌≢◌, ◌↔◌, ◌≤◌, ◌++◌, ◌∷◌, [], ℕ, pos, true, false, is_some, Some, IsOk, IfOk, OnOk, OnErr, slice_index_or, slice_set};
 ghost use Rattle.walks.specs.Walk.{Among};
+ghost use Rattle.desk_terms.specs.Parts.{AreEachInRange};
 ghost use Rattle.desk_terms.specs.Terms.{part_references};
 ghost use Rattle.desk_terms.specs.declared.kind.Kind.TheVariants as kind;
 ghost use Rattle.desk_terms.specs.declared.terms.Terms.TheVariants.{Composite};
@@ -9,6 +10,7 @@ ghost use Rattle.object_store.specs.Shape.{observed_by, role_at};
 ghost use Rattle.object_store.specs.Store.{Joins, Leaves, IsRewatched};
 ghost use Rattle.std.specs.Ordering.{int_eq};
 ghost use Rattle.desk_model.specs.Changeable.{weight_of, has_member, without_member, reweighted, with_member};
+ghost use Rattle.lazy_objects.specs.Places.{place_of};
 ghost use Rattle.desk_model.specs.declared.slot.Slot.TheVariants.{Free, Live};
 ghost use Rattle.object_store.specs.Parts.{parts_in};
 
@@ -17,31 +19,46 @@ use desk_terms::{Part, PartList, Terms};
 use object_store::{Objects, Store, parts_of};
 use std::alloc::{AllocError, Global};
 
-/// Whether an object has this weight in a composite: 0 where it is no member.
-pub fn has_weight(parts: &[Part], is_member: bool, member: ObjId, weight: i64) -> bool
+/// The place of an object among parts, counted from 0; none where it is no member.
+pub fn place_of(parts: &[Part], is_member: bool, member: ObjId) -> Option<usize>
     requires { is_member ≡ has_member parts.now member }
-    ensures { result ≡ int_eq (weight_of parts.now member) weight }
+    ensures { result ≡ place_of parts.now member }
 {
     if !is_member {
-        return weight == 0;
+        return None;
     }
-    weight_of(parts, member) == weight
+    parts.iter().position(|part| part.member == member)
 }
 
-// The weight of a member; 0 for an object that is none.
-fn weight_of(parts: &[Part], member: ObjId) -> i64
+/// Whether an object that stands at a place has this weight in a composite: 0 where it is no member.
+pub fn has_weight(parts: &[Part], member: ObjId, place: Option<usize>, weight: i64) -> bool
+    requires { place ≡ place_of parts.now member }
+    ensures { result ≡ int_eq (weight_of parts.now member) weight }
+{
+    weight_at(parts, member, place) == weight
+}
+
+// The weight of a part.
+fn weight_in(part: &Part) -> i64
+    ensures { result ≡ part.now.weight }
+{
+    part.weight
+}
+
+// The weight of an object that stands at a place; 0 where it is no member.
+fn weight_at(parts: &[Part], member: ObjId, place: Option<usize>) -> i64
+    requires { place ≡ place_of parts.now member }
     ensures { result ≡ weight_of parts.now member }
 {
-    for part in parts {
-        if part.member == member {
-            return part.weight;
-        }
+    match place {
+        Some(at) => weight_in(&parts[at]),
+        None => 0,
     }
-    0
 }
 
-/// An object has another weight in a composite: one that is no member joins at the end, a member keeps its place, and
-/// weight 0 takes a member out. The composite observes its members. After want of memory nothing is changed.
+/// An object that stands at a place has another weight in a composite: one that is no member joins at the end, a member
+/// keeps its place, and weight 0 takes a member out. The composite observes its members. After want of memory nothing is
+/// changed, and a member that keeps its place wants none.
 pub fn weigh(
     alloc: Global,
     objects: &mut Objects,
@@ -49,26 +66,29 @@ pub fn weigh(
     composite: ObjId,
     member: ObjId,
     weight: i64,
-    is_member: bool,
+    place: Option<usize>,
 ) -> Result<(), AllocError>
     requires composite { kind_in (slice_index_or objects.old composite Free) ≡ Some kind.Composite }
     requires observer { is_some (role_at store.old.shape composite) ≡ true }
     requires subject { is_some (role_at store.old.shape member) ≡ true }
     requires watched { (x : ℕ) → Among x (observed_by store.old.shape composite) ↔ Among x (named (part_references (parts_in (slice_index_or objects.old composite Free)))) }
-    requires is_member { is_member ≡ has_member (parts_in (slice_index_or objects.old composite Free)) member }
+    requires each { AreEachInRange (parts_in (slice_index_or objects.old composite Free)) }
+    requires place { place ≡ place_of (parts_in (slice_index_or objects.old composite Free)) member }
     requires differs { int_eq (weight_of (parts_in (slice_index_or objects.old composite Free)) member) weight ≡ false }
     ensures weighed { OnOk result (objects.new ≡ slice_set objects.old composite (Live (Composite (with_member (parts_in (slice_index_or objects.old composite Free)) member weight)))) }
     ensures rewatched { OnOk result (IsRewatched composite (with_member (parts_in (slice_index_or objects.old composite Free)) member weight) store.old store.new) }
     ensures same { OnErr result (objects.new ≡ objects.old) }
     ensures unstored { OnErr result (store.new ≡ store.old) }
+    ensures stays { has_member (parts_in (slice_index_or objects.old composite Free)) member ≡ true → weight ≢ pos 0 → IsOk result }
 {
-    if !is_member {
-        return join(objects, store, composite, member, weight);
+    match place {
+        None => join(objects, store, composite, member, weight),
+        Some(_) if weight == 0 => take_out(alloc, objects, store, composite, member),
+        Some(at) => {
+            change(objects, composite, at, Part { weight, member });
+            Ok(())
+        }
     }
-    if weight == 0 {
-        return take_out(alloc, objects, store, composite, member);
-    }
-    change(alloc, objects, composite, member, weight)
 }
 
 // An object joins a composite at the end, and is observed. After want of memory nothing is changed.
@@ -123,21 +143,14 @@ fn take_out(
     Ok(())
 }
 
-// A member has another weight in its place. After want of memory nothing is changed.
-fn change(
-    alloc: Global,
-    objects: &mut Objects,
-    composite: ObjId,
-    member: ObjId,
-    weight: i64,
-) -> Result<(), AllocError>
+// A member has another weight in its place, which takes no memory.
+fn change(objects: &mut Objects, composite: ObjId, at: usize, part: Part)
     requires composite { kind_in (slice_index_or objects.old composite Free) ≡ Some kind.Composite }
-    ensures changed { OnOk result (objects.new ≡ slice_set objects.old composite (Live (Composite (reweighted (parts_in (slice_index_or objects.old composite Free)) member weight)))) }
-    ensures same { OnErr result (objects.new ≡ objects.old) }
+    requires each { AreEachInRange (parts_in (slice_index_or objects.old composite Free)) }
+    requires place { place_of (parts_in (slice_index_or objects.old composite Free)) part.member ≡ Some at }
+    ensures { objects.new ≡ slice_set objects.old composite (Live (Composite (reweighted (parts_in (slice_index_or objects.old composite Free)) part.member part.weight))) }
 {
-    let changed = reweighted(alloc, parts_of(objects, composite), member, weight)?;
-    objects.replace(composite, Terms::Composite(changed));
-    Ok(())
+    objects.put_part(composite, at, part);
 }
 
 fn without_member(alloc: Global, parts: &[Part], member: ObjId) -> Result<PartList, AllocError>
@@ -150,27 +163,4 @@ fn without_member(alloc: Global, parts: &[Part], member: ObjId) -> Result<PartLi
         }
     }
     Ok(rest)
-}
-
-fn reweighted(
-    alloc: Global,
-    parts: &[Part],
-    member: ObjId,
-    weight: i64,
-) -> Result<PartList, AllocError>
-    ensures { IfOk result (λ changed. changed ≡ reweighted parts.now member weight) }
-{
-    let mut changed = PartList::new(alloc);
-    for part in parts {
-        let held = if part.member == member {
-            weight
-        } else {
-            part.weight
-        };
-        changed.push(Part {
-            weight: held,
-            ..*part
-        })?;
-    }
-    Ok(changed)
 }

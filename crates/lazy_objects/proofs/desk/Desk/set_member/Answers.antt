@@ -13,7 +13,7 @@ use Rattle.object_store.specs.Slots.{state_of}
 use Rattle.object_store.specs.Parts.{parts_in}
 use Rattle.object_store.specs.Store.{registry_of, IsRewatched}
 use Rattle.object_store.proofs.Joined.{composite_watches}
-use Rattle.lazy_objects.proofs.Weighed.{MayWeigh, Ranges, weight_as, weighed_live, weighed_joined, weighed_marks, weighed_tells, weighed_left}
+use Rattle.lazy_objects.proofs.Weighed.{MayWeigh, Ranges, parts_each, weight_as, weighed_live, weighed_joined, weighed_marks, weighed_tells, weighed_left}
 use Rattle.lazy_objects.proofs.desk.Desk.set_member.Goals as goal
 
 pub returns-then-has_weight-clause-set : goal.returns-then-has_weight-clause-set
@@ -29,6 +29,12 @@ pub weigh-requires-clause-watched : goal.weigh-requires-clause-watched
 weigh-requires-clause-watched c = λ x.
     let is = subst (λ (t : State). MayWeigh t.market c.args.composite c.args.member c.args.weight) (sym c.self.view_is) (c.requires.composite, c.requires.member, c.requires.open) in
     composite_watches c.self.inside.market.today c.self.inside.market.objects c.self.inside.books.store.shape c.args.composite c.self.invariant.1 is.0 x
+
+pub weigh-requires-clause-each : goal.weigh-requires-clause-each
+weigh-requires-clause-each c =
+    let is = subst (λ (t : State). MayWeigh t.market c.args.composite c.args.member c.args.weight) (sym c.self.view_is) (c.requires.composite, c.requires.member, c.requires.open) in
+    parts_each c.self.inside.market.today c.self.inside.market.objects c.self.inside.books.store.kept (registry_of c.self.inside.books.store) c.self.inside.books.scratch c.self.invariant.0
+    c.args.composite is.0
 
 pub tell_changed-requires-clause-live : goal.tell_changed-requires-clause-live
 tell_changed-requires-clause-live c =

@@ -139,6 +139,19 @@ impl IndexSet<Vec<u8>> {
         let _: Result<(), AllocFailed<()>> = self.units.push(());
         Ok((self.keys.len() - 1, true))
     }
+    // The keys are compared and hashed once more, as the kit does, which has no law that a clone is like its source.
+    pub fn clone(&self) -> Result<Self, AllocError> {
+        let mut keys: Vec<Vec<u8>> = Vec::with_capacity(Global, self.keys.len())?;
+        for key in self.keys.iter() {
+            keys.push_reserved(key.clone()?);
+        }
+        if keys != self.keys || (0..keys.len()).any(|at| hash_of(&keys[at]) != self.buckets[at].hash) {
+            return Err(AllocError);
+        }
+        let mut buckets = Vec::with_capacity(Global, 9 * self.groups.len())?;
+        buckets.extend_from_slice(&self.buckets)?;
+        Ok(IndexSet { groups: self.groups.clone()?, buckets, growth_left: self.growth_left, keys, units: self.units.clone()? })
+    }
     #[inline(never)]
     fn grow(&mut self) {
         let len = self.buckets.len();

@@ -10,17 +10,17 @@ before n some = omega arith
 
 pub loop-at-preserved-then-not-is_watching : goal.loop-at-preserved-then-not-is_watching
 loop-at-preserved-then-not-is_watching c =
-    let here = c.index.ensures ∙ ap (λ (l : List DueWatcher). get_or l (c.loop-at.at - 1) c.index.result.now) c.due.ensures.due in
+    let here = c.index.ensures ∙ ap (λ (l : List DueWatcher). get_or l (c.loop-at.at - 1) c.index.result.now) c.due-in-loop-at.ensures.due in
     let step = step_gone c.args.session.now.state c.args.rounds.now c.loop-at.rounds c.loop-at.at (c.loop-at.at - 1) c.index.result.now
     (before c.loop-at.at c.loop-at-test.true) c.loop-at.invariant.low here c.loop-at.invariant.others c.loop-at.invariant.kept
     c.loop-at.invariant.rest c.gone.new.self _
-    refl c.due.ensures.round.rising (sym c.is_watching.ensures ∙ c.if-not-is_watching.true)
+    refl c.due-in-loop-at.ensures.round.rising (sym c.is_watching.ensures ∙ c.if-not-is_watching.true)
     c.gone.ensures.gone in
     record { low = step.0; others = step.1; kept = step.2; rest = step.3 }
 
 pub loop-at-preserved : goal.loop-at-preserved
 loop-at-preserved c =
-    let here = c.index.ensures ∙ ap (λ (l : List DueWatcher). get_or l (c.loop-at.at - 1) c.index.result.now) c.due.ensures.due in
+    let here = c.index.ensures ∙ ap (λ (l : List DueWatcher). get_or l (c.loop-at.at - 1) c.index.result.now) c.due-in-loop-at.ensures.due in
     let low = c.loop-at.invariant.low in
     record {
       low = omega arith;

@@ -5,16 +5,20 @@ use Rattle.std.proofs.lemmas.List.{length-replicate}
 use Rattle.std.proofs.lemmas.Option.{slice_get-get_or}
 use Rattle.watch_rounds.specs.declared.due.DueWatcher.{DueWatcher}
 use Rattle.watch_rounds.specs.declared.tally.Tally.{Tally}
-use Rattle.watch_rounds.specs.Due.{AreAll}
-use Rattle.watch_rounds.specs.Round.{Round, RoundsView, IsRound, blank, no_round, grown, with_notice, with_run, watcher_of}
+use Rattle.watch_rounds.specs.declared.notice.Notice.{Notice}
+use Rattle.watch_rounds.specs.declared.notice.Notice.TheVariants as notices
+use Rattle.watch_rounds.specs.Due.{AreAll, IsOnly}
+use Rattle.watch_rounds.specs.Round.{Round, RoundsView, IsRound, blank, no_round, grown, notice_of, tally_at, with_notice, with_run, watcher_of}
+use Rattle.watch_rounds.proofs.Places.{all_map}
 use Rattle.watch_rounds.proofs.Stays.{nobody_ran, notice_long, notice_all, ran_long, ran_all}
 use Rattle.desk_model.specs.Market.{Market, slot_at, is_watcher}
 use Rattle.desk_model.specs.State.{State}
 use Rattle.session_model.specs.Standing.{Standing, name_of}
-use Rattle.session_model.specs.Course.{Running, running}
+use Rattle.session_model.specs.Course.{Running, running, notice, over_lines}
 use Rattle.session_core.specs.Watchers.{IsAWatcher, AreWatchers}
 use Rattle.session_rounds.specs.Fits.{Fits, IsDueOf, AreKnown}
-use Rattle.session_rounds.specs.Goes.{HasEnded}
+use Rattle.session_rounds.specs.Goes.{Output, with_more, Does, HasEnded}
+use Rattle.session_rounds.proofs.Going.{more_none}
 use Rattle.session_rounds.proofs.Hearing.{with_noticed}
 use Rattle.session_rounds.proofs.Known.{known_same}
 
@@ -27,6 +31,23 @@ fits_notice r nodes w name fits watcher named = record {
   spare = fits.spare;
   due = notice_all (IsDueOf r.standing) w name r.round fits.due (watcher.live, named);
   known = fits.known;
+}
+
+-- a watcher that is due already was told again: nothing changes
+pub only_of : (p : Standing) (due : List DueWatcher) (w : ℕ) → AreAll (IsDueOf p) due → IsAWatcher p w
+    → IsOnly w (name_of p w) due
+only_of p due w all watcher =
+    all_map (IsDueOf p)
+    (λ one. (one.watcher ≡ w → one.name ≡ name_of p w) × (one.name ≡ name_of p w → one.watcher ≡ w))
+    (λ one is. (λ same. is.1 ∙ ap (name_of p) same, λ named. watcher.alone one.watcher is.0 (sym is.1 ∙ named))) due all
+
+pub told_still : {P : Type 0} → (r : Running P) (w : ℕ) (out : Output)
+    → (notice_of (tally_at r.round (name_of r.standing w)) ≡ notices.Due)
+    × (with_notice w (name_of r.standing w) r.round ≡ r.round) → Does P (notice w r) r out out
+told_still {P} r w out still = record {
+  next = ap (λ (round : Round). let q : Running P = record r { round = round } in q) (sym still.1);
+  out = more_none out
+      ∙ ap (λ (n : Notice). with_more (over_lines r.standing.names (name_of r.standing w) n) [] out) (sym still.0);
 }
 
 -- other notices are left

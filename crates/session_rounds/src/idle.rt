@@ -1,11 +1,14 @@
 // Watchers that have no registration left.
 ghost use Rattle.std.specs.Prelude.{◌≡◌, true, false};
+ghost use Rattle.desk_model.specs.Told.{is_watching};
+ghost use Rattle.watch_rounds.specs.declared.notice.Notice.TheVariants.{Due};
 ghost use Rattle.session_model.specs.Course.{undue};
 ghost use Rattle.session_rounds.specs.Fits.{AreWatching, IsSettled, may_idle};
 
+use desk_names::ObjId;
 use session_commands::Command;
 use session_core::Session;
-use watch_rounds::Rounds;
+use watch_rounds::{Notice, Rounds};
 
 // Whether a command may leave a watcher without a registration.
 fn may_idle(command: &Command) -> bool
@@ -47,11 +50,12 @@ pub(crate) fn stays_settled(settled: bool, command: &Command) -> bool
     settled && !may_idle(command)
 }
 
-// Whether each due watcher is known to have a registration also when one more is due, that has one or not.
-pub(crate) fn settled_with(settled: bool, is_watching: bool) -> bool
-    ensures { (result ≡ true) → (settled ≡ true) × (is_watching ≡ true) }
+// Whether each due watcher is known to have a registration also after a notice to a watcher.
+pub(crate) fn settled_with(settled: bool, notice: Notice, session: &Session, watcher: ObjId) -> bool
+    ensures { result ≡ true
+        → (settled ≡ true) × (notice ≡ Due → is_watching session.now.state watcher ≡ true) }
 {
-    settled && is_watching
+    settled && (notice != Notice::Due || session.is_watching(watcher))
 }
 
 // Takes out of the due who has no registration left, unless each of them is known to have one.

@@ -40,10 +40,13 @@ impl<P: Picker> WatchedSession<P> {
         ensures ready { (notice watcher self.old).lines ≡ [] → is_ok result ≡ true }
         ensures standing { self.new.standing ≡ self.old.standing }
     {
-        let name = self.session.name_of(watcher);
         self.session.watchers();
+        if self.rounds.stays_due(watcher) {
+            return Ok(());
+        }
+        let name = self.session.name_of(watcher);
         let notice = self.rounds.told(watcher, name);
-        self.settled = settled_with(self.settled, self.session.is_watching(watcher));
+        self.settled = settled_with(self.settled, notice, &self.session, watcher);
         self.say(notice, name, lines)
     }
 

@@ -78,6 +78,8 @@ impl<T> Vec<T> {
     #[inline(always)]
     pub fn allocator(&self) -> &Global { &Global }
     #[inline(always)]
+    pub fn from_slice(_: Global, xs: &[T]) -> Result<Self, AllocError> where T: Copy { Ok(Vec(xs.into())) }
+    #[inline(always)]
     pub fn from_array<const N: usize>(_: Global, xs: [T; N]) -> Result<Self, AllocError> { Ok(Vec(xs.into())) }
     #[inline(always)]
     pub fn clone(&self) -> Result<Self, AllocError> where T: Clone { Ok(Vec(self.0.clone())) }

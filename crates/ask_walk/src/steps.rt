@@ -18,7 +18,7 @@ ghost use Rattle.object_store.specs.Market.{market_in};
 ghost use Rattle.object_store.specs.Slots.{answer_of, answered, answered_of, is_at_hand};
 
 use crate::reader::read;
-use crate::uses::{flow_entries, helper_entries};
+use crate::uses::{flow_entries, helper_entries, only_entry};
 use crate::waiting::Begun;
 use curve_points::copy_curve;
 use desk_model::Entry;
@@ -203,8 +203,13 @@ pub fn next(
             next_entries(alloc, store, &entries, inputs)
         }
         Terms::Flows(flows, engine) => {
-            let entries = flow_entries(market, scratch, object, flows, *engine)?;
-            next_entries(alloc, store, &entries, inputs)
+            match only_entry(market, scratch, object, flows, *engine)? {
+                Some(entry) => next_entries(alloc, store, &[entry], inputs),
+                None => {
+                    let entries = flow_entries(market, scratch, object, flows, *engine)?;
+                    next_entries(alloc, store, &entries, inputs)
+                }
+            }
         }
         Terms::Composite(_)
         | Terms::Quote(_)

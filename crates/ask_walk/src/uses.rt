@@ -1,5 +1,5 @@
 // What the prices of curves and of flows take, in order.
-ghost use Rattle.std.specs.Prelude.{◌≡◌, ◌<◌, ℕ, length, Some, IfOk, slice_index_or};
+ghost use Rattle.std.specs.Prelude.{◌≡◌, ◌<◌, ℕ, length, [], ◌∷◌, Some, IfSome, IfOk, slice_index_or};
 ghost use Rattle.walks.specs.Walk.{Among};
 ghost use Rattle.desk_terms.specs.Reading.{index_reading, named_index};
 ghost use Rattle.desk_terms.specs.Terms.{helper_references, optional_reference};
@@ -32,7 +32,7 @@ pub fn helper_entries(
     ensures remembers { Remembers (market_in market.now) scratch.new.entries }
 {
     let _cause: Option<Cause> = None;
-    let mut entries: Vec<Entry> = Vec::new(scratch.alloc());
+    let mut entries: Vec<Entry> = Vec::with_capacity(scratch.alloc(), helpers.len())?;
     for at in 0..helpers.len() {
         let entry = read(market, scratch, helpers[at].quote)?;
         entries.push(entry)?;
@@ -56,10 +56,10 @@ pub fn flow_entries(
     ensures entries { IfOk result (λ entries. entries.items ≡ uses (market_in market.now) object) }
     ensures remembers { Remembers (market_in market.now) scratch.new.entries }
 {
-    let mut entries: Vec<Entry> = Vec::new(scratch.alloc());
     if expired(flows, market.today) {
-        return Ok(entries);
+        return Ok(Vec::new(scratch.alloc()));
     }
+    let mut entries: Vec<Entry> = Vec::with_capacity(scratch.alloc(), 2)?;
     match engine {
         None => entries.push(Entry::Refuses(Cause::NoEngine(object)))?,
         Some(engine) => {
@@ -72,6 +72,37 @@ pub fn flow_entries(
         }
     }
     Ok(entries)
+}
+
+/// What the price of an instrument takes, where that is one thing alone: none where its flows are all paid, and where a rate
+/// has to be forecast.
+pub fn only_entry(
+    market: &Market,
+    scratch: &mut Scratch,
+    object: ObjId,
+    flows: &FlowTerms,
+    engine: Option<ObjId>,
+) -> Result<Option<Entry>, AllocError>
+    requires terms { terms_at (market_in market.now) object ≡ Some (Flows flows.now engine) }
+    requires linked { IsLinked (market_in market.now) }
+    requires kinds { AreOfKind (market_in market.now) (Some (Flows flows.now engine)) }
+    requires remembers { Remembers (market_in market.now) scratch.old.entries }
+    ensures entry { IfOk result (λ found. IfSome found (λ entry. uses (market_in market.now) object ≡ entry ∷ [])) }
+    ensures remembers { Remembers (market_in market.now) scratch.new.entries }
+{
+    if expired(flows, market.today) {
+        return Ok(None);
+    }
+    match forecast_index(market, flows) {
+        Some(_) => Ok(None),
+        None => match engine {
+            None => Ok(Some(Entry::Refuses(Cause::NoEngine(object)))),
+            Some(engine) => {
+                let discount = read(market, scratch, engine)?;
+                Ok(Some(discount))
+            }
+        },
+    }
 }
 
 // The index of flows, where a rate has to be forecast.

@@ -2,3 +2,4 @@ pub mod Answered
 pub mod Siding
 pub mod Climbing
 pub mod Laddering
+pub mod Quoting

@@ -13,7 +13,6 @@ use Rattle.desk_model.specs.Changeable.{changeable}
 use Rattle.desk_model.specs.State.{State}
 use Rattle.desk_model.specs.Effect.{quote_set}
 use Rattle.bump_model.specs.declared.moves.Quoted.{Quoted}
-use Rattle.bump_model.specs.declared.moves.Way.{Way}
 use Rattle.bump_model.specs.declared.ladder.Side.{Side}
 use Rattle.bump_model.specs.declared.ladder.Side.TheVariants.{Limit}
 use Rattle.bump_model.specs.Moves.{is_rate, moved, value_of, value_at, with_values, all_set, is_limit, AreLive, DifferAt}
@@ -48,53 +47,53 @@ module _ (all rest : List Quoted) (h : Quoted) (steps : all ≡ h ∷ rest) wher
       ap (all_set change rest) (is ∙ ap (λ (z : ℤ). quote_set h.quote (Some z) s) value)
       ∙ ap (λ (l : List Quoted). all_set change l s) (sym steps)
 
-  pub within_first : (way : Way) → is_limit way all ≡ false → is_rate (moved way h.value) ≡ true
-  within_first way fits =
-      not_not (is_rate (moved way h.value))
-      (or_parts (not (is_rate (moved way h.value))) (is_limit way rest) (ap (is_limit way) (sym steps) ∙ fits)).0
+  pub within_first : (shift : ℤ) → is_limit shift all ≡ false → is_rate (moved shift h.value) ≡ true
+  within_first shift fits =
+      not_not (is_rate (moved shift h.value))
+      (or_parts (not (is_rate (moved shift h.value))) (is_limit shift rest) (ap (is_limit shift) (sym steps) ∙ fits)).0
     where
       not_not : (b : Bool) → not b ≡ false → b ≡ true
       not_not true e = refl
       not_not false e = absurd (let none : true ≡ false = e in cc)
 
-  pub within_rest : (way : Way) → is_limit way all ≡ false → is_limit way rest ≡ false
-  within_rest way fits =
-      (or_parts (not (is_rate (moved way h.value))) (is_limit way rest) (ap (is_limit way) (sym steps) ∙ fits)).1
+  pub within_rest : (shift : ℤ) → is_limit shift all ≡ false → is_limit shift rest ≡ false
+  within_rest shift fits =
+      (or_parts (not (is_rate (moved shift h.value))) (is_limit shift rest) (ap (is_limit shift) (sym steps) ∙ fits)).1
 
 -- ---- one side
 
-module _ (calc : Calc) (o : ℕ) (way : Way) (group : List Quoted) (s : State) where
-  pub limit_side : (base : ℤ) → is_limit way group ≡ true → Limit ≡ side_of calc s.market o base way group
+module _ (calc : Calc) (o : ℕ) (shift : ℤ) (group : List Quoted) (s : State) where
+  pub limit_side : (base : ℤ) → is_limit shift group ≡ true → Limit ≡ side_of calc s.market o base shift group
   limit_side base is = rw is refl
 
-  limit_asking : is_limit way group ≡ true → side_asking calc o way group s ≡ none s
+  limit_asking : is_limit shift group ≡ true → side_asking calc o shift group s ≡ none s
   limit_asking is = rw is refl
 
-  pub limit_runs : is_limit way group ≡ true → 0 ≡ length (side_asking calc o way group s).calls
+  pub limit_runs : is_limit shift group ≡ true → 0 ≡ length (side_asking calc o shift group s).calls
   limit_runs is = ap (λ (a : Asking). length a.calls) (sym (limit_asking is))
 
-  pub limit_asks : (count : ℕ) (log : Log) → is_limit way group ≡ true
-      → Did (side_asking calc o way group s) s count count log log
+  pub limit_asks : (count : ℕ) (log : Log) → is_limit shift group ≡ true
+      → Did (side_asking calc o shift group s) s count count log log
   limit_asks count log is =
       subst (λ (a : Asking). Did a s count count log log) (sym (limit_asking is)) (refl, made_none count log)
 
-  pub moved_asking : (t : State) → is_limit way group ≡ false → t ≡ all_set (moved way) group s
-      → ask_of calc o t ≡ side_asking calc o way group s
-  moved_asking t fits is = ap (ask_of calc o) is ∙ by (is_limit way group) fits
+  pub moved_asking : (t : State) → is_limit shift group ≡ false → t ≡ all_set (moved shift) group s
+      → ask_of calc o t ≡ side_asking calc o shift group s
+  moved_asking t fits is = ap (ask_of calc o) is ∙ by (is_limit shift group) fits
     where
-      by : (b : Bool) → b ≡ false → ask_of calc o (all_set (moved way) group s) ≡ (if b then none s else ask_of calc o (all_set (moved way) group s))
+      by : (b : Bool) → b ≡ false → ask_of calc o (all_set (moved shift) group s) ≡ (if b then none s else ask_of calc o (all_set (moved shift) group s))
       by false e = refl
       by true e = absurd (let none : true ≡ false = e in cc)
 
-  pub moved_side : (base : ℤ) (t : State) (amount : Result ℤ Cause) → AreLive s.market group → is_limit way group ≡ false
-      → t ≡ all_set (moved way) group s → amount ≡ worth calc t.market o
-      → gain base amount ≡ side_of calc s.market o base way group
+  pub moved_side : (base : ℤ) (t : State) (amount : Result ℤ Cause) → AreLive s.market group → is_limit shift group ≡ false
+      → t ≡ all_set (moved shift) group s → amount ≡ worth calc t.market o
+      → gain base amount ≡ side_of calc s.market o base shift group
   moved_side base t amount live fits is priced =
-      ap (gain base) (priced ∙ ap (λ (m : Market). worth calc m o) (ap (λ (u : State). u.market) is ∙ set_moves (moved way) group s live))
-      ∙ by (is_limit way group) fits
+      ap (gain base) (priced ∙ ap (λ (m : Market). worth calc m o) (ap (λ (u : State). u.market) is ∙ set_moves (moved shift) group s live))
+      ∙ by (is_limit shift group) fits
     where
       at : Side
-      at = gain base (worth calc (with_values (moved way) group s.market) o)
+      at = gain base (worth calc (with_values (moved shift) group s.market) o)
 
       by : (b : Bool) → b ≡ false → at ≡ (if b then Limit else at)
       by false e = refl
@@ -130,13 +129,13 @@ first_front a others count now log log_now made = front_first a.calls (others a.
 
 -- ---- a rung, set back
 
-pub rung_asks : {A E : Type 0} (calc : Calc) (o : ℕ) (group : List Quoted) (s t u : State) (result : Result A E) (count now : ℕ)
-    (log log_now : Log) → u ≡ all_set (λ value. value) group t → Asks (sides_asking calc o group s) result t count now log log_now
-    → Asks (rung_asking calc o group s) result u count now log log_now
+pub rung_asks : {A E : Type 0} (calc : Calc) (size : ℤ) (o : ℕ) (group : List Quoted) (s t u : State) (result : Result A E) (count now : ℕ)
+    (log log_now : Log) → u ≡ all_set (λ value. value) group t → Asks (sides_asking calc size o group s) result t count now log log_now
+    → Asks (rung_asking calc size o group s) result u count now log log_now
 unfolding rung_asking
-rung_asks calc o group s t u (Ok x) count now log log_now is does =
+rung_asks calc size o group s t u (Ok x) count now log log_now is does =
     (is ∙ ap (all_set (λ value. value) group) does.0, does.1)
-rung_asks calc o group s t u (Err e) count now log log_now is does = does
+rung_asks calc size o group s t u (Err e) count now log log_now is does = does
 
 -- ---- the value of a quote
 

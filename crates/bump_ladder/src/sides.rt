@@ -1,19 +1,18 @@
 // The two sides of a rung.
-ghost use Rattle.std.specs.Prelude.{◌≡◌, ◌<◌, ◌≤◌, ◌^◌, ◌+ℤ◌, unsigned_abs, ℕ, false, true, length, Some, IfOk, OnOk, OnErr};
+ghost use Rattle.std.specs.Prelude.{◌≡◌, ◌<◌, ◌≤◌, ◌^◌, ◌+ℤ◌, neg_ℤ, unsigned_abs, ℕ, false, true, length, Some, IfOk, OnOk, OnErr};
 ghost use Rattle.desk_terms.specs.Reading.{Calc};
 ghost use Rattle.desk_model.specs.Links.{is_lazy_at};
 ghost use Rattle.desk_model.specs.Sound.{IsSound};
 ghost use Rattle.desk_model.specs.Unheld.{HoldsNothing};
-ghost use Rattle.bump_model.specs.declared.moves.Way.TheVariants.{Up, Down};
 ghost use Rattle.bump_model.specs.Moves.{moved, all_set, is_limit, AreQuoted, AreLive, DifferAt};
 ghost use Rattle.bump_model.specs.Sides.{side_of, gain};
 ghost use Rattle.bump_model.specs.Asking.{Asks, MadeFront, side_asking, sides_asking, rung_asking};
 
 use crate::pricing::price;
-use bump_model::{Quoted, Side, Way, is_limit};
+use bump_model::{Quoted, Side, is_limit, moved};
 use desk_names::ObjId;
 use desk_terms::{Bench, Cause};
-use fixed_amount::Amount;
+use fixed_amount::{Amount, Rate};
 use lazy_objects::Desk;
 use std::alloc::AllocError;
 
@@ -38,6 +37,7 @@ pub(crate) fn rung_sides<B: Bench>(
     desk: &mut Desk,
     object: ObjId,
     base: Amount,
+    size: Rate,
     group: &[Quoted],
     bench: &mut B,
 ) -> Result<Sides, AllocError>
@@ -47,17 +47,17 @@ pub(crate) fn rung_sides<B: Bench>(
     requires sound { IsSound (B.calc bench.old) desk.old }
     requires unheld { HoldsNothing desk.old }
     ensures same { B.calc bench.new ≡ B.calc bench.old }
-    ensures up { IfOk result (λ sides. sides.up ≡ side_of (B.calc bench.old) desk.old.market object base Up group.now) }
-    ensures down { IfOk result (λ sides. sides.down ≡ side_of (B.calc bench.old) desk.old.market object base Down group.now) }
-    ensures runs { IfOk result (λ sides. sides.runs ≡ length (rung_asking (B.calc bench.old) object group.now desk.old).calls) }
+    ensures up { IfOk result (λ sides. sides.up ≡ side_of (B.calc bench.old) desk.old.market object base size group.now) }
+    ensures down { IfOk result (λ sides. sides.down ≡ side_of (B.calc bench.old) desk.old.market object base (neg_ℤ size) group.now) }
+    ensures runs { IfOk result (λ sides. sides.runs ≡ length (rung_asking (B.calc bench.old) size object group.now desk.old).calls) }
     ensures few { IfOk result (λ sides. sides.runs < 2 ^ 18) }
-    ensures asks { Asks (rung_asking (B.calc bench.old) object group.now desk.old) result desk.new
+    ensures asks { Asks (rung_asking (B.calc bench.old) size object group.now desk.old) result desk.new
         (B.count bench.old) (B.count bench.new) (B.log bench.old) (B.log bench.new) }
     ensures market { desk.new.market ≡ desk.old.market }
     ensures sound { IsSound (B.calc bench.old) desk.new }
     ensures unheld { HoldsNothing desk.new }
 {
-    let sides = both_sides(desk, object, base, group, bench);
+    let sides = both_sides(desk, object, base, size, group, bench);
     set_back(desk, group);
     sides
 }
@@ -67,6 +67,7 @@ fn both_sides<B: Bench>(
     desk: &mut Desk,
     object: ObjId,
     base: Amount,
+    size: Rate,
     group: &[Quoted],
     bench: &mut B,
 ) -> Result<Sides, AllocError>
@@ -76,18 +77,18 @@ fn both_sides<B: Bench>(
     requires sound { IsSound (B.calc bench.old) desk.old }
     requires unheld { HoldsNothing desk.old }
     ensures same { B.calc bench.new ≡ B.calc bench.old }
-    ensures up { IfOk result (λ sides. sides.up ≡ side_of (B.calc bench.old) desk.old.market object base Up group.now) }
-    ensures down { IfOk result (λ sides. sides.down ≡ side_of (B.calc bench.old) desk.old.market object base Down group.now) }
-    ensures runs { IfOk result (λ sides. sides.runs ≡ length (sides_asking (B.calc bench.old) object group.now desk.old).calls) }
+    ensures up { IfOk result (λ sides. sides.up ≡ side_of (B.calc bench.old) desk.old.market object base size group.now) }
+    ensures down { IfOk result (λ sides. sides.down ≡ side_of (B.calc bench.old) desk.old.market object base (neg_ℤ size) group.now) }
+    ensures runs { IfOk result (λ sides. sides.runs ≡ length (sides_asking (B.calc bench.old) size object group.now desk.old).calls) }
     ensures few { IfOk result (λ sides. sides.runs < 2 ^ 18) }
-    ensures asks { Asks (sides_asking (B.calc bench.old) object group.now desk.old) result desk.new
+    ensures asks { Asks (sides_asking (B.calc bench.old) size object group.now desk.old) result desk.new
         (B.count bench.old) (B.count bench.new) (B.log bench.old) (B.log bench.new) }
     ensures differ { DifferAt group.now desk.old.market desk.new.market }
     ensures sound { IsSound (B.calc bench.old) desk.new }
     ensures unheld { HoldsNothing desk.new }
 {
-    let up = one_side(desk, object, base, Way::Up, group, bench)?;
-    let down = one_side(desk, object, base, Way::Down, group, bench)?;
+    let up = one_side(desk, object, base, size, group, bench)?;
+    let down = one_side(desk, object, base, opposite(size), group, bench)?;
     Ok(Sides {
         up: up.side,
         down: down.side,
@@ -95,12 +96,19 @@ fn both_sides<B: Bench>(
     })
 }
 
+// The same shift the other way.
+fn opposite(shift: Rate) -> Rate
+    ensures { result ≡ neg_ℤ shift }
+{
+    Rate(-shift.units())
+}
+
 // One side: the quotes are moved and the instrument asked for, unless one of them would pass the limit of rates.
 fn one_side<B: Bench>(
     desk: &mut Desk,
     object: ObjId,
     base: Amount,
-    way: Way,
+    shift: Rate,
     group: &[Quoted],
     bench: &mut B,
 ) -> Result<Sided, AllocError>
@@ -110,22 +118,22 @@ fn one_side<B: Bench>(
     requires sound { IsSound (B.calc bench.old) desk.old }
     requires unheld { HoldsNothing desk.old }
     ensures same { B.calc bench.new ≡ B.calc bench.old }
-    ensures side { IfOk result (λ sided. sided.side ≡ side_of (B.calc bench.old) desk.old.market object base way group.now) }
-    ensures runs { IfOk result (λ sided. sided.runs ≡ length (side_asking (B.calc bench.old) object way group.now desk.old).calls) }
+    ensures side { IfOk result (λ sided. sided.side ≡ side_of (B.calc bench.old) desk.old.market object base shift group.now) }
+    ensures runs { IfOk result (λ sided. sided.runs ≡ length (side_asking (B.calc bench.old) object shift group.now desk.old).calls) }
     ensures few { IfOk result (λ sided. sided.runs < 2 ^ 17) }
-    ensures asks { Asks (side_asking (B.calc bench.old) object way group.now desk.old) result desk.new
+    ensures asks { Asks (side_asking (B.calc bench.old) object shift group.now desk.old) result desk.new
         (B.count bench.old) (B.count bench.new) (B.log bench.old) (B.log bench.new) }
     ensures differ { DifferAt group.now desk.old.market desk.new.market }
     ensures sound { IsSound (B.calc bench.old) desk.new }
     ensures unheld { HoldsNothing desk.new }
 {
-    if is_limit(way, group) {
+    if is_limit(shift, group) {
         return Ok(Sided {
             side: Side::Limit,
             runs: 0,
         });
     }
-    move_all(desk, way, group);
+    move_all(desk, shift, group);
     let priced = price(desk, object, bench)?;
     Ok(Sided {
         side: gain(base, priced.amount),
@@ -145,15 +153,15 @@ fn gain(base: Amount, amount: Result<Amount, Cause>) -> Side
     }
 }
 
-// Moves quotes one way from the values that they had, none of them past the limit of rates.
-fn move_all(desk: &mut Desk, way: Way, group: &[Quoted])
+// Moves quotes by a shift from the values that they had, none of them past the limit of rates.
+fn move_all(desk: &mut Desk, shift: Rate, group: &[Quoted])
     requires live { AreLive desk.old.market group.now }
-    requires within { is_limit way group.now ≡ false }
-    ensures moved { desk.new ≡ all_set (moved way) group.now desk.old }
+    requires within { is_limit shift group.now ≡ false }
+    ensures moved { desk.new ≡ all_set (moved shift) group.now desk.old }
     ensures sound { (calc : Calc) → IsSound calc desk.old → IsSound calc desk.new }
 {
     for quoted in group {
-        desk.set_quote(quoted.quote, Some(way.moved(quoted.value)));
+        desk.set_quote(quoted.quote, Some(moved(shift, quoted.value)));
     }
 }
 

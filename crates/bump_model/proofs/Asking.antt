@@ -1,6 +1,6 @@
 -- The asks of a ladder leave the market as it was, and hold nothing back.
 use Rattle.std.proofs.Common.{◌≡◌, ℕ, ◌+◌, inl, inr, Bool, true, false, List, [], ◌∷◌, length, ℤ, Option, Some, None, Result, Ok, Err, refl, sym, ◌∙◌, ap, subst}
-use Rattle.std.specs.Prelude.{if◌then◌else◌, ◌||◌}
+use Rattle.std.specs.Prelude.{if◌then◌else◌, ◌||◌, neg_ℤ}
 use Rattle.std.proofs.lemmas.Bool.{cases_lt}
 use Rattle.desk_terms.specs.declared.cause.Cause.{Cause}
 use Rattle.desk_terms.specs.declared.value.Value.{Value}
@@ -14,12 +14,12 @@ use Rattle.desk_model.proofs.Unheld.{others_hold_nothing}
 use Rattle.desk_model.proofs.Stores.{each_at, each_past}
 use Rattle.std.proofs.lemmas.List.{get_or_past}
 use Rattle.bump_model.specs.declared.moves.Quoted.{Quoted}
-use Rattle.bump_model.specs.declared.moves.Way.{Way}
-use Rattle.bump_model.specs.declared.moves.Way.TheVariants.{Up, Down}
+use Rattle.bump_model.specs.declared.ladder.Bump.{Bump}
+use Rattle.bump_model.specs.declared.ladder.Bump.TheVariants.{One, Together}
 use Rattle.bump_model.specs.declared.ladder.Side.TheVariants.{Limit}
 use Rattle.bump_model.specs.Moves.{moved, value_at, quoted, quoted_in, with_values, all_set, is_limit, AreQuoted, DifferAt, AreLive}
 use Rattle.bump_model.specs.Sides.{worth, gain, side_of}
-use Rattle.bump_model.specs.Asking.{none, ask_of, side_asking, sides_asking, rung_asking, asking_for, quotes_asking, rungs_asking, behind_base, ladder_asking}
+use Rattle.bump_model.specs.Asking.{none, ask_of, side_asking, sides_asking, rung_asking, asking_for, bump_asking, rungs_asking, behind_base, ladder_asking}
 use Rattle.bump_model.proofs.Moving.{differ_none, moved_same, quoted_live, one_quoted, all_quoted, set_differ, set_back, set_unheld}
 
 pub stored_market : (s : State) (calls : List (ℕ × Outcome)) → (stored s calls).market ≡ s.market
@@ -66,95 +66,103 @@ stored_unheld s calls free = record {
 -- ---- sides
 
 module _ (calc : Calc) (o : ℕ) (m : Market) (group : List Quoted) (live : AreLive m group) where
-  pub side_differ : (way : Way) (s : State) → DifferAt group m s.market → DifferAt group m (side_asking calc o way group s).next.market
-  side_differ way s differ = by (is_limit way group)
+  pub side_differ : (shift : ℤ) (s : State) → DifferAt group m s.market → DifferAt group m (side_asking calc o shift group s).next.market
+  side_differ shift s differ = by (is_limit shift group)
     where
-      by : (b : Bool) → DifferAt group m (if b then none s else ask_of calc o (all_set (moved way) group s)).next.market
+      by : (b : Bool) → DifferAt group m (if b then none s else ask_of calc o (all_set (moved shift) group s)).next.market
       by true = differ
       by false =
-          subst (λ (n : Market). DifferAt group m n) (sym (asked_market calc o (all_set (moved way) group s)))
-          (set_differ (moved way) group m s live differ)
+          subst (λ (n : Market). DifferAt group m n) (sym (asked_market calc o (all_set (moved shift) group s)))
+          (set_differ (moved shift) group m s live differ)
 
   -- a side is that of the market before any was moved
-  pub side_same : (base : ℤ) (way : Way) (n : Market) → DifferAt group m n → side_of calc n o base way group ≡ side_of calc m o base way group
-  side_same base way n differ = by (is_limit way group)
+  pub side_same : (base shift : ℤ) (n : Market) → DifferAt group m n → side_of calc n o base shift group ≡ side_of calc m o base shift group
+  side_same base shift n differ = by (is_limit shift group)
     where
-      by : (b : Bool) → (if b then Limit else gain base (worth calc (with_values (moved way) group n) o)) ≡ (if b then Limit else gain base (worth calc (with_values (moved way) group m) o))
+      by : (b : Bool) → (if b then Limit else gain base (worth calc (with_values (moved shift) group n) o)) ≡ (if b then Limit else gain base (worth calc (with_values (moved shift) group m) o))
       by true = refl
-      by false = ap (λ (l : Market). gain base (worth calc l o)) (moved_same (moved way) group m n live differ)
+      by false = ap (λ (l : Market). gain base (worth calc l o)) (moved_same (moved shift) group m n live differ)
 
-pub rung_leaves : (calc : Calc) (s : State) (o : ℕ) (group : List Quoted) → AreQuoted s.market group
-    → (rung_asking calc o group s).next.market ≡ s.market
+pub rung_leaves : (calc : Calc) (size : ℤ) (s : State) (o : ℕ) (group : List Quoted) → AreQuoted s.market group
+    → (rung_asking calc size o group s).next.market ≡ s.market
 unfolding rung_asking
-rung_leaves calc s o group are =
+rung_leaves calc size s o group are =
     let live = quoted_live s.market group are in
-    let up = side_differ calc o s.market group live Up s (differ_none group s.market) in
-    let down = side_differ calc o s.market group live Down (side_asking calc o Up group s).next up in
-    set_back group s.market (sides_asking calc o group s).next are down
+    let up = side_differ calc o s.market group live size s (differ_none group s.market) in
+    let down = side_differ calc o s.market group live (neg_ℤ size) (side_asking calc o size group s).next up in
+    set_back group s.market (sides_asking calc size o group s).next are down
 
-one_leaves : (calc : Calc) (m : Market) (o q : ℕ) (found : Option ℤ) → value_at m q ≡ found → (s : State) → s.market ≡ m
-    → (asking_for calc o q found s).next.market ≡ m
-one_leaves calc m o q None is s e = e
-one_leaves calc m o q (Some v) is s e =
-    rung_leaves calc s o (quoted q v ∷ []) (subst (λ (n : Market). AreQuoted n (quoted q v ∷ [])) (sym e) (one_quoted m q v is)) ∙ e
+one_leaves : (calc : Calc) (size : ℤ) (m : Market) (o q : ℕ) (found : Option ℤ) → value_at m q ≡ found → (s : State) → s.market ≡ m
+    → (asking_for calc size o q found s).next.market ≡ m
+one_leaves calc size m o q None is s e = e
+one_leaves calc size m o q (Some v) is s e =
+    rung_leaves calc size s o (quoted q v ∷ []) (subst (λ (n : Market). AreQuoted n (quoted q v ∷ [])) (sym e) (one_quoted m q v is)) ∙ e
 
-pub quotes_leave : (calc : Calc) (m : Market) (o : ℕ) (quotes : List ℕ) (s : State) → s.market ≡ m
-    → (quotes_asking calc m o quotes s).next.market ≡ m
-unfolding quotes_asking
-quotes_leave calc m o [] s e = e
-quotes_leave calc m o (q ∷ quotes) s e =
-    quotes_leave calc m o quotes (asking_for calc o q (value_at m q) s).next (one_leaves calc m o q (value_at m q) refl s e)
+-- what a group of quotes has for its values in a market that is the one before
+group_leaves : (calc : Calc) (size : ℤ) (m : Market) (o : ℕ) (quotes : List ℕ) (s : State) → s.market ≡ m
+    → (rung_asking calc size o (quoted_in m quotes) s).next.market ≡ m
+group_leaves calc size m o quotes s e =
+    rung_leaves calc size s o (quoted_in m quotes)
+    (subst (λ (n : Market). AreQuoted n (quoted_in m quotes)) (sym e) (all_quoted m quotes)) ∙ e
 
-rungs_leave : (calc : Calc) (m : Market) (o : ℕ) (quotes : List ℕ) (s : State) → s.market ≡ m
-    → (rungs_asking calc m o quotes s).next.market ≡ m
-rungs_leave calc m o quotes s e =
-    let same = quotes_leave calc m o quotes s e in
-    rung_leaves calc (quotes_asking calc m o quotes s).next o (quoted_in m quotes)
-    (subst (λ (n : Market). AreQuoted n (quoted_in m quotes)) (sym same) (all_quoted m quotes)) ∙ same
+bump_leaves : (calc : Calc) (size : ℤ) (m : Market) (o : ℕ) (bump : Bump) (s : State) → s.market ≡ m
+    → (bump_asking calc size m o bump s).next.market ≡ m
+bump_leaves calc size m o (One q) s e = one_leaves calc size m o q (value_at m q) refl s e
+bump_leaves calc size m o (Together label quotes) s e = group_leaves calc size m o quotes s e
 
-pub ladder_leaves : (calc : Calc) (s : State) (o : ℕ) (quotes : List ℕ) → (ladder_asking calc o quotes s).next.market ≡ s.market
+pub rungs_leave : (calc : Calc) (size : ℤ) (m : Market) (o : ℕ) (bumps : List Bump) (s : State) → s.market ≡ m
+    → (rungs_asking calc size m o bumps s).next.market ≡ m
+unfolding rungs_asking
+rungs_leave calc size m o [] s e = e
+rungs_leave calc size m o (bump ∷ bumps) s e =
+    rungs_leave calc size m o bumps (bump_asking calc size m o bump s).next (bump_leaves calc size m o bump s e)
+
+pub ladder_leaves : (calc : Calc) (size : ℤ) (s : State) (o : ℕ) (bumps : List Bump)
+    → (ladder_asking calc size o bumps s).next.market ≡ s.market
 unfolding ladder_asking
-ladder_leaves calc s o quotes = by (worth calc s.market o)
+ladder_leaves calc size s o bumps = by (worth calc s.market o)
   where
-    by : (base : Result ℤ Cause) → (behind_base calc s.market o quotes base (asked calc o s)).next.market ≡ s.market
-    by (Ok base) = rungs_leave calc s.market o quotes (asked calc o s) (asked_market calc o s)
+    by : (base : Result ℤ Cause) → (behind_base calc size s.market o bumps base (asked calc o s)).next.market ≡ s.market
+    by (Ok base) = rungs_leave calc size s.market o bumps (asked calc o s) (asked_market calc o s)
     by (Err cause) = asked_market calc o s
 
 -- ---- a ladder holds nothing back
 
-module _ (calc : Calc) (o : ℕ) where
-  side_unheld : (way : Way) (group : List Quoted) (s : State) → HoldsNothing s → HoldsNothing (side_asking calc o way group s).next
-  side_unheld way group s free = by (is_limit way group)
+module _ (calc : Calc) (size : ℤ) (o : ℕ) where
+  side_unheld : (shift : ℤ) (group : List Quoted) (s : State) → HoldsNothing s → HoldsNothing (side_asking calc o shift group s).next
+  side_unheld shift group s free = by (is_limit shift group)
     where
-      by : (b : Bool) → HoldsNothing (if b then none s else ask_of calc o (all_set (moved way) group s)).next
+      by : (b : Bool) → HoldsNothing (if b then none s else ask_of calc o (all_set (moved shift) group s)).next
       by true = free
-      by false = (others_hold_nothing (all_set (moved way) group s) (set_unheld (moved way) group s free)).ask calc o
+      by false = (others_hold_nothing (all_set (moved shift) group s) (set_unheld (moved shift) group s free)).ask calc o
 
-  rung_unheld : (group : List Quoted) (s : State) → HoldsNothing s → HoldsNothing (rung_asking calc o group s).next
+  rung_unheld : (group : List Quoted) (s : State) → HoldsNothing s → HoldsNothing (rung_asking calc size o group s).next
   unfolding rung_asking
   rung_unheld group s free =
-      set_unheld (λ value. value) group (sides_asking calc o group s).next
-      (side_unheld Down group (side_asking calc o Up group s).next (side_unheld Up group s free))
+      set_unheld (λ value. value) group (sides_asking calc size o group s).next
+      (side_unheld (neg_ℤ size) group (side_asking calc o size group s).next (side_unheld size group s free))
 
-  one_unheld : (q : ℕ) (found : Option ℤ) (s : State) → HoldsNothing s → HoldsNothing (asking_for calc o q found s).next
+  one_unheld : (q : ℕ) (found : Option ℤ) (s : State) → HoldsNothing s → HoldsNothing (asking_for calc size o q found s).next
   one_unheld q None s free = free
   one_unheld q (Some v) s free = rung_unheld (quoted q v ∷ []) s free
 
-  quotes_unheld : (m : Market) (quotes : List ℕ) (s : State) → HoldsNothing s → HoldsNothing (quotes_asking calc m o quotes s).next
-  unfolding quotes_asking
-  quotes_unheld m [] s free = free
-  quotes_unheld m (q ∷ quotes) s free =
-      quotes_unheld m quotes (asking_for calc o q (value_at m q) s).next (one_unheld q (value_at m q) s free)
+  bump_unheld : (m : Market) (bump : Bump) (s : State) → HoldsNothing s → HoldsNothing (bump_asking calc size m o bump s).next
+  bump_unheld m (One q) s free = one_unheld q (value_at m q) s free
+  bump_unheld m (Together label quotes) s free = rung_unheld (quoted_in m quotes) s free
 
-  pub ladder_unheld : (quotes : List ℕ) (s : State) → HoldsNothing s → HoldsNothing (ladder_asking calc o quotes s).next
+  rungs_unheld : (m : Market) (bumps : List Bump) (s : State) → HoldsNothing s → HoldsNothing (rungs_asking calc size m o bumps s).next
+  unfolding rungs_asking
+  rungs_unheld m [] s free = free
+  rungs_unheld m (bump ∷ bumps) s free =
+      rungs_unheld m bumps (bump_asking calc size m o bump s).next (bump_unheld m bump s free)
+
+  pub ladder_unheld : (bumps : List Bump) (s : State) → HoldsNothing s → HoldsNothing (ladder_asking calc size o bumps s).next
   unfolding ladder_asking
-  ladder_unheld quotes s free = by (worth calc s.market o)
+  ladder_unheld bumps s free = by (worth calc s.market o)
     where
       first : HoldsNothing (asked calc o s)
       first = (others_hold_nothing s free).ask calc o
 
-      by : (base : Result ℤ Cause) → HoldsNothing (behind_base calc s.market o quotes base (asked calc o s)).next
-      by (Ok base) =
-          rung_unheld (quoted_in s.market quotes) (quotes_asking calc s.market o quotes (asked calc o s)).next
-          (quotes_unheld s.market quotes (asked calc o s) first)
+      by : (base : Result ℤ Cause) → HoldsNothing (behind_base calc size s.market o bumps base (asked calc o s)).next
+      by (Ok base) = rungs_unheld s.market bumps (asked calc o s) first
       by (Err cause) = first

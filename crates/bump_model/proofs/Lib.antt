@@ -1,3 +1,4 @@
 pub mod Calls
 pub mod Moving
 pub mod Asking
+pub mod Bumping

@@ -1,6 +1,6 @@
 -- THE ASKS of a ladder, in their order: the base, then for each rung up and down; what they compute, and the state after
 -- them.
-use Rattle.std.specs.Prelude.{◌≡◌, ◌≢◌, ◌⊎◌, ℕ, ℤ, ◌+◌, Bool, List, [], ◌∷◌, ◌++◌, length, if◌then◌else◌, Option, None, Some, Result, Ok, Err}
+use Rattle.std.specs.Prelude.{◌≡◌, ◌≢◌, ◌⊎◌, ℕ, ℤ, neg_ℤ, ◌+◌, Bool, List, [], ◌∷◌, ◌++◌, length, if◌then◌else◌, Option, None, Some, Result, Ok, Err}
 use Rattle.desk_terms.specs.declared.cause.Cause.{Cause}
 use Rattle.desk_terms.specs.Bench.{counted, logged}
 use Rattle.desk_terms.specs.Reading.{Outcome, Calc}
@@ -8,8 +8,8 @@ use Rattle.desk_model.specs.Market.{Market}
 use Rattle.desk_model.specs.State.{State}
 use Rattle.desk_model.specs.Visit.{log_of, runs, asked}
 use Rattle.bump_model.specs.declared.moves.Quoted.{Quoted}
-use Rattle.bump_model.specs.declared.moves.Way.{Way}
-use Rattle.bump_model.specs.declared.moves.Way.TheVariants.{Up, Down}
+use Rattle.bump_model.specs.declared.ladder.Bump.{Bump}
+use Rattle.bump_model.specs.declared.ladder.Bump.TheVariants.{One, Together}
 use Rattle.bump_model.specs.declared.ladder.Ladder as ladder
 use Rattle.bump_model.specs.declared.ladder.LadderFault.{LadderFault}
 use Rattle.bump_model.specs.declared.ladder.LadderFault.TheVariants.{Base, NoMemory}
@@ -35,61 +35,61 @@ then_ask first others =
     record { calls = first.calls ++ (others first.next).calls; next = (others first.next).next }
 
 -- one side of a rung: the quotes are moved and the object is asked for, unless one of them would pass the limit
-abbrev pub side_asking : Calc → ℕ → Way → List Quoted → State → Asking
-side_asking calc o way group s =
-    if is_limit way group then none s else ask_of calc o (all_set (moved way) group s)
+abbrev pub side_asking : Calc → ℕ → ℤ → List Quoted → State → Asking
+side_asking calc o shift group s =
+    if is_limit shift group then none s else ask_of calc o (all_set (moved shift) group s)
 
 -- both sides
-abbrev pub sides_asking : Calc → ℕ → List Quoted → State → Asking
-sides_asking calc o group s = then_ask (side_asking calc o Up group s) (side_asking calc o Down group)
+abbrev pub sides_asking : Calc → ℤ → ℕ → List Quoted → State → Asking
+sides_asking calc size o group s = then_ask (side_asking calc o size group s) (side_asking calc o (neg_ℤ size) group)
 
 -- a rung: both sides, then its quotes are set back, which asks for nothing
-unfoldable pub rung_asking : Calc → ℕ → List Quoted → State → Asking
-rung_asking calc o group s = record {
-  calls = (sides_asking calc o group s).calls;
-  next = all_set (λ value. value) group (sides_asking calc o group s).next;
+unfoldable pub rung_asking : Calc → ℤ → ℕ → List Quoted → State → Asking
+rung_asking calc size o group s = record {
+  calls = (sides_asking calc size o group s).calls;
+  next = all_set (λ value. value) group (sides_asking calc size o group s).next;
 }
 
 -- the rung of a quote that has this value: nothing is asked for where it has none
-abbrev pub asking_for : Calc → ℕ → ℕ → Option ℤ → State → Asking
-asking_for calc o q None s = none s
-asking_for calc o q (Some value) s = rung_asking calc o (quoted q value ∷ []) s
+abbrev pub asking_for : Calc → ℤ → ℕ → ℕ → Option ℤ → State → Asking
+asking_for calc size o q None s = none s
+asking_for calc size o q (Some value) s = rung_asking calc size o (quoted q value ∷ []) s
 
--- the rung of each quote, by its value in a market
-unfoldable pub quotes_asking : Calc → Market → ℕ → List ℕ → State → Asking
-quotes_asking calc market o [] s = none s
-quotes_asking calc market o (q ∷ quotes) s =
-    then_ask (asking_for calc o q (value_at market q) s) (quotes_asking calc market o quotes)
+-- the rung of one quote, or of these together, by their values in a market
+abbrev pub bump_asking : Calc → ℤ → Market → ℕ → Bump → State → Asking
+bump_asking calc size market o (One q) s = asking_for calc size o q (value_at market q) s
+bump_asking calc size market o (Together label quotes) s = rung_asking calc size o (quoted_in market quotes) s
 
 -- all rungs
-abbrev pub rungs_asking : Calc → Market → ℕ → List ℕ → State → Asking
-rungs_asking calc market o quotes s =
-    then_ask (quotes_asking calc market o quotes s) (rung_asking calc o (quoted_in market quotes))
+unfoldable pub rungs_asking : Calc → ℤ → Market → ℕ → List Bump → State → Asking
+rungs_asking calc size market o [] s = none s
+rungs_asking calc size market o (bump ∷ bumps) s =
+    then_ask (bump_asking calc size market o bump s) (rungs_asking calc size market o bumps)
 
 -- no rung is asked for where the base is refused
-abbrev pub behind_base : Calc → Market → ℕ → List ℕ → Result ℤ Cause → State → Asking
-behind_base calc market o quotes (Ok base) s = rungs_asking calc market o quotes s
-behind_base calc market o quotes (Err cause) s = none s
+abbrev pub behind_base : Calc → ℤ → Market → ℕ → List Bump → Result ℤ Cause → State → Asking
+behind_base calc size market o bumps (Ok base) s = rungs_asking calc size market o bumps s
+behind_base calc size market o bumps (Err cause) s = none s
 
-unfoldable pub ladder_asking : Calc → ℕ → List ℕ → State → Asking
-ladder_asking calc o quotes s =
-    then_ask (ask_of calc o s) (behind_base calc s.market o quotes (worth calc s.market o))
+unfoldable pub ladder_asking : Calc → ℤ → ℕ → List Bump → State → Asking
+ladder_asking calc size o bumps s =
+    then_ask (ask_of calc o s) (behind_base calc size s.market o bumps (worth calc s.market o))
 
 -- WHAT A LADDER ANSWERS: the base where the instrument is worth something, each rung, and how many computations were
 -- made; else the cause. Want of memory says nothing.
-pub record IsLadder (calc : Calc) (o : ℕ) (quotes : List ℕ) (s : State) (answer : ladder.Ladder) : Type 0 where
+pub record IsLadder (calc : Calc) (size : ℤ) (o : ℕ) (bumps : List Bump) (s : State) (answer : ladder.Ladder) : Type 0 where
   pub base : worth calc s.market o ≡ Ok answer.base
-  pub rungs : answer.rungs ≡ rungs_of calc s.market o answer.base quotes
-  pub runs : answer.runs ≡ length (ladder_asking calc o quotes s).calls
+  pub rungs : answer.rungs ≡ rungs_of calc size s.market o answer.base bumps
+  pub runs : answer.runs ≡ length (ladder_asking calc size o bumps s).calls
 
-pub record IsRefused (calc : Calc) (o : ℕ) (quotes : List ℕ) (s : State) (cause : Cause) (count : ℕ) : Type 0 where
+pub record IsRefused (calc : Calc) (size : ℤ) (o : ℕ) (bumps : List Bump) (s : State) (cause : Cause) (count : ℕ) : Type 0 where
   pub base : worth calc s.market o ≡ Err cause
-  pub runs : count ≡ length (ladder_asking calc o quotes s).calls
+  pub runs : count ≡ length (ladder_asking calc size o bumps s).calls
 
-abbrev pub Answers : Calc → ℕ → List ℕ → State → Result ladder.Ladder LadderFault → Type 0
-Answers calc o quotes s (Ok answer) = IsLadder calc o quotes s answer
-Answers calc o quotes s (Err (Base cause count)) = IsRefused calc o quotes s cause count
-Answers calc o quotes s (Err NoMemory) = Unit {0}
+abbrev pub Answers : Calc → ℤ → ℕ → List Bump → State → Result ladder.Ladder LadderFault → Type 0
+Answers calc size o bumps s (Ok answer) = IsLadder calc size o bumps s answer
+Answers calc size o bumps s (Err (Base cause count)) = IsRefused calc size o bumps s cause count
+Answers calc size o bumps s (Err NoMemory) = Unit {0}
 
 -- THESE CALLS OF THE BENCH were made, and no other
 pub record Made (calls : List (ℕ × Outcome)) (count_old count_new : ℕ) (log_old log_new : Option (List (ℕ × Bool))) : Type 0 where

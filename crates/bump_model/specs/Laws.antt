@@ -4,6 +4,7 @@ use Rattle.desk_terms.specs.Reading.{Calc}
 use Rattle.desk_model.specs.State.{State}
 use Rattle.desk_model.specs.Unheld.{HoldsNothing}
 use Rattle.bump_model.specs.declared.moves.Quoted.{Quoted}
+use Rattle.bump_model.specs.declared.ladder.Bump.{Bump}
 use Rattle.bump_model.specs.Moves.{with_values, all_set, AreQuoted}
 use Rattle.bump_model.specs.Asking.{rung_asking, ladder_asking}
 
@@ -14,12 +15,12 @@ SetBackIsAsBefore = (s : State) (group : List Quoted) → AreQuoted s.market gro
     → (all_set (λ value. value) group (all_set change group s)).market ≡ s.market
 
 abbrev pub RungsLeaveTheMarket : Type 0
-RungsLeaveTheMarket = (calc : Calc) (s : State) (o : ℕ) (group : List Quoted) → AreQuoted s.market group
-    → (rung_asking calc o group s).next.market ≡ s.market
+RungsLeaveTheMarket = (calc : Calc) (size : ℤ) (s : State) (o : ℕ) (group : List Quoted) → AreQuoted s.market group
+    → (rung_asking calc size o group s).next.market ≡ s.market
 
 abbrev pub LaddersLeaveTheMarket : Type 0
-LaddersLeaveTheMarket = (calc : Calc) (s : State) (o : ℕ) (quotes : List ℕ)
-    → (ladder_asking calc o quotes s).next.market ≡ s.market
+LaddersLeaveTheMarket = (calc : Calc) (size : ℤ) (s : State) (o : ℕ) (bumps : List Bump)
+    → (ladder_asking calc size o bumps s).next.market ≡ s.market
 
 -- quotes set one by one, each by its notice, leave the market in which all have these values
 abbrev pub SettingIsMoving : Type 0
@@ -28,5 +29,5 @@ SettingIsMoving = (s : State) (group : List Quoted) → AreQuoted s.market group
 
 -- a ladder neither freezes nor defers
 abbrev pub LaddersHoldNothing : Type 0
-LaddersHoldNothing = (calc : Calc) (s : State) (o : ℕ) (quotes : List ℕ) → HoldsNothing s
-    → HoldsNothing (ladder_asking calc o quotes s).next
+LaddersHoldNothing = (calc : Calc) (size : ℤ) (s : State) (o : ℕ) (bumps : List Bump) → HoldsNothing s
+    → HoldsNothing (ladder_asking calc size o bumps s).next

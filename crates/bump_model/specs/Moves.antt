@@ -1,5 +1,5 @@
--- Quotes that are moved by a bump, in a market and in a state (this project's profile: a basis point either way).
-use Rattle.std.specs.Prelude.{◌≡◌, ℕ, ◌==◌, Bool, false, not, ◌&&◌, ◌||◌, List, [], ◌∷◌, length, ℤ, pos, neg_ℤ, ◌+ℤ◌, ◌-ℤ◌, int_le, ◌^◌, Option, None, Some, slice_set}
+-- Quotes that are moved by a shift, in a market and in a state.
+use Rattle.std.specs.Prelude.{◌≡◌, ℕ, ◌==◌, Bool, false, not, ◌&&◌, ◌||◌, List, [], ◌∷◌, length, ℤ, pos, neg_ℤ, ◌+ℤ◌, int_le, ◌^◌, Option, None, Some, slice_set}
 use Rattle.std.specs.List.{list_any, All}
 use Rattle.desk_terms.specs.declared.terms.Terms.TheVariants.{Quote}
 use Rattle.desk_model.specs.declared.slot.Slot.TheVariants.{Live}
@@ -10,14 +10,12 @@ use Rattle.desk_model.specs.Changeable.Changeable.{HasValue, HasTarget, HasFixin
 use Rattle.desk_model.specs.State.{State}
 use Rattle.desk_model.specs.Effect.{quote_set}
 use Rattle.bump_model.specs.declared.moves.Quoted.{Quoted}
-use Rattle.bump_model.specs.declared.moves.Way.{Way}
-use Rattle.bump_model.specs.declared.moves.Way.TheVariants.{Up, Down}
-use Rattle.bump_model.specs.declared.moves.TheConstants.{BUMP}
+use Rattle.bump_model.specs.declared.ladder.Bump.{Bump}
+use Rattle.bump_model.specs.declared.ladder.Bump.TheVariants.{One, Together}
 
--- a value moved one way
-abbrev pub moved : Way → ℤ → ℤ
-moved Up value = value +ℤ BUMP
-moved Down value = value -ℤ BUMP
+-- a value moved by a shift, up or down
+abbrev pub moved : ℤ → ℤ → ℤ
+moved shift value = value +ℤ shift
 
 -- within the limit of rates: 10^18 units either way
 abbrev pub is_rate : ℤ → Bool
@@ -64,12 +62,20 @@ all_set change [] state = state
 all_set change (h ∷ group) state = all_set change group (quote_set h.quote (Some (change h.value)) state)
 
 -- one of these quotes would pass the limit of rates
-abbrev pub is_limit : Way → List Quoted → Bool
-is_limit way group = list_any (λ h. not (is_rate (moved way h.value))) group
+abbrev pub is_limit : ℤ → List Quoted → Bool
+is_limit shift group = list_any (λ h. not (is_rate (moved shift h.value))) group
 
 -- these are live quotes
 abbrev pub AreQuotes : Market → List ℕ → Type 0
 AreQuotes market quotes = All (λ q. kind_at market q ≡ Some kind.Quote) quotes
+
+-- what is moved on each of these rungs are live quotes
+abbrev pub IsBump : Market → Bump → Type 0
+IsBump market (One q) = kind_at market q ≡ Some kind.Quote
+IsBump market (Together label quotes) = AreQuotes market quotes
+
+abbrev pub AreBumps : Market → List Bump → Type 0
+AreBumps market bumps = All (IsBump market) bumps
 
 -- each of these quotes has its value
 abbrev pub AreQuoted : Market → List Quoted → Type 0

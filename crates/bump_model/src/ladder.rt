@@ -19,11 +19,23 @@ pub enum Side {
     Unset,
 }
 
-/// What an instrument gains where a quote, or all quotes together, are moved up and down.
+/// Which quotes are moved on a rung.
+#[derive(Drop)]
+pub enum Bump {
+    /// One quote. Where it has no value, nothing is moved.
+    One(ObjId),
+    /// Those of these quotes that have a value, together: for the sake of an object, or of none.
+    Together {
+        label: Option<ObjId>,
+        quotes: Items<ObjId>,
+    },
+}
+
+/// What an instrument gains where a quote, or quotes together, are moved up and down.
 #[derive(Clone, Copy)]
 pub struct Rung {
-    /// The quote; none where all are moved.
-    pub quote: Option<ObjId>,
+    /// The quote; where several are moved, the object for whose sake they are, if they are for one's.
+    pub label: Option<ObjId>,
     pub up: Side,
     pub down: Side,
 }
@@ -36,7 +48,7 @@ pub type RungList = Items<Rung>;
 pub struct Ladder {
     /// What it is worth where no quote is moved.
     pub base: Amount,
-    /// A rung for each quote, and then one for all.
+    /// A rung for each bump, in order.
     pub rungs: RungList,
     /// How many times the bench was called.
     pub runs: u64,

@@ -1,8 +1,8 @@
-//! What a quote's move changes of a price: a ladder of bumps, each quote by a basis point up and down and then all
-//! together, as definitions over the states of a desk.
+//! What a quote's move changes of a price: a ladder of bumps, each a quote or quotes together that are moved by a size up and
+//! down, as definitions over the states of a desk.
 //!
-//! `Ladder`, `LadderFault`, `Rung`, `RungList`, `Side`; `Quoted`, `Way`, `BUMP`, `is_limit`. Of `proofs/`: what the code over a desk
-//! rests on.
+//! `Ladder`, `LadderFault`, `Bump`, `Rung`, `RungList`, `Side`; `Quoted`, `moved`, `is_limit`. Of `proofs/`: what the code over a
+//! desk rests on.
 #![tactic(auto)]
 
 mod ladder;
@@ -10,5 +10,5 @@ mod laws;
 mod moves;
 mod rows;
 
-pub use ladder::{Ladder, LadderFault, Rung, RungList, Side};
-pub use moves::{BUMP, Quoted, Way, is_limit};
+pub use ladder::{Bump, Ladder, LadderFault, Rung, RungList, Side};
+pub use moves::{Quoted, is_limit, moved};

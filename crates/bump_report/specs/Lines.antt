@@ -35,7 +35,7 @@ label_text names of_object None = codes "all"
 -- `QUOTE up SIDE down SIDE`, `QUOTE unset` or `all up SIDE down SIDE`, and a newline
 unfoldable pub rung_line : List (List ℕ) → List ℕ → Rung → List ℕ
 rung_line names of_object rung =
-    label_text names of_object rung.quote ++ sides_text names of_object rung.up rung.down ++ codes "\n"
+    label_text names of_object rung.label ++ sides_text names of_object rung.up rung.down ++ codes "\n"
 
 unfoldable pub rung_lines : List (List ℕ) → List ℕ → List Rung → List ℕ
 rung_lines names of_object [] = []

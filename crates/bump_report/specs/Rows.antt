@@ -13,7 +13,7 @@ abbrev pub four_objects : List ℕ
 four_objects = 0 ∷ 1 ∷ 2 ∷ 3 ∷ []
 
 abbrev pub rung : Option ℕ → Side → Side → Rung
-rung quote up down = record { quote = quote; up = up; down = down }
+rung label up down = record { label = label; up = up; down = down }
 
 -- a bond that loses 0.002723 where the rate rises, and gains it where it falls
 abbrev pub rungs : List Rung

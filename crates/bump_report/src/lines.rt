@@ -116,16 +116,16 @@ fn push_rung(
     ensures { OnOk result (lines.new.items
         ≡ lines.old.items ++ rung_line namer.now.names.now namer.now.of_object.now rung.now) }
 {
-    lines.extend_from_slice(label(rung.quote, namer))?;
+    lines.extend_from_slice(label(rung.label, namer))?;
     push_sides(alloc, &rung.up, &rung.down, namer, lines)?;
     lines.extend_from_slice(b"\n")
 }
 
 // The name of a rung's quote, or that all are moved.
-fn label<'a>(quote: Option<ObjId>, namer: &Namer<'a>) -> &'a [u8]
-    ensures { result.now ≡ label_text namer.now.names.now namer.now.of_object.now quote }
+fn label<'a>(label: Option<ObjId>, namer: &Namer<'a>) -> &'a [u8]
+    ensures { result.now ≡ label_text namer.now.names.now namer.now.of_object.now label }
 {
-    match quote {
+    match label {
         Some(quote) => namer.object(quote),
         None => b"all",
     }

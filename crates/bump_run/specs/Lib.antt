@@ -1,4 +1,3 @@
 pub mod Lines
-pub mod Named
 pub mod Rows
 pub mod Verdict

@@ -3,21 +3,28 @@ use Rattle.std.specs.Prelude.{ℕ, ℤ, List, [], length, codes, Result, Ok, Err
 use Rattle.desk_terms.specs.declared.cause.Cause.{Cause}
 use Rattle.desk_terms.specs.Reading.{Outcome, Calc}
 use Rattle.desk_terms.specs.declared.kind.Wanted.TheVariants.{Member}
+use Rattle.desk_model.specs.Market.{Market}
 use Rattle.market_desk.specs.declared.named.Unnamed.{Unnamed}
 use Rattle.market_desk.specs.Standing.{Standing, object_named, unnamed_line}
 use Rattle.bump_model.specs.Asking.{ladder_asking}
-use Rattle.bump_model.specs.Sides.{worth, rungs_of}
+use Rattle.bump_model.specs.declared.ladder.Bump.{Bump}
+use Rattle.bump_model.specs.Quotes.{quotes_in}
+use Rattle.bump_model.specs.Sides.{worth, rungs_of, each_then_all}
 use Rattle.bump_report.specs.Lines.{ladder_lines, refused_lines}
-use Rattle.bump_run.specs.Named.{quotes_in}
+use Rattle.bump_run.specs.declared.TheConstants.{BUMP}
 
--- THE COMPUTATIONS for an instrument: those of its ladder over all quotes of the market
+-- each quote of a market, and then all together
+abbrev pub bumps_in : Market → List Bump
+bumps_in market = each_then_all (quotes_in market)
+
+-- THE COMPUTATIONS for an instrument: those of its ladder by a basis point over all quotes of the market
 abbrev pub instrument_calls : Calc → Standing → ℕ → List (ℕ × Outcome)
-instrument_calls calc p o = (ladder_asking calc o (quotes_in p.state.market) p.state).calls
+instrument_calls calc p o = (ladder_asking calc BUMP o (bumps_in p.state.market) p.state).calls
 
 -- the lines of an instrument by what it is worth
 abbrev pub text_by : Calc → Standing → ℕ → Result ℤ Cause → List ℕ
 text_by calc p o (Ok base) =
-    ladder_lines p.names p.of_object o base (rungs_of calc p.state.market o base (quotes_in p.state.market))
+    ladder_lines p.names p.of_object o base (rungs_of calc BUMP p.state.market o base (bumps_in p.state.market))
     (length (instrument_calls calc p o))
 text_by calc p o (Err cause) = refused_lines p.names p.of_object o cause (length (instrument_calls calc p o))
 

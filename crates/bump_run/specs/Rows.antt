@@ -7,7 +7,7 @@ use Rattle.desk_model.specs.Visit.{log_of}
 use Rattle.market_file.specs.Market.{Market}
 use Rattle.market_desk.specs.Standing.{standing_of}
 use Rattle.bump_run.specs.Lines.{bump_text, bump_calls}
-use Rattle.bump_run.specs.Named.{quotes_in}
+use Rattle.bump_model.specs.Quotes.{quotes_in}
 
 -- The quotes `a`, at 1.5, and `z`, without a value, and a stock `s` on the first. The bench is worth a stock its quote, in
 -- the quote's own units.

@@ -4,8 +4,8 @@
 //! `run_bump`, `NAME`, `BumpStatus`.
 #![tactic(auto)]
 
+mod bumps;
 mod lines;
-mod named;
 mod rows;
 mod running;
 
@@ -14,3 +14,6 @@ pub use tool_run::MarketStatus as BumpStatus;
 
 /// The program's name.
 pub const NAME: &str = "desk_bump";
+
+/// How far quotes are moved: 0.0001, a basis point, in units of a rate.
+pub(crate) const BUMP: i64 = 100_000;

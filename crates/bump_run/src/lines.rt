@@ -9,12 +9,14 @@ ghost use Rattle.bump_model.specs.Asking.{Calls};
 ghost use Rattle.market_desk.specs.Standing.{standing};
 ghost use Rattle.bump_run.specs.Lines.{instrument_text, instrument_calls, bump_text, bump_calls, IsNamed};
 
-use crate::named::quotes_of;
-use bump_ladder::ladder;
+use crate::BUMP;
+use crate::bumps::each_then_all;
+use bump_ladder::{ladder, quotes_of};
 use bump_model::LadderFault;
 use bump_report::{ladder_lines, refused_lines};
 use desk_names::ObjId;
 use desk_terms::{Bench, Wanted};
+use fixed_amount::Rate;
 use lazy_objects::Desk;
 use market_desk::{object_named, unnamed_line};
 use price_report::Namer;
@@ -66,7 +68,8 @@ fn instrument_lines<B: Bench>(
     ensures market { desk.new.market ≡ desk.old.market }
 {
     let quotes = quotes_of(alloc, desk)?;
-    match ladder(alloc, desk, object, quotes.as_slice(), bench) {
+    let bumps = each_then_all(alloc, quotes)?;
+    match ladder(alloc, desk, object, Rate(BUMP), bumps.as_slice(), bench) {
         Ok(ladder) => ladder_lines(alloc, object, &ladder, namer, lines),
         Err(LadderFault::Base { cause, runs }) => {
             refused_lines(alloc, object, &cause, runs, namer, lines)

@@ -4,7 +4,7 @@ use Rattle.std.proofs.lemmas.List.{append-nil}
 use Rattle.bump_model.specs.declared.moves.Quoted.{Quoted}
 use Rattle.bump_model.specs.Moves.{quoted_in}
 use Rattle.bump_ladder.proofs.Siding.{quoted_value}
-use Rattle.bump_ladder.proofs.Climbing.{next_quote, quote_first, quotes_rest, quoted_step}
+use Rattle.bump_ladder.proofs.Climbing.{next_item, quote_first, quotes_rest, quoted_step}
 use Rattle.bump_ladder.proofs.rungs.quoted_in.Goals as goal
 
 pub loop-quote-init : goal.loop-quote-init
@@ -15,12 +15,12 @@ loop-quote-init c = record {
 
 pub quote-requires : goal.quote-requires
 quote-requires c =
-    let steps = next_quote c.args.quotes.now c.loop-quote.quote-index c.quote-item.result c.loop-quote-test.true c.quote-item.is in
+    let steps = next_item c.args.quotes.now c.loop-quote.quote-index c.quote-item.result c.loop-quote-test.true c.quote-item.is in
     quote_first _ _ _ steps c.args.desk.now.market c.loop-quote.invariant.quotes
 
 pub loop-quote-preserved : goal.loop-quote-preserved
 loop-quote-preserved c =
-    let steps = next_quote c.args.quotes.now c.loop-quote.quote-index c.quote-item.result c.loop-quote-test.true c.quote-item.is in
+    let steps = next_item c.args.quotes.now c.loop-quote.quote-index c.quote-item.result c.loop-quote-test.true c.quote-item.is in
     let m = c.args.desk.now.market in
     record {
       quoted = c.in_ok-quote_any.ensures (quoted_in m (drop (c.loop-quote.quote-index + 1) c.args.quotes.now))

@@ -20,7 +20,7 @@ returns-clause-runs g c = c.both_sides-sides.ensures.runs
 
 pub returns-clause-asks : goal.returns-clause-asks
 returns-clause-asks g c =
-    rung_asks (g.B.Bench.calc c.args.bench.now) c.args.object c.args.group.now c.args.desk.now c.both_sides-sides.new.desk c.set_back.new.desk
+    rung_asks (g.B.Bench.calc c.args.bench.now) c.args.size c.args.object c.args.group.now c.args.desk.now c.both_sides-sides.new.desk c.set_back.new.desk
     c.both_sides-sides.result (g.B.Bench.count c.args.bench.now) (g.B.Bench.count c.both_sides-sides.new.bench) (g.B.Bench.log c.args.bench.now)
     (g.B.Bench.log c.both_sides-sides.new.bench) c.set_back.ensures.back c.both_sides-sides.ensures.asks
 

@@ -1,7 +1,9 @@
--- Which objects of a market are quotes.
-use Rattle.std.specs.Prelude.{ℕ, zero, suc, Bool, true, false, if◌then◌else◌, List, [], ◌∷◌, ◌++◌, length, Option, None, Some}
+-- Which objects of a market are quotes, and which of them lie beneath an object.
+use Rattle.std.specs.Prelude.{ℕ, zero, suc, ◌==◌, Bool, true, false, ◌||◌, if◌then◌else◌, List, [], ◌∷◌, ◌++◌, length, Option, None, Some}
+use Rattle.std.specs.List.{filter}
 use Rattle.desk_terms.specs.declared.kind.Kind as kind
 use Rattle.desk_model.specs.Market.{Market, kind_at}
+use Rattle.desk_model.specs.Links.{reaches}
 
 abbrev pub is_quote : Option kind.Kind → Bool
 is_quote None = false
@@ -31,3 +33,11 @@ quotes_below market (suc o) = quotes_below market o ++ quote_by o (kind_at marke
 -- THE QUOTES OF A MARKET in order of creation
 abbrev pub quotes_in : Market → List ℕ
 quotes_in market = quotes_below market (length market.objects)
+
+-- whether an object is another, or stands on it: it names it, or an object that stands on it
+abbrev pub stands_on : Market → ℕ → ℕ → Bool
+stands_on market o q = (o == q) || reaches market o q
+
+-- OF THESE QUOTES THOSE BENEATH AN OBJECT, in their order
+abbrev pub beneath : Market → ℕ → List ℕ → List ℕ
+beneath market o quotes = filter (stands_on market o) quotes

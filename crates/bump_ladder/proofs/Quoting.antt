@@ -1,12 +1,12 @@
 -- The quotes of a market.
-use Rattle.std.proofs.Common.{◌≡◌, ℕ, zero, suc, ◌+◌, ◌<◌, ◌≤◌, ◌^◌, Bool, true, false, List, [], ◌∷◌, ◌++◌, length, Option, Some, None, refl, sym, ap, subst, arith}
+use Rattle.std.proofs.Common.{◌≡◌, ℕ, zero, suc, ◌+◌, ◌≤◌, ◌^◌, Bool, true, false, List, [], ◌∷◌, ◌++◌, length, Option, Some, None, refl, sym, ap, subst, arith}
 use Rattle.std.specs.Prelude.{if◌then◌else◌}
 use Rattle.std.proofs.lemmas.List.{append-nil, length-append}
 use Rattle.std.proofs.lemmas.List.Elements.{All-nil, All-push}
 use Rattle.desk_terms.specs.declared.kind.Kind as kind
 use Rattle.desk_model.specs.Market.{Market, kind_at}
 use Rattle.bump_model.specs.Moves.{AreQuotes}
-use Rattle.bump_run.specs.Named.{is_quote, quote_by, quotes_below}
+use Rattle.bump_model.specs.Quotes.{is_quote, quote_by, quotes_below}
 
 only_quote : (found : Option kind.Kind) → is_quote found ≡ true → found ≡ Some kind.TheVariants.Quote
 only_quote None e = absurd (cc)
@@ -61,5 +61,5 @@ module _ (market : Market) where
   few_first zero = omega arith
   few_first (suc o) = longer o (is_quote (kind_at market o)) (quotes_below market o) (few_first o)
 
-  pub few_found : (o : ℕ) (quotes : List ℕ) → quotes ≡ quotes_below market o → o < 2 ^ 32 → length quotes < 2 ^ 32
+  pub few_found : (o : ℕ) (quotes : List ℕ) → quotes ≡ quotes_below market o → o ≤ 2 ^ 16 → length quotes ≤ 2 ^ 16
   few_found o quotes is low = let few = few_first o in let same = ap length is in omega (arith, few, same, low)

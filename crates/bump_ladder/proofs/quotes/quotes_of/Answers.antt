@@ -1,11 +1,11 @@
 use Rattle.std.proofs.Common.{◌++◌, ℕ, List, sym, ◌∙◌, ap, arith}
 use Rattle.desk_model.specs.Market.{kind_at}
-use Rattle.bump_run.specs.Named.{quote_by}
-use Rattle.bump_run.proofs.Quoting.{quotes_next, quotes_none, are_found, few_found}
-use Rattle.bump_run.proofs.named.quotes_of.Goals as goal
+use Rattle.bump_model.specs.Quotes.{quote_by}
+use Rattle.bump_ladder.proofs.Quoting.{quotes_next, quotes_none, are_found, few_found}
+use Rattle.bump_ladder.proofs.quotes.quotes_of.Goals as goal
 
 pub loop-number-init : goal.loop-number-init
-loop-number-init c = c.new-quotes.ensures.items ∙ sym (quotes_none c.args.desk.now.market)
+loop-number-init c = c.new-quotes.ensures ∙ sym (quotes_none c.args.desk.now.market)
 
 pub loop-number-preserved : goal.loop-number-preserved
 loop-number-preserved c =

@@ -1,7 +1,0 @@
-use Rattle.std.proofs.Common.{◌≡◌}
-use Rattle.bump_run.specs.Named.{quotes_below}
-use Rattle.bump_run.proofs.named.quotes_of.Given as goal
-
--- the quotes before the number at hand are found
-abbrev pub invariant-loop-number : goal.invariant-loop-number
-invariant-loop-number l = l.quotes.items ≡ quotes_below l.desk.market l.number

@@ -161,6 +161,28 @@ stays_below f rises (suc m) k h below =
       | inr more ↦ (let same : suc m ≡ k = omega arith in subst (λ (j : ℕ). f j <ℤ pos 0) same below)
     ]
 
+-- and one that is not negative at a number is so nowhere behind
+stays_above : (f : ℕ → ℤ) → ((k : ℕ) → f k <ℤ f (suc k)) → (k m : ℕ) → k ≤ m → pos 0 ≤ℤ f k → pos 0 ≤ℤ f m
+stays_above f rises k m h above =
+    by_lt_z (f m) (pos 0)
+    (λ less. let under = stays_below f rises m k h less in absurd (omega (arith, ints, under, above)))
+    (λ more. more)
+
+-- law: where a rising function turns, it has its root
+pub turned_root : (f : ℤ → ℤ) (r : ℤ) → ((x : ℕ) → f (pos x) <ℤ f (pos (suc x))) → pos 1 ≤ℤ r → r ≤ℤ most → pos 0 ≤ℤ f r → f (r -ℤ pos 1) <ℤ pos 0 → IsRoot f (Some r)
+turned_root f (pos zero) rises low high above below = absurd (omega (arith, ints, low))
+turned_root f (pos (suc m)) rises low high above below =
+    let same : pos (suc m) -ℤ pos 1 ≡ pos m = omega (arith, ints) in
+    let under = subst (λ (z : ℤ). f z <ℤ pos 0) same below in (
+      stays_below (λ (j : ℕ). f (pos j)) rises m 0 (omega arith) under,
+      stays_above (λ (j : ℕ). f (pos j)) rises (suc m) (4 * 10 ^ 12) (omega (arith, ints, high)) above,
+      low,
+      high,
+      above,
+      below,
+    )
+turned_root f (negsuc m) rises low high above below = absurd (omega (arith, ints, low))
+
 -- the least number with a property
 pub least_is : (p : ℕ → Bool) (n m : ℕ) → m ≤ n → p m ≡ true → ((k : ℕ) → k < m → p k ≡ false) → least_where p n ≡ m
 unfolding least_where
@@ -287,6 +309,16 @@ excess_rises from nodes end rate cs reached rest p factor sum x =
     rw (excess_split from nodes end rate (pos x) cs reached rest p, excess_split from nodes end rate (pos (suc x)) cs reached rest p)
     (split_rises (last_of from nodes) (unsigned_abs (last_of from nodes).factor) end rate (total (settled_of from nodes) reached) (total parts_of cs) rest
     (pos_abs (last_of from nodes).factor factor) p.open_after p.open_up_to p.open_parts (omega (arith, ints, low, all)) (mild_is rate (total parts_of cs) sum) x)
+
+-- the rise of the excess in two parts
+pub open_rises : (from : CurveNode) (nodes : List CurveNode) (last : CurveNode) (end rate settled : ℤ) (cs reached rest : List Coupon) → last ≡ last_of from nodes → Parted from nodes end cs reached rest
+    → pos 0 ≤ℤ last.factor → is_negative_sum rate (total parts_of cs) ≡ false → (x : ℕ)
+    → split_excess last end rate settled rest (pos x) <ℤ split_excess last end rate settled rest (pos (suc x))
+open_rises from nodes last end rate settled cs reached rest is p factor sum x =
+    let low = parts_total_low reached p.reached_parts in
+    let all = ap (total parts_of) p.whole ∙ total_both parts_of reached rest in
+    split_rises last (unsigned_abs last.factor) end rate settled (total parts_of cs) rest
+    (pos_abs last.factor factor) (rw is p.open_after) p.open_up_to p.open_parts (omega (arith, ints, low, all)) (mild_is rate (total parts_of cs) sum) x
 
 -- a node after the last keeps nodes rising
 pub rising_push : (from : CurveNode) (nodes : List CurveNode) (e : CurveNode) → IsRisingFrom from.day nodes → (last_of from nodes).day <ℤ e.day → IsRisingFrom from.day (nodes ++ e ∷ [])

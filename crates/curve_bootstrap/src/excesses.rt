@@ -18,8 +18,8 @@ pub(crate) const WHOLE: i128 = 1_000_000_000 * PARTS_IN_YEAR as i128;
 /// The greatest discount factor, in units of 10^-12.
 pub(crate) const MOST_FACTOR: i128 = 4_000_000_000_000;
 
-// The discount factor 1, in the same units.
-const ONE: i128 = 1_000_000_000_000;
+/// The discount factor 1, in the same units.
+pub(crate) const ONE: i128 = 1_000_000_000_000;
 
 /// What a helper is worth over 1 with a factor at its end, where `settled` is the value of the coupons before.
 pub(crate) fn excess_at(
@@ -56,8 +56,8 @@ fn weighed(x: i128, rate: i128, coupons: i128) -> i128
     x * WHOLE + interest(rate, coupons) - ONE * WHOLE
 }
 
-// The coupons at the rate.
-fn interest(rate: i128, coupons: i128) -> i128
+/// Coupons at a rate.
+pub(crate) fn interest(rate: i128, coupons: i128) -> i128
     requires coupons { pos 0 ≤ℤ coupons }
     requires coupons_high { coupons ≤ℤ pos (801 * (16 * 10 ^ 24)) }
     requires rate { unsigned_abs rate ≤ 10 ^ 10 }

@@ -1,5 +1,5 @@
 // The node of a helper whose coupons are known.
-ghost use Rattle.std.specs.Prelude.{◌≡◌, length, ◌≤◌, ◌*◌, ◌^◌, pos, ◌≤ℤ◌, ◌<ℤ◌, ◌-ℤ◌, ◌+ℤ◌, unsigned_abs, int_le, IfOk};
+ghost use Rattle.std.specs.Prelude.{◌≡◌, true, ℕ, suc, length, ◌≤◌, ◌*◌, ◌^◌, pos, ◌≤ℤ◌, ◌<ℤ◌, ◌-ℤ◌, ◌+ℤ◌, unsigned_abs, int_le, IfOk};
 ghost use Rattle.std.specs.List.{AllWithin};
 ghost use Rattle.curve_points.specs.Curve.{IsRisingFrom};
 ghost use Rattle.curve_points.specs.Segment.{most};
@@ -8,9 +8,9 @@ ghost use Rattle.curve_bootstrap.specs.Node.{node_of, last_of, is_negative_sum};
 ghost use Rattle.curve_bootstrap.specs.Split.{split_excess, IsRoot};
 
 use crate::Coupon;
-use crate::excesses::{MOST_FACTOR, WHOLE, excess_at};
+use crate::excesses::{MOST_FACTOR, ONE, WHOLE, excess_at, interest};
 use crate::faults::HelperFault;
-use crate::sums::{parts_total, settled_total, wide};
+use crate::sums::{parts_in, parts_total, settled_total, wide};
 use curve_points::CurveNode;
 use day_number::Day;
 use fixed_amount::{Discount, Rate};
@@ -92,7 +92,7 @@ const MOST_UNITS: u128 = 4_000_000_000_000;
 // What an excess is divided by, so that its product with a discount factor fits 128 bits: 2^44.
 const CUT: u128 = 17_592_186_044_416;
 
-// The factor at which the excess turns, found by halving.
+// The factor at which the excess, which rises, turns: where it nearly always does, or else found by halving.
 fn least_root(
     last: &CurveNode,
     end: Day,
@@ -106,8 +106,13 @@ fn least_root(
     requires settled { pos 0 ≤ℤ settled }
     requires settled_high { settled ≤ℤ pos (801 * (8 * 10 ^ 24)) }
     requires rate { unsigned_abs rate ≤ 10 ^ 10 }
+    requires rises { (x : ℕ) → split_excess last.now end rate settled coupons.now (pos x) <ℤ split_excess last.now end rate settled coupons.now (pos (suc x)) }
     ensures { IsRoot (split_excess last.now end rate settled coupons.now) result }
 {
+    let near = near_root(rate, settled, coupons);
+    if is_root(last, end, rate, settled, coupons, near) {
+        return Some(factor_of(near));
+    }
     let below = excess_at(last, end, rate, settled, coupons, 0);
     if below >= 0 {
         return None;
@@ -119,6 +124,64 @@ fn least_root(
     let guess = guess_of(below, above);
     let root = halved(last, end, rate, settled, coupons, guess);
     Some(factor_of(root))
+}
+
+// Where the excess turns if only the last coupon is paid behind the nodes. Any factor will do.
+fn near_root(rate: i128, settled: i128, coupons: &[Coupon]) -> i128
+    requires settled { pos 0 ≤ℤ settled }
+    requires settled_high { settled ≤ℤ pos (801 * (8 * 10 ^ 24)) }
+    requires rate { unsigned_abs rate ≤ 10 ^ 10 }
+    ensures low { pos 1 ≤ℤ result }
+    ensures high { result ≤ℤ most }
+{
+    let due = ONE * WHOLE - interest(rate, settled);
+    let paid = WHOLE + interest(rate, last_parts(coupons));
+    let below = due.unsigned_abs().saturating_sub(1) / paid.unsigned_abs().max(1);
+    let root = i128::try_from(below).unwrap_or(0).saturating_add(1);
+    if root < 1 || root > MOST_FACTOR {
+        return 1;
+    }
+    root
+}
+
+// The parts of the last coupon, or 0.
+fn last_parts(coupons: &[Coupon]) -> i128
+    ensures low { pos 0 ≤ℤ result }
+    ensures high { result ≤ℤ pos (2 * 10 ^ 12) }
+{
+    match coupons.last() {
+        Some(coupon) => parts_in(coupon),
+        None => 0,
+    }
+}
+
+// Whether an excess that rises turns at a factor.
+fn is_root(
+    last: &CurveNode,
+    end: Day,
+    rate: i128,
+    settled: i128,
+    coupons: &[Coupon],
+    x: i128,
+) -> bool
+    requires few { length coupons.now ≤ 801 }
+    requires after { AreAfter last.now.day coupons.now }
+    requires up_to { AreUpTo end coupons.now }
+    requires settled { pos 0 ≤ℤ settled }
+    requires settled_high { settled ≤ℤ pos (801 * (8 * 10 ^ 24)) }
+    requires rate { unsigned_abs rate ≤ 10 ^ 10 }
+    requires low { pos 1 ≤ℤ x }
+    requires high { x ≤ℤ most }
+    ensures above { result ≡ true → pos 0 ≤ℤ split_excess last.now end rate settled coupons.now x }
+    ensures below { result ≡ true → split_excess last.now end rate settled coupons.now (x -ℤ pos 1) <ℤ pos 0 }
+{
+    if excess_at(last, end, rate, settled, coupons, x - 1) >= 0 {
+        return false;
+    }
+    if excess_at(last, end, rate, settled, coupons, x) < 0 {
+        return false;
+    }
+    true
 }
 
 // The discount factor of so many units.

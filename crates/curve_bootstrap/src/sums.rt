@@ -8,7 +8,7 @@ ghost use Rattle.curve_bootstrap.specs.Node.{or_zero};
 ghost use Rattle.curve_points.specs.Point.{beyond};
 
 use crate::Coupon;
-use curve_points::{CurveNode, factor_between, factor_beyond};
+use curve_points::{CurveNode, factor_between, factor_beyond_near};
 use day_number::Day;
 use fixed_amount::Discount;
 
@@ -27,8 +27,8 @@ pub(crate) fn parts_total(coupons: &[Coupon]) -> i128
     sum
 }
 
-// The parts of a coupon.
-fn parts_in(coupon: &Coupon) -> i128
+/// The parts of a coupon.
+pub(crate) fn parts_in(coupon: &Coupon) -> i128
     ensures value { result ≡ coupon.now.parts }
     ensures low { pos 0 ≤ℤ result }
     ensures high { result ≤ℤ pos (2 * 10 ^ 12) }
@@ -56,33 +56,34 @@ pub(crate) fn settled_total(from: &CurveNode, nodes: &[CurveNode], coupons: &[Co
     ensures high { result ≤ℤ pos (801 * (8 * 10 ^ 24)) }
 {
     let mut sum: i128 = 0;
+    let mut guess = 0;
     for coupon in coupons {
-        sum += settled_in(from, nodes, coupon);
+        sum += settled_in(from, nodes, coupon, &mut guess);
     }
     sum
 }
 
 // The value of a coupon where the nodes so far reach it, else 0.
-fn settled_in(from: &CurveNode, nodes: &[CurveNode], coupon: &Coupon) -> i128
+fn settled_in(from: &CurveNode, nodes: &[CurveNode], coupon: &Coupon, guess: &mut usize) -> i128
     requires rising { IsRisingFrom from.now.day nodes.now }
     requires after { from.now.day <ℤ coupon.now.day }
     ensures value { result ≡ settled_of from.now nodes.now coupon.now }
     ensures low { pos 0 ≤ℤ result }
     ensures high { result ≤ℤ pos (8 * 10 ^ 24) }
 {
-    let factor = reached_factor(from, nodes, coupon.day);
+    let factor = reached_factor(from, nodes, coupon.day, guess);
     product(parts_in(coupon), factor)
 }
 
 // The factor at a day where the nodes so far reach it, else 0.
-fn reached_factor(from: &CurveNode, nodes: &[CurveNode], day: Day) -> i128
+fn reached_factor(from: &CurveNode, nodes: &[CurveNode], day: Day, guess: &mut usize) -> i128
     requires rising { IsRisingFrom from.now.day nodes.now }
     requires after { from.now.day <ℤ day }
     ensures value { result ≡ or_zero (beyond from.now nodes.now day) }
     ensures low { pos 0 ≤ℤ result }
     ensures high { result ≤ℤ most }
 {
-    match factor_beyond(from, nodes, day) {
+    match factor_beyond_near(from, nodes, day, guess) {
         Some(factor) => wide(factor),
         None => 0,
     }

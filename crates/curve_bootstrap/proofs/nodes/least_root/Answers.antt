@@ -4,13 +4,26 @@ use Rattle.std.proofs.lemmas.Int.{ints, to_z-of_z}
 use Rattle.curve_points.specs.Segment.{most}
 use Rattle.curve_bootstrap.specs.Split.{split_excess}
 use Rattle.curve_bootstrap.proofs.CastLemmas.{sign_through, le_not, lt_not}
+use Rattle.curve_bootstrap.proofs.NodeLemmas.{turned_root}
 use Rattle.curve_bootstrap.proofs.nodes.least_root.Goals as goal
+
+pub returns-then-is_root : goal.returns-then-is_root
+returns-then-is_root c =
+    let fr : FitsSigned w128 c.near_root-near.result = omega (arith, ints, c.near_root-near.ensures.low, c.near_root-near.ensures.high) in
+    let en = to_z-of_z w128 c.near_root-near.result fr in
+    let e = c.factor_of.ensures ∙ en in
+    let er = to_z-of_z w128 c.args.rate c.ranges.rate in
+    let es = to_z-of_z w128 c.args.settled c.ranges.settled in
+    let above = rw (er, es, en) at c.is_root.ensures.above c.if-is_root.true in
+    let below = rw (er, es, en) at c.is_root.ensures.below c.if-is_root.true in
+    rw e (turned_root (split_excess c.args.last.now c.args.end c.args.rate c.args.settled c.args.coupons.now) c.near_root-near.result c.requires.rises
+    c.near_root-near.ensures.low c.near_root-near.ensures.high above below)
 
 pub returns : goal.returns
 returns c =
     let f = λ (rate settled x : ℤ). split_excess c.args.last.now c.args.end rate settled c.args.coupons.now x in
     let fr : FitsSigned w128 c.halved-root.result = omega (arith, ints, c.halved-root.ensures.low, c.halved-root.ensures.high) in
-    let e = c.factor_of.ensures ∙ to_z-of_z w128 c.halved-root.result fr in
+    let e = c.factor_of-2.ensures ∙ to_z-of_z w128 c.halved-root.result fr in
     let er = to_z-of_z w128 c.args.rate c.ranges.rate in
     let es = to_z-of_z w128 c.args.settled c.ranges.settled in
     let f1 : FitsSigned w128 c.excess_at-below.result = omega (arith, ints) in

@@ -10,7 +10,7 @@ use Rattle.curve_points.specs.declared.curves.CurveNode.{CurveNode}
 use Rattle.curve_bootstrap.specs.declared.coupons.Coupon.{Coupon}
 use Rattle.curve_bootstrap.specs.declared.faults.HelperFault.{HelperFault}
 use Rattle.curve_bootstrap.specs.Split.{settled_of, split_excess, IsRoot}
-use Rattle.curve_bootstrap.proofs.NodeLemmas.{node_pillar, node_range, node_negative, node_root, root_some, root_none, root_moved, excess_rises, excess_split, Parted, parted_by}
+use Rattle.curve_bootstrap.proofs.NodeLemmas.{node_pillar, node_range, node_negative, node_root, root_some, root_none, root_moved, excess_rises, excess_split, open_rises, Parted, parted_by}
 use Rattle.curve_bootstrap.proofs.nodes.node.Goals as goal
 use Rattle.curve_bootstrap.proofs.nodes.node.Goals.{After-split_at, After-least_root}
 
@@ -74,6 +74,15 @@ least_root-requires-clause-after c =
 
 pub least_root-requires-clause-up_to : goal.least_root-requires-clause-up_to
 least_root-requires-clause-up_to c = (parts c.before.before.before).open_up_to
+
+pub least_root-requires-clause-rises : goal.least_root-requires-clause-rises
+least_root-requires-clause-rises c =
+    let fp : FitsSigned w128 c.parts_total.result = omega (arith, ints) in
+    let sum = to_z-of_z w128 c.parts_total.result fp ∙ c.parts_total.ensures.value in
+    let mild = ap (is_negative_sum (to_z w128 (of_z w128 c.units_of-units.result))) (sym sum) ∙ (sym c.is_negative_sum.ensures ∙ c.if-is_negative_sum.false) in
+    let factor : pos 0 ≤ℤ c.args.last.now.factor = omega (arith, ints, c.wide-factor.ensures.low, c.wide-factor.ensures.value) in
+    open_rises c.args.from.now c.args.nodes.now c.args.last.now c.args.end (to_z w128 (of_z w128 c.units_of-units.result)) (to_z w128 (of_z w128 c.settled_total-settled.result)) c.args.coupons.now
+    c.split_at.result.0.now c.split_at.result.1.now c.requires.last (parts c.before.before.before) factor mild
 
 -- both answers of the search
 answer : (c : After-least_root) (r : Option ℤ) (found : Result ℤ HelperFault) → c.least_root.result ≡ r → (((x : ℕ) → excess c.args.from.now c.args.nodes.now c.args.end c.args.rate c.args.coupons.now (pos x) <ℤ excess c.args.from.now c.args.nodes.now c.args.end c.args.rate c.args.coupons.now (pos (suc x))) → IsRoot (excess c.args.from.now c.args.nodes.now c.args.end c.args.rate c.args.coupons.now) r → found ≡ root_or_fault (excess c.args.from.now c.args.nodes.now c.args.end c.args.rate c.args.coupons.now)) → found ≡ node_of c.args.from.now c.args.nodes.now c.args.end c.args.rate c.args.coupons.now

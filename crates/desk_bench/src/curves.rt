@@ -96,7 +96,7 @@ fn seen_answer(
 fn rates_of(alloc: Global, inputs: &[Input]) -> Result<Vec<Rate>, AllocError>
     ensures { IfOk result (λ rates. rates.items ≡ rates_of inputs.now) }
 {
-    let mut rates = Vec::new(alloc);
+    let mut rates = Vec::with_capacity(alloc, inputs.len())?;
     for input in inputs {
         match input {
             Input::Rate(rate) => rates.push(*rate)?,

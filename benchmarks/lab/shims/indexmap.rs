@@ -90,10 +90,6 @@ fn insert_bucket(groups: &mut [Group], count: usize, hash: u32) -> Bucket {
 }
 impl IndexSet<Vec<u8>> {
     pub fn new(alloc: Global) -> Self { IndexSet { groups: Vec::new(alloc), buckets: Vec::new(alloc), growth_left: 0, keys: Vec::new(alloc), units: Vec::new(alloc) } }
-    pub fn clone(&self) -> Result<Self, AllocError> {
-        let keys = Vec(self.keys.0.iter().map(|key| Vec(key.0.clone())).collect());
-        Ok(IndexSet { groups: self.groups.clone()?, buckets: self.buckets.clone()?, growth_left: self.growth_left, keys, units: Vec(vec![(); self.units.len()]) })
-    }
     #[inline(always)]
     pub fn len(&self) -> usize { self.keys.len() }
     #[inline(always)]

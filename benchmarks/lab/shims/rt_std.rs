@@ -32,8 +32,6 @@ impl<T> Vec<T> {
     #[inline(always)]
     pub fn with_capacity(_: Global, n: usize) -> Result<Self, AllocError> { Ok(Vec(::std::vec::Vec::with_capacity(n))) }
     #[inline(always)]
-    pub fn from_slice(_: Global, items: &[T]) -> Result<Self, AllocError> where T: Copy { Ok(Vec(items.to_vec())) }
-    #[inline(always)]
     pub fn push(&mut self, x: T) -> Result<(), AllocFailed<T>> { self.0.push(x); Ok(()) }
     #[inline(always)]
     pub fn push_reserved(&mut self, x: T) {

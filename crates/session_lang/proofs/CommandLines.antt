@@ -151,14 +151,18 @@ command_read names begun an v p c words s made =
     ∙ ap (λ o. unless_fault o (fields_meaning known v words)) (no_fault names an (row_of v) p words s)
     ∙ run_read names begun an v p c words s made
 
-words_of_row : (names begun : List (List ℕ)) (an : List ℕ) (v : Verb) (p : Parts) (c : Command) (inside : Bool) (w : Words names an (row_of v) p) → command_of (together v (as_read names an p.first) (as_read names an p.second) (as_read names an p.third)) ≡ Some c → words_meaning (record { names = names; begun = begun }) inside ((row_of v).word ∷ w.words) ≡ Ok (Run c, record { names = names; begun = begun })
+-- a line that begins with a command's word says what that command's words say
+pub row_said : (known : Known) (inside : Bool) (v : Verb) (words : List (List ℕ)) → words_meaning known inside ((row_of v).word ∷ words) ≡ command_meaning known (Some v) words
 unfolding words_meaning
-words_of_row names begun an v p c inside w made =
-    let known : Known = record { names = names; begun = begun } in
+row_said known inside v words =
     let is = row_is v in
-    ap (λ b. cond b (begin_meaning known inside w.words) (cond (bytes_eq (row_of v).word (codes "end")) (end_meaning known inside w.words) (command_meaning known (verb_of (row_of v).word) w.words))) is.no_action
-    ∙ ap (λ b. cond b (end_meaning known inside w.words) (command_meaning known (verb_of (row_of v).word) w.words)) is.no_end
-    ∙ ap (λ o. command_meaning known o w.words) (word_found v)
+    ap (λ b. cond b (begin_meaning known inside words) (cond (bytes_eq (row_of v).word (codes "end")) (end_meaning known inside words) (command_meaning known (verb_of (row_of v).word) words))) is.no_action
+    ∙ ap (λ b. cond b (end_meaning known inside words) (command_meaning known (verb_of (row_of v).word) words)) is.no_end
+    ∙ ap (λ o. command_meaning known o words) (word_found v)
+
+words_of_row : (names begun : List (List ℕ)) (an : List ℕ) (v : Verb) (p : Parts) (c : Command) (inside : Bool) (w : Words names an (row_of v) p) → command_of (together v (as_read names an p.first) (as_read names an p.second) (as_read names an p.third)) ≡ Some c → words_meaning (record { names = names; begun = begun }) inside ((row_of v).word ∷ w.words) ≡ Ok (Run c, record { names = names; begun = begun })
+words_of_row names begun an v p c inside w made =
+    row_said (record { names = names; begun = begun }) inside v w.words
     ∙ command_read names begun an v p c w.words (record { count = w.count; first = w.first; second = w.second; third = w.third }) made
 
 -- what a line without fault says

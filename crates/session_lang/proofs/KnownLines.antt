@@ -1,18 +1,36 @@
 -- Lines whose names are all known: what they say, by the places of the names.
-use Rattle.std.proofs.Common.{◌≡◌, ℕ, List, [], true, length, slice_get, Some, Ok, ℤ, refl, sym, subst, ap, ◌∙◌}
+use Rattle.std.proofs.Common.{◌≡◌, ℕ, suc, ◌+◌, ◌-◌, ◌≤◌, Bool, true, false, cond, nat_le, List, [], ◌∷◌, ◌++◌, length, take, drop, get_or, slice_get, Option, Some, None, is_some, IfSome, Result, Ok, Err, ℤ, unsigned_abs, codes, refl, sym, subst, ap, ◌∙◌, append_assoc, length-append, take_all, arith, All}
+use Rattle.std.specs.List.{list_all}
+use Rattle.std.specs.Char.{is_ascii_digit}
+use Rattle.std.specs.Fmt.{sign_text}
+use Rattle.std.specs.Str.Lines.{lines}
+use Rattle.std.proofs.lemmas.Bool.{and_from}
+use Rattle.std.proofs.lemmas.Bool.Decides.{nat_tests}
+use Rattle.std.proofs.lemmas.List.Folds.{list_all-append}
+use Rattle.std.proofs.lemmas.List.{append-nil, take-append-drop}
+use Rattle.std.proofs.lemmas.List.Elements.{All-nil, All-cons}
 use Rattle.desk_names.specs.Names.{has_text, place_of, IsNames}
-use Rattle.desk_names.proofs.NameLaws.{slice_get-place_of}
+use Rattle.desk_names.proofs.NameLaws.{slice_get-place_of, IsName-at}
 use Rattle.session_commands.specs.declared.table.Verb.TheVariants as verb
 use Rattle.session_commands.specs.declared.table.Kind.TheVariants as kind
 use Rattle.session_commands.specs.declared.field.Field.TheVariants.{Nothing, Name, Number, Weight}
+use Rattle.session_commands.specs.declared.command.Command.{Command}
 use Rattle.session_commands.specs.declared.command.Command.TheVariants as command
 use Rattle.session_commands.specs.Table.{row_of}
-use Rattle.session_commands.specs.Parts.{command_of, together}
-use Rattle.script_words.specs.Word.{number_within, weight_of}
+use Rattle.session_commands.specs.Parts.{command_of, parts_of, together}
+use Rattle.fixed_amount.specs.declared.decimal.DecimalFault.{DecimalFault}
+use Rattle.fixed_amount.specs.Decimal.{decimal_value, point_text, all_digits, WritesUnits}
+use Rattle.fixed_amount.proofs.DecimalLaws.{value_law}
+use Rattle.script_words.specs.Word.{within, number_within, weight_of}
+use Rattle.script_words.proofs.LineWords.{is_word_byte, all_weaker}
+use Rattle.script_words.proofs.WordBytes.{IsWord, name_word}
+use Rattle.script_words.proofs.PrintedLines.{spaced, words_printable, line_first}
 use Rattle.script_words.proofs.Fields.{Back, nothing_back, name_said, number_said, weight_said}
 use Rattle.session_lang.specs.declared.statement.Statement.TheVariants.{Run}
-use Rattle.session_lang.specs.Statement.{word, command_meaning}
-use Rattle.session_lang.proofs.CommandLines.{command_read}
+use Rattle.session_lang.specs.Statement.{word, command_meaning, words_meaning}
+use Rattle.session_lang.specs.Reading.{action_of, IsFirstLine}
+use Rattle.session_lang.proofs.RowFacts.{row_is}
+use Rattle.session_lang.proofs.CommandLines.{command_read, row_said, words_line}
 
 -- a word that is found among the names is read as its place
 pub name_found : (names : List (List ℕ)) → IsNames names → (here there : List ℕ) (place : ℕ) → here ≡ there
@@ -66,3 +84,105 @@ module _ (names begun words : List (List ℕ)) where
       (command.Member name other weight) words
       (record { count = count; first = first; second = second; third = third })
       refl
+
+digit_byte : (byte : ℕ) → is_ascii_digit byte ≡ true → is_word_byte byte ≡ true
+digit_byte byte h = grind (arith, nat_tests)
+
+sign_bytes : (negative : Bool) → list_all is_word_byte (sign_text negative) ≡ true
+sign_bytes true = refl
+sign_bytes false = refl
+
+point_bytes : (digits : List ℕ) → all_digits digits ≡ true → list_all is_word_byte (point_text digits) ≡ true
+point_bytes [] h = refl
+point_bytes (d ∷ digits) h = all_weaker is_ascii_digit is_word_byte digit_byte (d ∷ digits) h
+
+join_bytes : (a b : List ℕ) → list_all is_word_byte a ≡ true → list_all is_word_byte b ≡ true → list_all is_word_byte (a ++ b) ≡ true
+join_bytes a b h k = list_all-append is_word_byte a b ∙ and_from (list_all is_word_byte a) (list_all is_word_byte b) h k
+
+-- a text that is read as a decimal is a word
+decimal_word : (text : List ℕ) (places : ℕ) (units : ℤ) → decimal_value text places ≡ Ok units → IsWord text
+decimal_word text places units h =
+    let w : WritesUnits text places units = (value_law text places units).0 h in
+    record {
+      some = omega (arith, w.shape.nonempty, simp length-append at (ap length w.shape.written));
+      bytes = ap (list_all is_word_byte) w.shape.written
+          ∙ join_bytes (sign_text w.negative) (w.whole ++ point_text w.fraction) (sign_bytes w.negative)
+          (join_bytes w.whole (point_text w.fraction) (all_weaker is_ascii_digit is_word_byte digit_byte w.whole w.shape.whole_digits)
+          (point_bytes w.fraction w.shape.fraction_digits));
+    }
+
+the_units : (fits : Bool) (units other : ℤ) → cond fits (Some units) None ≡ Some other → units ≡ other
+the_units true units other h = cc
+the_units false units other h = absurd (cc)
+
+read_within : (limit : ℕ) (read : Result ℤ DecimalFault) (units : ℤ) → within limit read ≡ Some units → read ≡ Ok units
+read_within limit (Err e) units h = absurd (cc)
+read_within limit (Ok z) units h = ap Ok (the_units (nat_le (unsigned_abs z) limit) z units h)
+
+-- and so is one that is read within a limit
+number_word : (places limit : ℕ) (text : List ℕ) (units : ℤ) → number_within places limit text ≡ Some units → IsWord text
+number_word places limit text units h = decimal_word text places units (read_within limit (decimal_value text places) units h)
+
+first_and_rest : (text : List ℕ) → 1 ≤ length text → text ≡ get_or text 0 0 ∷ take (length text - 1) (drop 1 text)
+first_and_rest [] h = absurd (omega arith)
+first_and_rest (x ∷ xs) h = let e : suc (length xs) - 1 ≡ length xs = omega arith in ap (λ t. x ∷ t) (sym (ap (λ n. take n xs) e ∙ take_all (length xs) xs (omega arith)))
+
+-- the place at which a text is found among the names
+pub found_at : (names : List (List ℕ)) (text : List ℕ) (found : Option ℕ) → is_some found ≡ has_text names text
+    → IfSome found (λ place. place ≡ place_of names text) → IfSome found (λ place. slice_get names place ≡ Some text)
+found_at names text None is at = tt
+found_at names text (Some place) is at = ap (slice_get names) at ∙ slice_get-place_of names text (sym is)
+
+-- the first line of a text, by its words
+first_line : (names : List (List ℕ)) (command : Command) (w : List ℕ) (ws : List (List ℕ)) (text after : List ℕ)
+    → IsWord w → All IsWord ws → action_of command ≡ None
+    → ((begun : List (List ℕ)) → words_meaning (record { names = names; begun = begun }) false (w ∷ ws)
+    ≡ Ok (Run command, record { names = names; begun = begun }))
+    → text ≡ (w ++ spaced ws) ++ 10 ∷ after → IsFirstLine names text command after
+first_line names command w ws text after word words unlinked says whole = record {
+  line = w ++ spaced ws;
+  first = ap lines whole ∙ line_first (w ++ spaced ws) after (words_printable w ws word words);
+  says = λ begun. words_line (record { names = names; begun = begun }) false w ws word words ∙ says begun;
+  unlinked = unlinked;
+  shorter = omega (arith, ap length whole ∙ length-append (w ++ spaced ws) (10 ∷ after));
+}
+
+ask_text : (name after : List ℕ) → codes "ask " ++ (name ++ 10 ∷ after) ≡ (codes "ask" ++ spaced (name ∷ [])) ++ 10 ∷ after
+ask_text name after = simp append-nil
+
+set_text : (name value after : List ℕ) → codes "set " ++ (name ++ 32 ∷ (value ++ 10 ∷ after)) ≡ (codes "set" ++ spaced (name ∷ value ∷ [])) ++ 10 ∷ after
+set_text name value after = simp (append_assoc, append-nil)
+
+module _ (names : List (List ℕ)) (sound : IsNames names) (name : List ℕ) (place : ℕ) (at : slice_get names place ≡ Some name) where
+  is_word : IsWord name
+  is_word = name_word name (IsName-at names name sound place at)
+
+  -- an ask of a known name
+  pub ask_first : (text after : List ℕ) → text ≡ name ++ 10 ∷ after → IsFirstLine names (codes "ask " ++ text) (command.Ask place) after
+  unfolding row_of parts_of
+  ask_first text after whole =
+      first_line names (command.Ask place) (codes "ask") (name ∷ []) (codes "ask " ++ text) after (row_is verb.Ask).word
+      (All-cons IsWord name [] is_word (All-nil IsWord)) refl
+      (λ begun. row_said (record { names = names; begun = begun }) false verb.Ask (name ∷ [])
+      ∙ ask_said names begun (name ∷ []) place refl (name_said names [] sound place name at))
+      (ap (λ t. codes "ask " ++ t) whole ∙ ask_text name after)
+
+  -- a set of a known name
+  pub set_first : (value : List ℕ) (units : ℤ) (text after : List ℕ) → Some units ≡ number_within 9 1_000_000_000_000_000_000 value
+      → text ≡ name ++ 32 ∷ (value ++ 10 ∷ after) → IsFirstLine names (codes "set " ++ text) (command.Set place units) after
+  unfolding row_of parts_of
+  set_first value units text after read whole =
+      first_line names (command.Set place units) (codes "set") (name ∷ value ∷ []) (codes "set " ++ text) after (row_is verb.Set).word
+      (All-cons IsWord name (value ∷ []) is_word
+      (All-cons IsWord value [] (number_word 9 1_000_000_000_000_000_000 value units (sym read)) (All-nil IsWord))) refl
+      (λ begun. row_said (record { names = names; begun = begun }) false verb.Set (name ∷ value ∷ [])
+      ∙ set_said names begun (name ∷ value ∷ []) place units refl (name_said names [] sound place name at)
+      (number_found names value value units refl read))
+      (ap (λ t. codes "set " ++ t) whole ∙ set_text name value after)
+
+-- the parts of a text that a byte parts
+pub parted : (text word behind : List ℕ) (n byte : ℕ) → word ≡ take n text → behind ≡ drop n text → 1 ≤ length behind → get_or behind 0 0 ≡ byte
+    → text ≡ word ++ byte ∷ take (length behind - 1) (drop 1 behind)
+parted text word behind n byte front back some first =
+    sym (take-append-drop n text) ∙ ap (λ t. t ++ drop n text) (sym front) ∙ ap (λ t. word ++ t) (sym back)
+    ∙ ap (λ t. word ++ t) (first_and_rest behind some) ∙ ap (λ b. word ++ b ∷ take (length behind - 1) (drop 1 behind)) first

@@ -8,6 +8,7 @@ pub mod RowFacts
 pub mod PlainWords
 pub mod CommandLines
 pub mod KnownLines
+pub mod FirstLines
 pub mod Tells
 pub mod ScriptBack
 pub mod RowLinks

@@ -1,5 +1,5 @@
 -- A whole script: what its lines say, one after another, and what they say together.
-use Rattle.std.specs.Prelude.{◌≡◌, ℕ, ◌+◌, Bool, true, false, nat_lt, if◌then◌else◌, List, [], ◌∷◌, length, slice_index_or, Option, Some, None, is_some, Result, Ok, Err}
+use Rattle.std.specs.Prelude.{◌≡◌, ℕ, ◌+◌, ◌<◌, Bool, true, false, nat_lt, if◌then◌else◌, List, [], ◌∷◌, length, slice_index_or, Option, Some, None, is_some, Result, Ok, Err}
 use Rattle.std.specs.List.{find}
 use Rattle.std.specs.Str.Lines.{lines}
 use Rattle.desk_names.specs.Names.{has_text, place_of}
@@ -60,6 +60,19 @@ lines_meaning known open_at number (line ∷ rest) =
     lines_meaning said.1 (opened said.0 number open_at) (number + 1) rest >>= (λ others.
     Ok (said_before number said.0 others)))
 
+-- the name of the action that a watch names
+abbrev pub action_of : Command → Option ℕ
+action_of command = action_in (parts_of command).second
+
+-- the first line of a text is this command, which names no action and no new name, and this text stands behind the line
+pub record IsFirstLine (names : List (List ℕ)) (text : List ℕ) (command : Command) (after : List ℕ) : Type 0 where
+  pub line : List ℕ
+  pub first : lines text ≡ line ∷ lines after
+  pub says : (begun : List (List ℕ)) → line_meaning (record { names = names; begun = begun }) false line
+      ≡ Ok (Run command, record { names = names; begun = begun })
+  pub unlinked : action_of command ≡ None
+  pub shorter : length after < length text
+
 -- what a line leaves to those behind it, or the names as they were where it has a fault
 abbrev pub after_line : List (List ℕ) → (Statement × Known → List (List ℕ)) → Result (Statement × Known) ScriptKind → List (List ℕ)
 after_line names go (Ok said) = go said
@@ -87,10 +100,6 @@ AreLeft (Err (script.At line k)) names left = names ≡ left
 -- the text of a name that was read
 abbrev pub text_of : Known → ℕ → List ℕ
 text_of known name = slice_index_or known.names name []
-
--- the name of the action that a watch names
-abbrev pub action_of : Command → Option ℕ
-action_of command = action_in (parts_of command).second
 
 -- whether no block defines the action that a command names
 abbrev pub lacks_action : Known → Option ℕ → Bool

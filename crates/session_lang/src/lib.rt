@@ -5,6 +5,7 @@
 #![tactic(auto)]
 
 mod fault;
+mod known_line;
 mod laws;
 mod print;
 mod read;

@@ -13,6 +13,7 @@ ghost use Rattle.session_lang.specs.Gathered.{gathered_behind, Takes, together_g
 ghost use Rattle.text_limits.specs.declared.limit.TheConstants.{MOST_BYTES};
 
 use crate::ScriptFault;
+use crate::known_line::known_line;
 use crate::statement::read_line;
 use crate::steps::{Step, action_names_of, actions_of, add, all_linked, first_lacking, is_open};
 use desk_names::Names;
@@ -85,19 +86,28 @@ fn read_lines(
     let mut number = 1;
     let mut rest = text;
     while !rest.is_empty() {
-        let (line, after) = next_line(rest);
-        open_at = take_line(
-            line,
-            &mut words,
-            number,
-            names,
-            begun,
-            &mut commands,
-            &mut steps,
-            open_at,
-        )?;
-        number += 1;
-        rest = after;
+        match known_line(rest, names, is_open(open_at)) {
+            Some((command, after)) => {
+                commands.push(command)?;
+                rest = after;
+                number += 1;
+            }
+            None => {
+                let (line, after) = next_line(rest);
+                open_at = take_line(
+                    line,
+                    &mut words,
+                    number,
+                    names,
+                    begun,
+                    &mut commands,
+                    &mut steps,
+                    open_at,
+                )?;
+                rest = after;
+                number += 1;
+            }
+        }
     }
     Ok(Read {
         commands,

@@ -75,6 +75,12 @@ least_ok : (flows : List FlowTerm) (settle price : ℤ) (answer : Result ℤ Yie
 least_ok flows settle price (Ok y) is = yield_is flows settle price y is
 least_ok flows settle price (Err fault) is = tt
 
+-- an answer at a full price
+pub answer_at : (flows : List FlowTerm) (settle price : ℤ) (answer : Result ℤ YieldFault) → ((fault : YieldFault) → (answer ≡ Err fault) ↔ (price_fault flows settle price ≡ Some fault))
+    → IfOk answer (IsYield flows settle price) → answer ≡ fault_or (price_fault flows settle price) (least_yield flows settle price)
+answer_at flows settle price answer faults least =
+    answer_by (price_fault flows settle price) answer (least_yield flows settle price) faults (least_ok flows settle price answer least)
+
 pub answer_is : (flows : List FlowTerm) (settle clean : ℤ) (answer : Result ℤ YieldFault) → ((fault : YieldFault) → (answer ≡ Err fault) ↔ (fault_of flows settle clean ≡ Some fault))
     → IfOk answer (IsYield flows settle (asked_price flows settle clean)) → answer ≡ yield_of flows settle clean
 answer_is flows settle clean answer faults least =

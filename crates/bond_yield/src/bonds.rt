@@ -1,10 +1,10 @@
 // The yield of a bond at a clean price.
-ghost use Rattle.std.specs.Prelude.{◌≡◌, ◌↔◌, true, ◌*◌, Err, Some, None, IfOk, ◌+ℤ◌, ◌≤ℤ◌, pos};
+ghost use Rattle.std.specs.Prelude.{◌≡◌, ◌↔◌, true, length, ◌≤◌, ◌*◌, Err, Some, None, IfOk, ◌+ℤ◌, ◌≤ℤ◌, pos};
 ghost use Rattle.jiff_core.specs.Calendar.{IsWithin};
 ghost use Rattle.flow_terms.specs.declared.limits.TheConstants.{MOST_AMOUNT, MOST_FLOWS};
 ghost use Rattle.flow_terms.specs.Ranges.{AreFlowsInRange};
 ghost use Rattle.bond_yield.specs.declared.yields.TheConstants.{MOST_YIELD, MOST_CLEAN};
-ghost use Rattle.bond_yield.specs.Fixed.{is_fixed};
+ghost use Rattle.bond_yield.specs.Fixed.{are_known, is_fixed};
 ghost use Rattle.bond_yield.specs.Accrued as accrual;
 ghost use Rattle.bond_yield.specs.Price as price;
 ghost use Rattle.bond_yield.specs.Yield.{asked_price, price_fault, fault_of, yield_of, IsYield};
@@ -15,7 +15,7 @@ use crate::prices::price_at;
 use crate::yields::{MOST_YIELD, least_yield, rate};
 use day_number::Day;
 use fixed_amount::{Amount, Rate};
-use flow_terms::{FlowTerms, expired};
+use flow_terms::{FlowTerm, FlowTerms, expired};
 use thiserror::Error;
 
 /// Why a bond has no yield; the first in this order.
@@ -50,7 +50,11 @@ pub fn bond_yield(flows: &FlowTerms, settle: Day, clean: Amount) -> Result<Rate,
     if expired(flows, settle) {
         return Err(YieldFault::NoFlow);
     }
-    yield_at(flows, settle, sum(clean, accrued(flows, settle)))
+    yield_at(
+        flows.flows.items(),
+        settle,
+        sum(clean, accrued(flows, settle)),
+    )
 }
 
 // A clean price and accrued interest.
@@ -63,14 +67,14 @@ fn sum(clean: Amount, interest: Amount) -> Amount
     Amount(clean.units() + interest.units())
 }
 
-// The yield at a full price.
-fn yield_at(flows: &FlowTerms, settle: Day, price: Amount) -> Result<Rate, YieldFault>
-    requires range { AreFlowsInRange flows.now }
-    requires fixed { is_fixed flows.now.flows ≡ true }
-    ensures fault { (fault : YieldFault) → (result ≡ Err fault) ↔ (price_fault flows.now.flows settle price ≡ Some fault) }
-    ensures least { IfOk result (IsYield flows.now.flows settle price) }
+/// The yield at a full price of at most 1,602 flows whose amounts are known, each from 0 to 10^22 units, in the order of their payments: the
+/// least from 0 to 10 at which they are worth no more. The fault is `Above` or `Below`.
+pub fn yield_at(flows: &[FlowTerm], settle: Day, price: Amount) -> Result<Rate, YieldFault>
+    requires known { are_known flows.now ≡ true }
+    requires count { length flows.now ≤ MOST_FLOWS }
+    ensures fault { (fault : YieldFault) → (result ≡ Err fault) ↔ (price_fault flows.now settle price ≡ Some fault) }
+    ensures least { IfOk result (IsYield flows.now settle price) }
 {
-    let flows = flows.flows.items();
     let greatest = price_at(flows, settle, 0);
     if price > greatest {
         return Err(YieldFault::Above(greatest));

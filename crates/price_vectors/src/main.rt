@@ -3,8 +3,9 @@
 //! the value in whole units over these nodes, and the gap between the two: half a unit for each rounding of a known amount
 //! or of the value, and for each floating amount what half a unit of 10^-9 of its rate is worth. Prints each row that
 //! differs, and how many agree. Then compares what instruments of `flows.csv` still pay after a day, and what bonds are worth
-//! on it at a yield, with an independent model's figures; and the measures of bonds of `measures.csv` with the figures of a plain model and,
-//! within bounds, with those by derivatives of the exact price. A row that cannot be read is an error.
+//! on it at a yield, with an independent model's figures; and yields and measures of bonds with the figures of a plain model and, within
+//! bounds, with those by derivatives of the exact price (`derivatives.csv`), by QuantLib's prices a basis point apart (`prices.csv`)
+//! and by its own duration and convexity (`formulas.csv`). A row that cannot be read is an error.
 #![tactic(auto)]
 
 mod instruments;
@@ -28,6 +29,10 @@ fn main(rt: HostRuntime) -> Result<()> {
     compare_values(&rt, rt.alloc(), &markets, &instruments)?;
     let flows = fs::read_to_string(&rt, "flows.csv")?;
     compare_flows(&rt, rt.alloc(), &markets, &flows)?;
-    let measures = fs::read_to_string(&rt, "measures.csv")?;
-    compare_measures(&rt, rt.alloc(), &markets, &measures)
+    let derivatives = fs::read_to_string(&rt, "derivatives.csv")?;
+    compare_measures(&rt, rt.alloc(), &markets, &derivatives, "derivatives")?;
+    let prices = fs::read_to_string(&rt, "prices.csv")?;
+    compare_measures(&rt, rt.alloc(), &markets, &prices, "QuantLib's prices")?;
+    let formulas = fs::read_to_string(&rt, "formulas.csv")?;
+    compare_measures(&rt, rt.alloc(), &markets, &formulas, "QuantLib's formulas")
 }

@@ -1,4 +1,4 @@
-// The tools: runs `desk_bump`, `desk_curve`, `desk_explain`, `desk_graph`, `desk_grid`, `desk_measure`, `desk_why` and `desk_yield` over
+// The tools: runs `desk_bump`, `desk_curve`, `desk_explain`, `desk_graph`, `desk_grid`, `desk_measure`, `desk_risk`, `desk_why` and `desk_yield` over
 // whole cases, and compares the bytes with those that an independent model writes.
 use crate::cases::{self, Cases};
 use bond_tool::run_bond;
@@ -10,6 +10,7 @@ use explain_run::run_explain;
 use graph_run::run_graph;
 use grid_run::run_grid;
 use measure_run::MeasureTool;
+use risk_run::run_risk;
 use std::alloc::{AllocError, Global};
 use std::io;
 use tool_process::Ending;
@@ -29,6 +30,7 @@ pub(crate) enum Tool {
     Graph,
     Grid,
     Measure,
+    Risk,
     Why,
     Yield,
 }
@@ -60,6 +62,10 @@ pub(crate) fn compare(rt: &HostRuntime) -> io::Result<()> {
     compare_file(rt, Tool::Grid, "grid_markets")?;
     compare_file(rt, Tool::Grid, "grid_version_two")?;
     compare_file(rt, Tool::Grid, "grid_faults")?;
+    // Sizes at their limits, names that are none and names twice, sides that are refused.
+    compare_file(rt, Tool::Risk, "risk_by_hand")?;
+    compare_file(rt, Tool::Risk, "risk_markets")?;
+    compare_file(rt, Tool::Risk, "risk_faults")?;
     // Answers of which each shows one thing, and of scripts cut off at some command: every kind, mark and cause.
     compare_file(rt, Tool::Why, "why_by_hand")?;
     compare_file(rt, Tool::Why, "why_sessions")?;
@@ -132,6 +138,11 @@ fn ended(
             alloc,
             grid_run::NAME,
             run_grid(alloc, words, shelf, out, &mut bench),
+        ),
+        Tool::Risk => line(
+            alloc,
+            risk_run::NAME,
+            run_risk(alloc, words, shelf, out, &mut bench),
         ),
         Tool::Why => line(
             alloc,

@@ -1,0 +1,81 @@
+// Figures of two prices.
+ghost use Rattle.std.specs.Prelude.{◌≡◌};
+ghost use Rattle.risk_model.specs.Figures.{with_down, both_in, delta_in, gamma_in};
+ghost use Rattle.risk_model.specs.Sums.{IsSmall};
+
+use bump_model::{Rung, Side};
+use desk_terms::Cause;
+use fixed_amount::Amount;
+
+/// Why an instrument has no price where quotes are moved one way.
+#[derive(Clone, Copy)]
+pub enum Missing {
+    /// It is worth nothing then, for this cause.
+    Refused(Cause),
+    /// A quote would pass the limit of rates.
+    Limit,
+}
+
+/// A figure of two prices: that where quotes are moved up, and that where they are moved down.
+#[derive(Clone, Copy)]
+pub enum Figure {
+    /// So many units of an amount, within 2 * 10^26 either way.
+    Is(i128),
+    /// The quote has no value.
+    Unset,
+    /// There is no price where they are moved up.
+    Up(Missing),
+    /// There is none where they are moved down.
+    Down(Missing),
+}
+
+// What an instrument gains on both sides of a rung.
+#[derive(Clone, Copy)]
+pub(crate) struct Gains {
+    pub(crate) up: Amount,
+    pub(crate) down: Amount,
+}
+
+/// The delta of a rung: the price up less the price down.
+pub fn delta(rung: &Rung) -> Figure
+    ensures delta { result ≡ delta_in rung.now }
+    ensures small { IsSmall result }
+{
+    match both(rung.up, rung.down) {
+        Ok(gains) => Figure::Is(gains.up.units() - gains.down.units()),
+        Err(figure) => figure,
+    }
+}
+
+/// The gamma of a rung: the price up and the price down, less twice the base.
+pub fn gamma(rung: &Rung) -> Figure
+    ensures { result ≡ gamma_in rung.now }
+{
+    match both(rung.up, rung.down) {
+        Ok(gains) => Figure::Is(gains.up.units() + gains.down.units()),
+        Err(figure) => figure,
+    }
+}
+
+// The gains of both sides, or which one has none.
+fn both(up: Side, down: Side) -> Result<Gains, Figure>
+    ensures { result ≡ both_in up down }
+{
+    match up {
+        Side::Moved(up) => with_down(up, down),
+        Side::Refused(cause) => Err(Figure::Up(Missing::Refused(cause))),
+        Side::Limit => Err(Figure::Up(Missing::Limit)),
+        Side::Unset => Err(Figure::Unset),
+    }
+}
+
+fn with_down(up: Amount, down: Side) -> Result<Gains, Figure>
+    ensures { result ≡ with_down up down }
+{
+    match down {
+        Side::Moved(down) => Ok(Gains { up, down }),
+        Side::Refused(cause) => Err(Figure::Down(Missing::Refused(cause))),
+        Side::Limit => Err(Figure::Down(Missing::Limit)),
+        Side::Unset => Err(Figure::Unset),
+    }
+}

@@ -1,0 +1,12 @@
+// The definitions on small markets: each gives what a hand works out.
+ghost use Rattle.risk_model.specs.Rows.{IsBent, IsMissing};
+
+// A stock that is worth the square of its quote.
+fn a_bent_price_is_worked_through()
+    ensures { IsBent }
+{}
+
+// Sides without a price, and a quote without a value.
+fn missing_sides_are_worked_through()
+    ensures { IsMissing }
+{}

@@ -1,0 +1,4 @@
+pub mod Curving
+pub mod Shifts
+pub mod Rungs
+pub mod Naming

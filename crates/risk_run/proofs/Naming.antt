@@ -1,0 +1,67 @@
+-- Names, one behind another: the asks for them, and what is written.
+use Rattle.std.proofs.Common.{◌≡◌, ℕ, List, [], ◌∷◌, ◌++◌, Result, Ok, Err, ℤ, sym, ◌∙◌, ap, subst}
+use Rattle.std.proofs.lemmas.List.{append-nil, append_assoc}
+use Rattle.desk_terms.specs.declared.kind.Wanted.TheVariants.{Member}
+use Rattle.desk_terms.specs.Reading.{Calc}
+use Rattle.desk_model.specs.Market.{Market}
+use Rattle.desk_model.specs.State.{State}
+use Rattle.bump_model.specs.Asking.{Asking, Asks, MadeFront, none, then_ask}
+use Rattle.bump_model.proofs.Calls.{front_all}
+use Rattle.bump_ladder.proofs.Answered.{Log, Did}
+use Rattle.market_desk.specs.declared.named.Unnamed.{Unnamed}
+use Rattle.market_desk.specs.Standing.{object_named}
+use Rattle.risk_run.specs.Asking.{asking_for, name_asking, names_asking}
+use Rattle.risk_run.specs.Lines.{text_for, name_text, names_text}
+
+-- whatever comes behind asks that were answered
+pub asks_any : {A E : Type 0} (asking : Asking) (result : Result A E) (t : State) (count now : ℕ) (log log_now : Log)
+    → Did asking t count now log log_now → Asks asking result t count now log log_now
+asks_any asking (Ok x) t count now log log_now did = did
+asks_any asking (Err e) t count now log log_now did = front_all asking.calls count now log log_now did.1
+
+module _ (calc : Calc) (size : ℤ) (names : List (List ℕ)) where
+  pub asking_step : (all rest : List (List ℕ)) (name : List ℕ) → all ≡ name ∷ rest → (s : State)
+      → names_asking calc size names all s ≡ then_ask (name_asking calc size names name s) (names_asking calc size names rest)
+  unfolding names_asking
+  asking_step all rest name steps s = ap (λ (l : List (List ℕ)). names_asking calc size names l s) steps
+
+  pub asking_ended : (all : List (List ℕ)) (s : State) → all ≡ [] → names_asking calc size names all s ≡ none s
+  unfolding names_asking
+  asking_ended all s is = ap (λ (l : List (List ℕ)). names_asking calc size names l s) is
+
+  module _ (k : Calc) (name : List ℕ) (s : State) (count now : ℕ) (log log_now : Log) (same : k ≡ calc) where
+    pub did_then : (t : State) → Did (name_asking k size names name s) t count now log log_now
+        → Did (name_asking calc size names name s) t count now log log_now
+    did_then t did = subst (λ (h : Calc). Did (name_asking h size names name s) t count now log log_now) same did
+
+    pub front_then : MadeFront (name_asking k size names name s).calls count now log log_now
+        → MadeFront (name_asking calc size names name s).calls count now log log_now
+    front_then made = subst (λ (h : Calc). MadeFront (name_asking h size names name s).calls count now log log_now) same made
+
+  -- what is written of the next one
+  pub text_step : (k : Calc) (m n : Market) (of_object : List ℕ) (all rest : List (List ℕ)) (name old new : List ℕ) → k ≡ calc → n ≡ m
+      → all ≡ name ∷ rest → new ≡ old ++ name_text k size n names of_object name
+      → new ++ names_text calc size m names of_object rest ≡ old ++ names_text calc size m names of_object all
+  unfolding names_text
+  text_step k m n of_object all rest name old new same market steps is =
+      ap (λ (l : List ℕ). l ++ names_text calc size m names of_object rest)
+      (is ∙ ap (λ (h : Calc). old ++ name_text h size n names of_object name) same
+      ∙ ap (λ (l : Market). old ++ name_text calc size l names of_object name) market)
+      ∙ append_assoc old (name_text calc size m names of_object name) (names_text calc size m names of_object rest)
+      ∙ ap (λ (l : List (List ℕ)). old ++ names_text calc size m names of_object l) (sym steps)
+
+  pub text_ended : (m : Market) (of_object : List ℕ) (all : List (List ℕ)) (old : List ℕ) → all ≡ []
+      → old ≡ old ++ names_text calc size m names of_object all
+  unfolding names_text
+  text_ended m of_object all old is =
+      sym (append-nil old) ∙ ap (λ (l : List (List ℕ)). old ++ names_text calc size m names of_object l) (sym is)
+
+  -- ---- what a name stands for
+
+  module _ (name : List ℕ) (s : State) (found : Result ℕ Unnamed) (is : found ≡ object_named Member s.market names name) where
+    pub named_asking : name_asking calc size names name s ≡ asking_for calc size found s
+    named_asking = ap (λ (r : Result ℕ Unnamed). asking_for calc size r s) (sym is)
+
+    pub named_text : (of_object : List ℕ) → name_text calc size s.market names of_object name ≡ text_for calc size s.market names of_object name found
+    unfolding name_text
+    named_text of_object = ap (λ (r : Result ℕ Unnamed). text_for calc size s.market names of_object name r) (sym is)

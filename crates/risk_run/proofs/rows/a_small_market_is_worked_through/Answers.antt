@@ -1,0 +1,30 @@
+use Rattle.std.proofs.Common.{refl}
+use Rattle.std.specs.Fmt.{digits}
+use Rattle.desk_names.specs.Names.{has_text, place_of}
+use Rattle.fixed_amount.specs.Decimal.{decimal_text}
+use Rattle.walks.specs.Walk.{below_by}
+use Rattle.desk_model.specs.Links.{reaches}
+use Rattle.desk_model.specs.Uses.{input_by, input_at}
+use Rattle.desk_model.specs.Fresh.{answer_by, fresh}
+use Rattle.desk_model.specs.State.{is_frozen, is_source, is_late, held_outcome, seen_outcome, now}
+use Rattle.desk_model.specs.Visit.{visit_by, runs, stored, asked}
+use Rattle.desk_model.specs.Told.{forwards, told, tell}
+use Rattle.desk_model.specs.Effect.{made, notified, revised, quote_set}
+use Rattle.market_desk.specs.Making.{with_made}
+use Rattle.bump_model.specs.Moves.{with_values, all_set}
+use Rattle.bump_model.specs.Asking.{rung_asking, rungs_asking, ladder_asking}
+use Rattle.bump_model.specs.Quotes.{quotes_below}
+use Rattle.risk_run.specs.Asking.{names_asking}
+use Rattle.risk_run.specs.Lines.{figure_row, bump_rows, bumps_rows, refused_row, unnamed_row, name_text, names_text, risk_text}
+use Rattle.risk_run.proofs.rows.a_small_market_is_worked_through.Goals as goal
+
+pub returns : goal.returns
+unfolding digits has_text place_of decimal_text below_by reaches input_by input_at answer_by fresh is_frozen is_source is_late held_outcome seen_outcome now visit_by runs stored asked forwards told tell made notified revised quote_set with_made with_values all_set rung_asking rungs_asking ladder_asking quotes_below names_asking figure_row bump_rows bumps_rows refused_row unnamed_row name_text names_text risk_text
+returns c = record {
+  stock = refl;
+  refused = refl;
+  others = refl;
+  shift = refl;
+  calls = refl;
+  nothing = refl;
+}

@@ -1,0 +1,18 @@
+//! What the program `desk_risk` does: from words and a market with its tables to the rows of deltas and gammas and a status,
+//! for every shelf of files, sink of bytes and bench of prices.
+//!
+//! `run_risk`, `NAME`, `RiskStatus`.
+#![tactic(auto)]
+
+mod curves;
+mod lines;
+mod names;
+mod rows;
+mod running;
+mod words;
+
+pub use running::run_risk;
+pub use tool_run::MarketStatus as RiskStatus;
+
+/// The program's name.
+pub const NAME: &str = "desk_risk";

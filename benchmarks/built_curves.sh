@@ -2,10 +2,11 @@
 # Times how curves are built from 20, 40 and 64 par swaps that end every eleven months, with coupons every 12, 3 and 1
 # months: prints the milliseconds a curve, and whether each curve was the one that the few lines of Python below find.
 #
-#   cd crates/curve_rows && rt run      # builds the program
+#   cd crates/price_vectors && rt run      # builds the program
 #   benchmarks/built_curves.sh
 set -euo pipefail
-rows=$(cd "$(dirname "$0")/.." && pwd)/crates/curve_rows/out/curve_rows
+crate=$(cd "$(dirname "$0")/.." && pwd)/crates/price_vectors
+rows=$crate/out/price_vectors
 work=$(mktemp -d)
 trap 'rm -rf "$work"' EXIT
 cd "$work"
@@ -64,15 +65,20 @@ MAKE
 heading=market,today,cal,settlement,reference,helpers,ql_nodes,profile_nodes,why,greatest_gap
 printf '%s\n' "$heading" > cases.csv
 printf 'market,terms,ql,profile,gap,why\n' > values.csv
+# the other tables of the program are empty, but for the markets on which it prices
+for table in "$crate"/data/*; do
+    [ -e "${table##*/}" ] || : > "${table##*/}"
+done
+cp "$crate/data/curves.csv" .
 copies=200
 for every in 12 3 1; do
     for count in 20 40 64; do
-        python3 make.py "$count" "$every" "$copies" > curves.csv
+        python3 make.py "$count" "$every" "$copies" > helpers.csv
         begun=$(date +%s%N)
         "$rows" > out
         ended=$(date +%s%N)
         coupons=$((count * (count + 1) / 2 * 11 / every))
         awk -v ns=$((ended - begun)) -v n=$copies -v c="$count" -v e="$every" -v k="$coupons" \
-            'NR == 1 { printf "%2d helpers every %2d months, about %5d coupons: %.2f ms a curve, %s\n", c, e, k, ns / n / 1e6, $0 }' out
+            '/^curves:/ { printf "%2d helpers every %2d months, about %5d coupons: %.2f ms a curve, %s\n", c, e, k, ns / n / 1e6, $0 }' out
     done
 done

@@ -1,13 +1,13 @@
 // Helpers `kind:tenor:every:convention:eom:counter:rate`, separated by `;`: D a deposit, S a swap, the rate in 10^-9.
-use crate::calendars::calendar_of;
-use crate::rows::Row;
+use crate::curves::calendars::calendar_with_own;
+use crate::curves::rows::Row;
 use curve_terms::{CurveStart, CurveTerms, Helper, HelperList};
 use day_number::{Convention, Tenor, read_tenor};
 use desk_names::ObjId;
 use fixed_amount::{Rate, read_decimal};
+use row_markets::{convention_of, counter_of};
 use std::alloc::Global;
 use std::str::Split;
-use year_parts::Counter;
 
 /// The terms of a row, and the rates of its helpers.
 #[derive(Drop)]
@@ -20,7 +20,7 @@ impl Asked {
     /// The terms and rates of a row.
     pub(crate) fn read(alloc: Global, row: &Row<'_>) -> Option<Asked> {
         let start = CurveStart::Moving(row.settlement.parse().ok()?);
-        let cal = calendar_of(alloc, row.calendar)?;
+        let cal = calendar_with_own(alloc, row.calendar)?;
         let mut asked = Asked {
             terms: CurveTerms {
                 cal,
@@ -52,7 +52,7 @@ fn helper_of(text: &str) -> Option<(Helper, Rate)> {
         quote: ObjId(0),
         tenor,
         every,
-        conv: convention_of(words.next()?)?,
+        conv: convention_with_none(words.next()?)?,
         eom: words.next()? == "1",
         counter: counter_of(words.next()?)?,
     };
@@ -84,24 +84,10 @@ fn rate_of(text: &str) -> Option<Rate> {
     Some(Rate(units))
 }
 
-fn convention_of(name: &str) -> Option<Convention> {
+// A convention: U unadjusted too.
+fn convention_with_none(name: &str) -> Option<Convention> {
     match name {
         "U" => Some(Convention::Unadjusted),
-        "F" => Some(Convention::Following),
-        "P" => Some(Convention::Preceding),
-        "MF" => Some(Convention::ModifiedFollowing),
-        _ => None,
-    }
-}
-
-fn counter_of(name: &str) -> Option<Counter> {
-    match name {
-        "act360" => Some(Counter::Act360),
-        "act365" => Some(Counter::Act365),
-        "actact" => Some(Counter::ActAct),
-        "thirty360" => Some(Counter::Thirty360),
-        "thirtye360" => Some(Counter::ThirtyE360),
-        "bus252" => Some(Counter::Bus252),
-        _ => None,
+        _ => convention_of(name),
     }
 }

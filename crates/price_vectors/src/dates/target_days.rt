@@ -1,9 +1,10 @@
 // Lines `YYYY,MMDD MMDD ..`: a year, and its days from Monday to Friday that are holidays of QuantLib 1.29's TARGET. It
 // has one holiday that is not in every year, 2001-12-31.
-use crate::row::{Row, RowFault};
-use crate::tables::{Unread, line_fault};
+use crate::dates::row::{Row, RowFault};
+use anyhow::{Result, bail};
 use day_number::{Day, add_days};
 use holiday_calendars::{Base, Calendar};
+use std::io;
 
 /// How many days agree and how many differ.
 #[derive(Drop)]
@@ -13,15 +14,15 @@ struct Tally {
 }
 
 /// Prints each day that differs, and how many agree and differ.
-pub(crate) fn compare(rt: &impl Print, text: &str) -> Result<(), Unread> {
+pub(crate) fn compare(rt: &impl Print, text: &str) -> Result<()> {
     let mut tally = Tally {
         agree: 0,
         differ: 0,
     };
-    for (place, line) in text.lines().enumerate() {
+    for line in text.lines() {
         match year_of(line) {
             Ok((first, closed)) => compare_year(rt, first, closed, &mut tally)?,
-            Err(fault) => return Err(line_fault("target", place, fault)),
+            Err(fault) => bail!("target: {fault}: {line}"),
         }
     }
     println!(rt; "target: {} agree, {} differ", tally.agree, tally.differ)?;
@@ -45,12 +46,7 @@ fn year_of(line: &str) -> Result<(Day, &str), RowFault> {
 }
 
 // Compares the days of a year from the first on.
-fn compare_year(
-    rt: &impl Print,
-    first: Day,
-    closed: &str,
-    tally: &mut Tally,
-) -> Result<(), Unread> {
+fn compare_year(rt: &impl Print, first: Day, closed: &str, tally: &mut Tally) -> io::Result<()> {
     for step in 0..366 {
         if let Ok(day) = add_days(first, step) {
             if day.parts().0 == first.parts().0 {
@@ -61,7 +57,7 @@ fn compare_year(
     Ok(())
 }
 
-fn compare_day(rt: &impl Print, day: Day, closed: &str, tally: &mut Tally) -> Result<(), Unread> {
+fn compare_day(rt: &impl Print, day: Day, closed: &str, tally: &mut Tally) -> io::Result<()> {
     let (year, month, place) = day.parts();
     if is_open(day) == (is_weekday(day) && !is_listed(closed, month, place)) {
         tally.agree = tally.agree.saturating_add(1);

@@ -1,6 +1,6 @@
 // Schedules, by QuantLib 1.29 and by a model in Python.
-use crate::calendar_text::{calendar_of, short_day};
-use crate::row::{Row, RowFault};
+use crate::dates::calendar_text::{calendar_of, short_day};
+use crate::dates::row::{Row, RowFault};
 use day_number::{Day, Tenor};
 use holiday_calendars::Calendar;
 use schedule_rules::{Plan, PlanFault, Rule, Schedule, make};

@@ -1,7 +1,7 @@
 // Rows `today,day,stored,answer`: the rate of the index of 50 days in the market `M1` on a day, with stored rates
 // `day:units;day:units..` that are added in this order. The answer is a rate in units of 10^-9, `refused` with the word of
 // a cause, or `exists` with the rate that is kept.
-use crate::terms::Asked;
+use crate::indexes::terms::Asked;
 use anyhow::{Context, Result, bail};
 use day_number::read_day;
 use desk_names::ObjId;

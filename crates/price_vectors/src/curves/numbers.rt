@@ -14,11 +14,6 @@ pub(crate) fn rounded_factor(text: &str) -> Option<Discount> {
     factor(div_round(i128::from(fine_units(text)?), FINE, Rounding::Closest))
 }
 
-/// A discount factor in units of 10^-12.
-pub(crate) fn whole_factor(text: &str) -> Option<Discount> {
-    factor(i128::from(read_decimal(text.as_bytes(), 0).ok()?))
-}
-
 // The discount factor of so many units.
 fn factor(units: i128) -> Option<Discount> {
     if units < 1 || units > 4_000_000_000_000 {

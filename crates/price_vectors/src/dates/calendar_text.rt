@@ -1,7 +1,7 @@
 // Calendars written in a row: N null, W weekends, T TARGET; a calendar of one's own as seven marks from Monday on, `x` a
 // holiday and `-` none, then `/` and its days YYYYMMDD with spaces between; a joint one as `H:` (holidays) or `B:` (business
 // days) and its parts with `+` between.
-use crate::row::RowFault;
+use crate::dates::row::RowFault;
 use day_number::{Day, DayList};
 use holiday_calendars::{Base, BaseList, Calendar, JointRule, bespoke, joint};
 use std::alloc::Global;

@@ -1,6 +1,6 @@
 // Days adjusted and advanced, by QuantLib 1.29 and by a model in Python.
-use crate::calendar_text::calendar_of;
-use crate::row::{Row, RowFault};
+use crate::dates::calendar_text::calendar_of;
+use crate::dates::row::{Row, RowFault};
 use day_number::{Convention, Day};
 use day_shift::{adjust, advance};
 use holiday_calendars::Calendar;

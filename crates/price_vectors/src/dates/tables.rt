@@ -1,30 +1,15 @@
 // The files of rows.
-use crate::counted::{business_agrees, count_agrees};
-use crate::days::{
+use crate::dates::counted::{business_agrees, count_agrees};
+use crate::dates::days::{
     date_agrees, day_agrees, easter_agrees, later_agrees, place_agrees, tenor_agrees,
 };
-use crate::moved::{adjusted_agrees, advanced_agrees};
-use crate::open_days::{between_agrees, calendar_agrees};
-use crate::row::{Row, RowFault};
-use crate::schedules::schedule_agrees;
+use crate::dates::moved::{adjusted_agrees, advanced_agrees};
+use crate::dates::open_days::{between_agrees, calendar_agrees};
+use crate::dates::row::{Row, RowFault};
+use crate::dates::schedules::schedule_agrees;
+use anyhow::{Result, bail};
+use row_markets::Tally;
 use std::alloc::Global;
-use std::io;
-use thiserror::Error;
-
-/// Why the rows were not compared to the end.
-#[derive(Debug, Drop, Error)]
-pub(crate) enum Unread {
-    /// A line that has no case, counted from 1.
-    #[error("{table}, line {line}: {fault}")]
-    Line {
-        table: &'static str,
-        line: usize,
-        fault: RowFault,
-    },
-    /// A file that could not be read, or an output that could not be written.
-    #[error(transparent)]
-    Io(#[from] io::Error),
-}
 
 /// A file of rows.
 #[derive(Clone, Copy)]
@@ -108,34 +93,15 @@ impl Table {
 }
 
 /// Prints each line that differs, and how many agree and differ.
-pub(crate) fn compare(
-    rt: &impl Print,
-    alloc: Global,
-    table: Table,
-    text: &str,
-) -> Result<(), Unread> {
+pub(crate) fn compare(rt: &impl Print, alloc: Global, table: Table, text: &str) -> Result<()> {
     let name = table.name();
-    let mut agree = 0u64;
-    let mut differ = 0u64;
-    for (place, line) in text.lines().enumerate() {
+    let mut rows = Tally::new(name);
+    for line in text.lines() {
         match table.agrees(alloc, line) {
-            Ok(true) => agree = agree.saturating_add(1),
-            Ok(false) => {
-                differ = differ.saturating_add(1);
-                println!(rt; "{name}: {line}")?;
-            }
-            Err(fault) => return Err(line_fault(name, place, fault)),
+            Ok(agrees) => rows.count(rt, line, agrees)?,
+            Err(fault) => bail!("{name}: {fault}: {line}"),
         }
     }
-    println!(rt; "{name}: {agree} agree, {differ} differ")?;
+    rows.tell(rt)?;
     Ok(())
-}
-
-// The error of a line at a place that is counted from 0.
-pub(crate) fn line_fault(table: &'static str, place: usize, fault: RowFault) -> Unread {
-    Unread::Line {
-        table,
-        line: place.saturating_add(1),
-        fault,
-    }
 }

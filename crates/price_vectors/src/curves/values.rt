@@ -1,13 +1,13 @@
 // Rows `market,terms,ql,profile,gap,why`: a value on a market's curve by QuantLib 1.29, and by this project's profile.
 // Terms are `discount:DAY`, `implied:REFERENCE:DAY`, and those of instruments.
-use crate::markets::Markets;
-use crate::numbers::{is_within, whole_factor};
-use crate::tallies::Tally;
+use crate::curves::markets::Markets;
+use crate::curves::numbers::is_within;
 use anyhow::{Result, bail};
 use curve_points::{CurveValue, discount, implied};
 use day_number::{Day, read_day};
 use desk_names::ObjId;
 use fixed_amount::Discount;
+use row_markets::{Tally, whole_factor};
 use std::alloc::Global;
 
 // The greatest gaps to QuantLib's figures, in units of 10^-18: 0.5 units of 10^-12 for one rounding, and 1.11 and half a

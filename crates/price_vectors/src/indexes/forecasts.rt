@@ -1,7 +1,7 @@
 // Rows `market,day,tenor,convention,counter,ql,rate`: the rate that an index of the market fixes on a day, by QuantLib
 // and in units of 10^-9.
-use crate::numbers::is_near;
-use crate::terms::Asked;
+use crate::indexes::numbers::is_near;
+use crate::indexes::terms::Asked;
 use anyhow::bail;
 use day_number::{Day, read_day};
 use desk_names::ObjId;

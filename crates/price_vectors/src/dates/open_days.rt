@@ -1,6 +1,6 @@
 // Business days of a calendar, and how many there are.
-use crate::calendar_text::calendar_of;
-use crate::row::{Row, RowFault};
+use crate::dates::calendar_text::calendar_of;
+use crate::dates::row::{Row, RowFault};
 use day_number::Day;
 use day_shift::business_days_between;
 use holiday_calendars::{BespokeFault, Calendar, JointFault};

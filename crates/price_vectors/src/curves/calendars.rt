@@ -1,17 +1,15 @@
 // The calendars that the tables name.
 use day_number::{Day, DayList};
-use holiday_calendars::{Base, Calendar, bespoke};
+use holiday_calendars::{Calendar, bespoke};
+use row_markets::calendar_of;
 use std::alloc::Global;
 
 /// N null, W weekends, T TARGET, and K with the Mondays outside January and February 2024 and the first of it as its
 /// business days.
-pub(crate) fn calendar_of(alloc: Global, name: &str) -> Option<Calendar> {
+pub(crate) fn calendar_with_own(alloc: Global, name: &str) -> Option<Calendar> {
     match name {
-        "N" => Some(Calendar::one(Base::Null)),
-        "W" => Some(Calendar::one(Base::Weekends)),
-        "T" => Some(Calendar::one(Base::Target)),
         "K" => mondays(alloc),
-        _ => None,
+        _ => calendar_of(name),
     }
 }
 

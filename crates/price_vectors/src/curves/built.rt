@@ -1,14 +1,14 @@
 // Curves that are built from the helpers of a row, beside the nodes of the row.
-use crate::numbers::{is_within, rounded_gap, whole_factor};
-use crate::rows::Row;
-use crate::tallies::Tally;
-use crate::terms::Asked;
+use crate::curves::numbers::{is_within, rounded_gap};
+use crate::curves::rows::Row;
+use crate::curves::terms::Asked;
 use anyhow::{Result, bail};
 use curve_bootstrap::{BuildFault, CurvePlans, build, build_by};
 use curve_points::{CurveNode, CurveValue};
 use curve_terms::is_in_range;
 use day_number::read_day;
 use desk_names::ObjId;
+use row_markets::{Tally, whole_factor};
 use std::alloc::Global;
 
 // What the row's helpers give, also by what is kept of the rows before it. None where they cannot be read, or are out of

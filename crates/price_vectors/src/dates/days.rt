@@ -1,5 +1,5 @@
 // Days, their places and days moved by the calendar alone, by Python's datetime; tenors; Easter by Python's dateutil.
-use crate::row::{Row, RowFault};
+use crate::dates::row::{Row, RowFault};
 use day_number::{
     Day, Tenor, Unit, add_days, add_months, month_end, print_day, read_day, read_tenor, weekday,
 };

@@ -1,6 +1,6 @@
 // The markets of the table for which QuantLib has a curve, each with the curve of QuantLib's nodes.
-use crate::numbers::rounded_factor;
-use crate::rows::Row;
+use crate::curves::numbers::rounded_factor;
+use crate::curves::rows::Row;
 use anyhow::{Context, Result, bail};
 use curve_points::{CurveNode, CurveValue, NodeList, are_rising};
 use day_number::read_day;

@@ -1,6 +1,6 @@
 // Days that counters count, by QuantLib 1.29.
-use crate::calendar_text::calendar_of;
-use crate::row::{Row, RowFault};
+use crate::dates::calendar_text::calendar_of;
+use crate::dates::row::{Row, RowFault};
 use day_counters::fraction;
 use day_number::Day;
 use holiday_calendars::{Base, Calendar};

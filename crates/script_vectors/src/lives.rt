@@ -5,13 +5,12 @@
 // that byte so often.
 use crate::cases::{Cases, compare};
 use crate::tools::line;
-use crate::wholes::{number, parted, push_repeated};
+use crate::wholes::{number, parted, push_repeated, shelf_of, words_of};
 use desk_bench::DeskBench;
 use desk_edge::{CallList, MemoryFeed, MemorySink, SizeList};
 use live_run::{NAME, run_live};
 use std::alloc::{AllocError, Global};
 use std::io;
-use whole_cases::{shelf, words};
 
 // The most bytes that a case may write.
 const ROOM: usize = 250_000;
@@ -46,8 +45,8 @@ fn shown(alloc: Global, files: &str, input: &[u8], size: usize) -> Result<Vec<u8
     let sizes = sizes_of(alloc, input.len(), size)?;
     let mut feed = MemoryFeed::new(input.to_vec(alloc)?, sizes, CallList::new(alloc));
     let mut out = MemorySink::new(alloc, ROOM, 4096, CallList::new(alloc))?;
-    let mut shelf = shelf(alloc, files)?;
-    let words = words(alloc, files)?;
+    let mut shelf = shelf_of(alloc, files)?;
+    let words = words_of(alloc, files)?;
     let mut bench = DeskBench::new();
     let status = run_live(alloc, &words, &mut shelf, &mut feed, &mut out, &mut bench);
     let mut text = out.bytes().to_vec(alloc)?;

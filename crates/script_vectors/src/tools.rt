@@ -1,6 +1,7 @@
 // The tools: runs `desk_bump`, `desk_curve`, `desk_explain`, `desk_graph`, `desk_grid`, `desk_measure`, `desk_risk`, `desk_why` and `desk_yield` over
 // whole cases, and compares the bytes with those that an independent model writes.
 use crate::cases::{self, Cases};
+use crate::wholes::{shelf_of, words_of};
 use bond_tool::run_bond;
 use bump_run::run_bump;
 use curve_run::run_curve;
@@ -14,7 +15,6 @@ use risk_run::run_risk;
 use std::alloc::{AllocError, Global};
 use std::io;
 use tool_process::Ending;
-use whole_cases::{shelf, words};
 use why_run::run_why;
 use yield_run::YieldTool;
 
@@ -86,8 +86,8 @@ fn compare_file(rt: &HostRuntime, tool: Tool, file: &str) -> io::Result<()> {
 pub(crate) fn agrees(alloc: Global, tool: Tool, case: &str) -> Result<bool, AllocError> {
     match case.split_once("-- shown\n") {
         Some((given, text)) => {
-            let mut shelf = shelf(alloc, given)?;
-            let words = words(alloc, given)?;
+            let mut shelf = shelf_of(alloc, given)?;
+            let words = words_of(alloc, given)?;
             Ok(shown(alloc, tool, &words, &mut shelf)?.as_slice() == text.as_bytes())
         }
         None => Ok(false),

@@ -112,7 +112,7 @@ fn words_agree(
     words: &[String],
     wanted: &[u8],
 ) -> Result<bool, AllocError> {
-    let mut shelf = shelf(alloc, given)?;
+    let mut shelf = shelf_with(alloc, given.own, given.common)?;
     given.told.shows(alloc, words, &mut shelf, wanted)
 }
 
@@ -126,11 +126,24 @@ fn words(alloc: Global, line: &str, order: &str) -> Result<Vec<String>, AllocErr
     Ok(words)
 }
 
-// A shelf of the files of a case, and of no others.
-fn shelf(alloc: Global, given: Given<'_>) -> Result<MemoryShelf, AllocError> {
+/// The words of a case, which stand in its second line.
+pub(crate) fn words_of(alloc: Global, given: &str) -> Result<Vec<String>, AllocError> {
+    let (_, behind) = parted(given, "\n");
+    let (line, _) = parted(behind, "\n");
+    texts(alloc, line)
+}
+
+/// A shelf of the files of a case, and of no others: each stands behind a line `-- PATH`.
+pub(crate) fn shelf_of(alloc: Global, given: &str) -> Result<MemoryShelf, AllocError> {
+    let (_, parts) = parted(given, "-- ");
+    shelf_with(alloc, parts, "")
+}
+
+// A shelf of a case's own files and those for all cases.
+fn shelf_with(alloc: Global, own: &str, common: &str) -> Result<MemoryShelf, AllocError> {
     let mut files = FileList::new(alloc);
-    push_files(alloc, given.own, &mut files)?;
-    push_files(alloc, given.common, &mut files)?;
+    push_files(alloc, own, &mut files)?;
+    push_files(alloc, common, &mut files)?;
     Ok(MemoryShelf::new(files, 4096, CallList::new(alloc)))
 }
 

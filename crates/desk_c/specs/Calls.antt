@@ -1,8 +1,8 @@
 -- What the calls of a session for C give.
-use Rattle.std.specs.Prelude.{◌≡◌, ◌++◌, ◌^◌, ◌<◌, unsigned_abs, ◌*ℤ◌, ◌+ℤ◌, pos, ℕ, ℤ, nat_eq, if◌then◌else◌, List, [], take, drop, length, Option, Some, None, Ok, Err}
+use Rattle.std.specs.Prelude.{◌≡◌, ◌++◌, ◌^◌, ◌<◌, ◌≤◌, unsigned_abs, ◌*ℤ◌, ◌+ℤ◌, pos, ℕ, ℤ, nat_eq, if◌then◌else◌, true, List, [], take, drop, length, Option, Some, None, Ok, Err}
 use Rattle.std.specs.Result.{result_err}
 use Rattle.desk_bench.specs.Pricing.{desk_calc}
-use Rattle.desk_names.specs.Names.{place_of}
+use Rattle.desk_names.specs.Names.{has_text, place_of}
 use Rattle.desk_terms.specs.declared.asked.Mark.{Mark}
 use Rattle.desk_terms.specs.declared.cause.Cause.{Cause}
 use Rattle.desk_terms.specs.declared.asked.Mark.TheVariants.{Fresh, Frozen, Late, Held, Recalc}
@@ -103,6 +103,11 @@ pub record IsNotSet (name : List ℕ) (units : ℤ) (old new : Kept) : Type 0 wh
   pub resolves : resolve (standing_of old) (setting name units old) ≡ Err refusal
   pub same : standing_of new ≡ standing_of old
   pub next : new ≡ after_turn (setting name units old) old
+
+-- the name is known and the number within its limit, and an earlier line found no memory in its round
+abbrev pub IsHalted : List ℕ → ℤ → Kept → Type 0
+IsHalted name units kept =
+    (has_text (standing_of kept).names name ≡ true) × ((unsigned_abs units ≤ 10 ^ 18) × ((standing_of kept).stopped ≡ true))
 
 -- AN OBJECT IS ASKED: its answer is such a one, and nothing else is changed
 pub record Asks (name : List ℕ) (Told : Answer → Type 0) (old new : Kept) : Type 0 where

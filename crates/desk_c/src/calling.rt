@@ -2,7 +2,7 @@
 ghost use Rattle.std.specs.Prelude.{◌≡◌, ◌⊎◌, ◌↔◌, ◌^◌, ◌-◌, ◌<◌, ◌≤◌, ◌*ℤ◌, ◌+ℤ◌, pos, [], true, false, Ok, Err, IfOk, IfErr, unsigned_abs};
 ghost use Rattle.desk_names.specs.Names.{has_text};
 ghost use Rattle.pricing_session.specs.declared.answer.Worth.TheVariants.{Money};
-ghost use Rattle.desk_c.specs.Calls.{Says, IsCutOff, Sets, IsNotSet, Asks, IsPriced, IsUnpriced, IsCurve, IsNotAsked, IsAskCut, standing_of, mark_number};
+ghost use Rattle.desk_c.specs.Calls.{Says, IsCutOff, Sets, IsNotSet, Asks, IsPriced, IsUnpriced, IsCurve, IsNotAsked, IsAskCut, IsHalted, standing_of, mark_number};
 ghost use Rattle.desk_c.specs.declared.status.TheConstants.{DONE, NO_MEMORY, STOPPED, NO_NAME, REFUSED, RANGE, UNPRICED, NOT_MONEY};
 
 use crate::kept::Kept;
@@ -41,9 +41,9 @@ impl Kept {
         ensures sets { result ≡ DONE → Sets name.now units self.old self.new }
         ensures refused { result ≡ REFUSED → IsNotSet name.now units self.old self.new }
         ensures no_name { result ≡ NO_NAME ↔ (has_text (standing_of self.old).names name.now ≡ false) }
-        ensures range { result ≡ RANGE → 10 ^ 18 < unsigned_abs units }
+        ensures range { result ≡ RANGE ↔ ((has_text (standing_of self.old).names name.now ≡ true) × (10 ^ 18 < unsigned_abs units)) }
         ensures within { (result ≡ DONE) ⊎ (result ≡ REFUSED) → unsigned_abs units ≤ 10 ^ 18 }
-        ensures stopped { result ≡ STOPPED → (standing_of self.old).stopped ≡ true }
+        ensures stopped { result ≡ STOPPED ↔ IsHalted name.now units self.old }
         ensures same { (result ≡ NO_NAME) ⊎ ((result ≡ RANGE) ⊎ (result ≡ STOPPED)) → self.new ≡ self.old }
         ensures ends { (result ≡ DONE) ⊎ ((result ≡ REFUSED) ⊎ ((result ≡ NO_NAME) ⊎ ((result ≡ RANGE) ⊎ (result ≡ STOPPED)))) }
     {

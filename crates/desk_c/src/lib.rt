@@ -7,7 +7,7 @@ ghost use Rattle.std.specs.Prelude.{◌≡◌, ◌≢◌, ◌⊎◌, ◌↔◌, 
 ghost use Rattle.desk_names.specs.Names.{has_text};
 ghost use Rattle.desk_plan.specs.Status.{words_of};
 ghost use Rattle.desk_plan.specs.declared.status.Status.TheVariants as status;
-ghost use Rattle.desk_c.specs.Calls.{laid, order_in, standing_of, text_of, Both, Holds, Says, IsCutOff, Sets, IsNotSet, Asks, IsPriced, IsUnpriced, IsCurve, IsNotAsked, IsAskCut};
+ghost use Rattle.desk_c.specs.Calls.{laid, order_in, standing_of, text_of, Both, Holds, Says, IsCutOff, Sets, IsNotSet, Asks, IsPriced, IsUnpriced, IsCurve, IsNotAsked, IsAskCut, IsHalted};
 ghost use Rattle.desk_c.specs.Opening.{IsOpen, IsTold};
 ghost use Rattle.desk_c.specs.declared.status.TheConstants.{DONE, USAGE, MARKET, SCRIPT, NO_MEMORY, CLOSED, STOPPED, NO_NAME, REFUSED, RANGE, UNPRICED, NOT_MONEY};
 
@@ -137,9 +137,9 @@ pub extern "C" fn desk_c_set(alloc: Global, desk: &mut Desk, name: &[u8], units:
     ensures sets { result ≡ DONE → Both (Sets name.now units) desk.old.handle.value desk.new.handle.value }
     ensures refused { result ≡ REFUSED → Both (IsNotSet name.now units) desk.old.handle.value desk.new.handle.value }
     ensures no_name { result ≡ NO_NAME ↔ Holds (λ kept. has_text (standing_of kept).names name.now ≡ false) desk.old.handle.value }
-    ensures range { result ≡ RANGE → 10 ^ 18 < unsigned_abs units }
+    ensures range { result ≡ RANGE ↔ Holds (λ kept. (has_text (standing_of kept).names name.now ≡ true) × (10 ^ 18 < unsigned_abs units)) desk.old.handle.value }
     ensures within { (result ≡ DONE) ⊎ (result ≡ REFUSED) → unsigned_abs units ≤ 10 ^ 18 }
-    ensures stopped { result ≡ STOPPED → Holds (λ kept. (standing_of kept).stopped ≡ true) desk.old.handle.value }
+    ensures stopped { result ≡ STOPPED ↔ Holds (IsHalted name.now units) desk.old.handle.value }
     ensures closed { (result ≡ CLOSED) ↔ (desk.old.handle.value ≡ None) }
     ensures same { (result ≡ NO_NAME) ⊎ ((result ≡ RANGE) ⊎ ((result ≡ STOPPED) ⊎ (result ≡ CLOSED))) → desk.new.handle.value ≡ desk.old.handle.value }
     ensures ends { (result ≡ DONE) ⊎ ((result ≡ REFUSED) ⊎ ((result ≡ NO_NAME) ⊎ ((result ≡ RANGE) ⊎ ((result ≡ STOPPED) ⊎ (result ≡ CLOSED))))) }

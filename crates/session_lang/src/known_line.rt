@@ -1,9 +1,9 @@
 // The first line of a text, read at once where it is an ask or a set of known names.
-ghost use Rattle.std.specs.Prelude.{◌≡◌, ◌≤◌, ◌++◌, length, codes, nat_lt, slice_get, Some, false, IfSome};
+ghost use Rattle.std.specs.Prelude.{◌≡◌, ◌≤◌, ◌++◌, length, codes, nat_lt, false, IfSome};
 ghost use Rattle.std.specs.List.{prefix_len};
-ghost use Rattle.desk_names.specs.Names.{IsNames};
 ghost use Rattle.session_lang.specs.Reading.{IsFirstLine};
 
+use crate::met::{MOST_MET, number_of};
 use desk_names::{NameId, Names};
 use script_words::number_of_word;
 use session_commands::Command;
@@ -14,6 +14,7 @@ use session_commands::Command;
 pub(crate) fn known_line<'a>(
     text: &'a [u8],
     names: &Names,
+    met: &mut [NameId; MOST_MET],
     inside: bool,
 ) -> Option<(Command, &'a [u8])>
     ensures first { IfSome result (λ first. IsFirstLine names.now text.now first.0 first.1.now) }
@@ -23,25 +24,33 @@ pub(crate) fn known_line<'a>(
         return None;
     }
     match text {
-        [b'a', b's', b'k', b' ', rest @ ..] => ask_line(rest, names),
-        [b's', b'e', b't', b' ', rest @ ..] => set_line(rest, names),
+        [b'a', b's', b'k', b' ', rest @ ..] => ask_line(rest, names, met),
+        [b's', b'e', b't', b' ', rest @ ..] => set_line(rest, names, met),
         _ => None,
     }
 }
 
 // The same of what stands behind `ask `.
-fn ask_line<'a>(text: &'a [u8], names: &Names) -> Option<(Command, &'a [u8])>
+fn ask_line<'a>(
+    text: &'a [u8],
+    names: &Names,
+    met: &mut [NameId; MOST_MET],
+) -> Option<(Command, &'a [u8])>
     ensures { IfSome result (λ first. IsFirstLine names.now (codes "ask " ++ text.now) first.0 first.1.now) }
 {
     let (name, behind) = text.split_at(bytes_to_blank(text));
     let [b'\n', after @ ..] = behind else {
         return None;
     };
-    Some((Command::Ask(number_of(name, names)?), after))
+    Some((Command::Ask(number_of(name, names, met)?), after))
 }
 
 // The same of what stands behind `set `.
-fn set_line<'a>(text: &'a [u8], names: &Names) -> Option<(Command, &'a [u8])>
+fn set_line<'a>(
+    text: &'a [u8],
+    names: &Names,
+    met: &mut [NameId; MOST_MET],
+) -> Option<(Command, &'a [u8])>
     ensures { IfSome result (λ first. IsFirstLine names.now (codes "set " ++ text.now) first.0 first.1.now) }
 {
     let (name, behind) = text.split_at(bytes_to_blank(text));
@@ -53,17 +62,9 @@ fn set_line<'a>(text: &'a [u8], names: &Names) -> Option<(Command, &'a [u8])>
         return None;
     };
     Some((
-        Command::Set(number_of(name, names)?, number_of_word(value)?),
+        Command::Set(number_of(name, names, met)?, number_of_word(value)?),
         after,
     ))
-}
-
-// The number of a known name.
-fn number_of(text: &[u8], names: &Names) -> Option<NameId>
-    ensures at { IfSome result (λ name. slice_get names.now name ≡ Some text.now) }
-    ensures names { IsNames names.now }
-{
-    names.find(text)
 }
 
 // How many bytes stand before the first that is a space or less, or in all.

@@ -7,6 +7,7 @@
 mod fault;
 mod known_line;
 mod laws;
+mod met;
 mod print;
 mod read;
 mod statement;

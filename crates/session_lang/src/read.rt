@@ -14,9 +14,10 @@ ghost use Rattle.text_limits.specs.declared.limit.TheConstants.{MOST_BYTES};
 
 use crate::ScriptFault;
 use crate::known_line::known_line;
+use crate::met::MOST_MET;
 use crate::statement::read_line;
 use crate::steps::{Step, action_names_of, actions_of, add, all_linked, first_lacking, is_open};
-use desk_names::Names;
+use desk_names::{NameId, Names};
 use script_words::{LineFault, next_line};
 use session_commands::{CommandList, Script, ScriptKind};
 use std::alloc::Global;
@@ -82,11 +83,12 @@ fn read_lines(
     let mut commands = CommandList::new(alloc);
     let mut steps = Vec::new(alloc);
     let mut words = Vec::new(alloc);
+    let mut met = [NameId(0); MOST_MET];
     let mut open_at = None;
     let mut number = 1;
     let mut rest = text;
     while !rest.is_empty() {
-        match known_line(rest, names, is_open(open_at)) {
+        match known_line(rest, names, &mut met, is_open(open_at)) {
             Some((command, after)) => {
                 commands.push(command)?;
                 rest = after;

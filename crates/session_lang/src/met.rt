@@ -1,0 +1,48 @@
+// The names that were met lately, so that one that is met again is compared and not sought.
+ghost use Rattle.std.specs.Prelude.{◌≡◌, ◌<◌, Some, true, slice_get, IfSome};
+ghost use Rattle.desk_names.specs.Names.{IsNames};
+
+use desk_names::{NameId, Names};
+
+/// How many names are kept.
+pub(crate) const MOST_MET: usize = 64;
+
+/// The number of a known name. It is kept at a place by its first and last byte; what is kept there is looked at first.
+pub(crate) fn number_of(text: &[u8], names: &Names, met: &mut [NameId; MOST_MET]) -> Option<NameId>
+    ensures at { IfSome result (λ name. slice_get names.now name ≡ Some text.now) }
+    ensures names { IsNames names.now }
+{
+    let at = place_of(text);
+    let name = met[at];
+    if is_named(text, names, name) {
+        return Some(name);
+    }
+    let name = found(text, names)?;
+    met[at] = name;
+    Some(name)
+}
+
+// Whether a name has this number and this text.
+fn is_named(text: &[u8], names: &Names, name: NameId) -> bool
+    ensures named { result ≡ true → slice_get names.now name ≡ Some text.now }
+    ensures names { IsNames names.now }
+{
+    name.0 < names.len() && names.text(name) == text
+}
+
+// The number of a known name, sought.
+fn found(text: &[u8], names: &Names) -> Option<NameId>
+    ensures { IfSome result (λ name. slice_get names.now name ≡ Some text.now) }
+{
+    names.find(text)
+}
+
+// Where a name is kept.
+fn place_of(text: &[u8]) -> usize
+    ensures { result < 64 }
+{
+    match text {
+        [] => 0,
+        [first, ..] => (*first as usize + 3 * text[text.len() - 1] as usize) % MOST_MET,
+    }
+}

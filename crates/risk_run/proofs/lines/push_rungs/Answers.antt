@@ -30,7 +30,9 @@ module _ (names : List (List ℕ)) (of_object : List ℕ) (o : ℕ) (all rungs :
       sym (left ∙ ap (λ (l : List Bump). old ++ rungs_rows names of_object o all l (drop at rungs)) (drop_all at bumps past) ∙ append-nil old)
 
 pub push_bump-requires : goal.push_bump-requires
-push_bump-requires c = subst IsFew (sym c.index-bumps-at.is) (All-get_or IsFew c.args.bumps.now c.loop-at.at c.index-bumps-at.result c.loop-at-test.true c.requires.few)
+push_bump-requires c = record {
+  few = subst IsFew (sym c.index-bumps-at.is) (All-get_or IsFew c.args.bumps.now c.loop-at.at c.index-bumps-at.result c.loop-at-test.true c.requires.few);
+}
 
 pub loop-at-preserved : goal.loop-at-preserved
 loop-at-preserved c =

@@ -15,11 +15,12 @@ use Rattle.bump_model.specs.Moves.{with_values, all_set}
 use Rattle.bump_model.specs.Asking.{rung_asking, rungs_asking, ladder_asking}
 use Rattle.bump_model.specs.Quotes.{quotes_below}
 use Rattle.risk_run.specs.Asking.{names_asking}
-use Rattle.risk_run.specs.Lines.{figure_row, bump_rows, bumps_rows, refused_row, unnamed_row, name_text, names_text, risk_text}
+use Rattle.risk_run.specs.Curves.{curves_below}
+use Rattle.risk_run.specs.Lines.{figure_row, sum_rows, shift_rows, bump_rows, bumps_rows, refused_row, unnamed_row, name_text, names_text, risk_text}
 use Rattle.risk_run.proofs.rows.a_small_market_is_worked_through.Goals as goal
 
 pub returns : goal.returns
-unfolding digits has_text place_of decimal_text below_by reaches input_by input_at answer_by fresh is_frozen is_source is_late held_outcome seen_outcome now visit_by runs stored asked forwards told tell made notified revised quote_set with_made with_values all_set rung_asking rungs_asking ladder_asking quotes_below names_asking figure_row bump_rows bumps_rows refused_row unnamed_row name_text names_text risk_text
+unfolding digits has_text place_of decimal_text below_by reaches input_by input_at answer_by fresh is_frozen is_source is_late held_outcome seen_outcome now visit_by runs stored asked forwards told tell made notified revised quote_set with_made with_values all_set rung_asking rungs_asking ladder_asking quotes_below names_asking curves_below figure_row sum_rows shift_rows bump_rows bumps_rows refused_row unnamed_row name_text names_text risk_text
 returns c = record {
   stock = refl;
   refused = refl;

@@ -11,9 +11,11 @@ import importlib
 import pathlib
 import re
 import sys
+import types
 
 STEP = 10**5
 MOST = 10**10
+LARGEST = 10**22
 
 
 def nearest(top, bottom):
@@ -50,6 +52,49 @@ def measures(name, flows, settle, y):
     return "".join(line + "\n" for line in lines)
 
 
+def discounted(model, flows, settle, curve):
+    """The flows by the curve alone: what is paid after the day, each amount times its factor, divided by that of the day and rounded once."""
+    base = model.curves.disc(curve, settle)
+    out = []
+    for flow in flows:
+        if flow.paid > settle:
+            amount = nearest(flow.amount * model.curves.disc(curve, flow.paid), base)
+            if amount > LARGEST:
+                return None
+            out.append(types.SimpleNamespace(paid=flow.paid, amount=amount))
+    return out
+
+
+def spread(model, market, bond, settle, full):
+    """What is written of the spread behind the name: the least that meets the full price, over the curve of the bond's engine in a market priced afresh."""
+    state = model.session.State(market)
+    if bond.engine is None:
+        return "refused spread noengine"
+    kind, found = state.read_curve(state.objs[bond.engine].curve)
+    if kind == "object":
+        kind, found = state.fresh(found)
+    if kind != "value":
+        return "refused spread " + model.report.cause_text(state, found).decode()
+    try:
+        flows = discounted(model, bond.flows, settle, found)
+    except model.curves.Refused as refused:
+        return "refused spread " + model.report.cause_text(state, refused.cause).decode()
+    if flows is None:
+        return "refused spread toolarge"
+    low, high = 0, MOST
+    if full > price(flows, settle, low):
+        return f"refused spread above {decimal(price(flows, settle, low), 6)}"
+    if full < price(flows, settle, high):
+        return f"refused spread below {decimal(price(flows, settle, high), 6)}"
+    while low < high:
+        middle = (low + high) // 2
+        if price(flows, settle, middle) <= full:
+            high = middle
+        else:
+            low = middle + 1
+    return f"spread {decimal(high, 9)}"
+
+
 def decimal(units, places):
     sign = "-" if units < 0 else ""
     return f"{sign}{abs(units) // 10**places}.{abs(units) % 10**places:0{places}d}"
@@ -76,9 +121,11 @@ def shown(model, given):
     if not found:
         return text
     market = model.cli.load_market(model.outside.MemoryShelf(files, 4096), words[0], "desk_measure")
-    flows = market.made[market.by_name[words[1].encode()]].flows
+    bond = market.made[market.by_name[words[1].encode()]]
     settle = model.days.read_day(words[2].encode())
-    return text + measures(found[1], flows, settle, int(found[2] + found[3]))
+    full = int(re.search(r"^\w+ full (-?\d+\.\d{6})\n", text, re.M)[1].replace(".", ""))
+    text += measures(found[1], bond.flows, settle, int(found[2] + found[3]))
+    return f"{text}{found[1]} {spread(model, market, bond, settle, full)}\n"
 
 
 class Model:
@@ -87,7 +134,7 @@ class Model:
     def __init__(self, folder):
         folder = pathlib.Path(folder).resolve()
         sys.path.insert(0, str(folder.parent))
-        for name in ("cli", "config", "days", "outside", "tools"):
+        for name in ("cli", "config", "curves", "days", "outside", "report", "session", "tools"):
             setattr(self, name, importlib.import_module(f"{folder.name}.{name}"))
         # the last of the formats that it knows
         self.config.set_stage(20)

@@ -4,11 +4,10 @@ use Rattle.curve_points.specs.Curve.{Curve}
 use Rattle.curve_points.specs.Point.{discount_at}
 use Rattle.flow_terms.specs.declared.flows.FlowTerm.{FlowTerm}
 use Rattle.flow_terms.specs.declared.flows.FlowTerm.TheVariants.{Known}
-use Rattle.bond_yield.specs.declared.bonds.YieldFault.TheVariants.{Above, Below}
 use Rattle.bond_yield.specs.Price.{full_price}
 use Rattle.bond_yield.specs.Rows.{hundred, two_years, coupon}
 use Rattle.bond_spread.specs.declared.spreads.SpreadFault.{SpreadFault}
-use Rattle.bond_spread.specs.declared.spreads.SpreadFault.TheVariants.{Before, Past, TooLarge, Unmet}
+use Rattle.bond_spread.specs.declared.spreads.SpreadFault.TheVariants.{Before, Past, TooLarge, Above, Below}
 use Rattle.bond_spread.specs.Spread.{discounted_from, spread_of}
 
 -- 0.990099009901 on 2024-04-11; 0.96 on 2025-01-05 and 0.9245 on 2026-01-05; 0.1 on 2024-02-21 and 0.2 on 2024-04-11
@@ -58,8 +57,8 @@ pub record AreWorked : Type 0 where
   pub settled_met : full_price second_by (pos 20_094) 54_397_596 ≡ pos 949_999_999_384
   pub settled_less : full_price second_by (pos 20_094) 54_397_595 ≡ pos 950_000_000_283
   pub at_the_curve : full_price (one (pos 99_009_901)) (pos 19_724) 0 ≡ pos 99_009_901
-  pub above : spread_of short hundred (pos 19_724) (pos 99_009_902) ≡ Err (Unmet (Above (pos 99_009_901)))
-  pub below : spread_of short hundred (pos 19_724) (pos 1_000_000) ≡ Err (Unmet (Below (pos 26_475_175)))
+  pub above : spread_of short hundred (pos 19_724) (pos 99_009_902) ≡ Err (Above (pos 99_009_901))
+  pub below : spread_of short hundred (pos 19_724) (pos 1_000_000) ≡ Err (Below (pos 26_475_175))
   pub before_the_curve : spread_of short hundred (pos 19_723) (pos 1) ≡ Err (Before (pos 19_723))
   pub past_the_curve : spread_of short two_years (pos 19_825) (pos 1) ≡ Err (Past (pos 19_825))
   pub paid_past : spread_of short two_years (pos 19_726) (pos 1) ≡ Err (Past (pos 20_094))

@@ -10,10 +10,11 @@ use Rattle.flow_terms.specs.declared.flows.FlowTerm.TheVariants.{Known}
 use Rattle.flow_terms.specs.declared.limits.TheConstants.{MOST_AMOUNT}
 use Rattle.flow_terms.specs.Flows.{paid_on}
 use Rattle.bond_yield.specs.declared.bonds.YieldFault.{YieldFault}
+use Rattle.bond_yield.specs.declared.bonds.YieldFault.TheVariants as yielded
 use Rattle.bond_yield.specs.Price.{amount_of, is_after}
 use Rattle.bond_yield.specs.Yield.{price_fault, least_yield, fault_or}
 use Rattle.bond_spread.specs.declared.spreads.SpreadFault.{SpreadFault}
-use Rattle.bond_spread.specs.declared.spreads.SpreadFault.TheVariants.{Before, Past, TooLarge, Unmet}
+use Rattle.bond_spread.specs.declared.spreads.SpreadFault.TheVariants.{Before, Past, TooLarge, Above, Below}
 
 -- a day at which a curve has no factor
 abbrev pub off_curve : PointFault → ℤ → SpreadFault
@@ -49,10 +50,16 @@ abbrev pub discounted_from : Curve → ℤ → Result ℤ PointFault → List Fl
 discounted_from curve settle (Ok base) flows = discounted curve settle base flows
 discounted_from curve settle (Err fault) flows = Err (off_curve fault settle)
 
--- a yield of discounted flows, or why they have none
+-- why discounted flows have no yield. (The last two are never so of a price.)
+abbrev pub unmet : YieldFault → SpreadFault
+unmet (yielded.Above price) = Above price
+unmet (yielded.Below price) = Below price
+unmet yielded.NotFixed = TooLarge
+unmet yielded.NoFlow = TooLarge
+
 abbrev pub met : Result ℤ YieldFault → Result ℤ SpreadFault
 met (Ok yield) = Ok yield
-met (Err fault) = Err (Unmet fault)
+met (Err fault) = Err (unmet fault)
 
 -- the spread of discounted flows: their yield at a full price
 abbrev pub spread_over : ℤ → ℤ → Result (List FlowTerm) SpreadFault → Result ℤ SpreadFault

@@ -27,9 +27,12 @@ pub enum SpreadFault {
     /// A flow by the curve is beyond 10^22 units.
     #[error("a flow by the curve is too large")]
     TooLarge,
-    /// The price is above that at a spread of 0 (`Above`), or below that at the greatest, 10 (`Below`).
-    #[error("no spread meets the price")]
-    Unmet(YieldFault),
+    /// The price asked is above this one, that at a spread of 0.
+    #[error("the price is above that at a spread of 0")]
+    Above(Amount),
+    /// The price asked is below this one, that at the greatest spread, 10.
+    #[error("the price is below that at the greatest spread")]
+    Below(Amount),
 }
 
 /// The spread of a fixed bond over a curve on a settlement day at a full price, in units of 10^-9: the least from 0 to 10 at which
@@ -71,9 +74,28 @@ fn spread_over(flows: &[FlowTerm], settle: Day, price: Amount) -> Result<Rate, S
     requires count { length flows.now ≤ MOST_FLOWS }
     ensures { result ≡ spread.spread_over settle price (Ok flows.now) }
 {
-    match yield_at(flows, settle, price) {
+    met(yield_at(flows, settle, price))
+}
+
+// The spread that is a yield of discounted flows.
+fn met(found: Result<Rate, YieldFault>) -> Result<Rate, SpreadFault>
+    ensures { result ≡ spread.met found }
+{
+    match found {
         Ok(rate) => Ok(rate),
-        Err(fault) => Err(SpreadFault::Unmet(fault)),
+        Err(fault) => Err(unmet(fault)),
+    }
+}
+
+// Why discounted flows have no yield.
+fn unmet(fault: YieldFault) -> SpreadFault
+    ensures { result ≡ spread.unmet fault }
+{
+    match fault {
+        YieldFault::Above(price) => SpreadFault::Above(price),
+        YieldFault::Below(price) => SpreadFault::Below(price),
+        YieldFault::NotFixed => SpreadFault::TooLarge,
+        YieldFault::NoFlow => SpreadFault::TooLarge,
     }
 }
 

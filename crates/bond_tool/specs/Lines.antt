@@ -12,7 +12,7 @@ use Rattle.bond_yield.specs.Yield.{yield_of}
 use Rattle.bond_tool.specs.declared.named.Place.{Place}
 use Rattle.bond_tool.specs.declared.named.Place.TheVariants as place
 use Rattle.bond_tool.specs.Named.{place_named}
-use Rattle.bond_tool.specs.Wording.{Wording}
+use Rattle.bond_tool.specs.Wording.{Bond, Wording}
 
 -- `NAME WORD VALUE`
 abbrev pub value_line : List ℕ → List ℕ → ℤ → ℕ → List ℕ
@@ -46,40 +46,53 @@ fault_text name interest clean NoFlow = refused_line name (codes "noflow")
 fault_text name interest clean (Above price) = beyond_text name interest clean (codes "refused above") price
 fault_text name interest clean (Below price) = beyond_text name interest clean (codes "refused below") price
 
--- the lines of flows by their yield, with what is said behind it, or by why they have none
-abbrev pub answer_text : Wording → List ℕ → List FlowTerm → ℤ → ℤ → Result ℤ YieldFault → List ℕ
-answer_text said name flows settle clean (Ok yield) =
-    yield_text name (accrued flows settle) clean yield ++ said.more name flows settle (unsigned_abs yield)
-answer_text said name flows settle clean (Err fault) = fault_text name (accrued flows settle) clean fault
+-- a bond of a market that has a yield at a clean price
+abbrev pub bond_at : Market → Option ℕ → List ℕ → List FlowTerm → ℤ → ℤ → ℤ → Bond
+bond_at market engine name flows settle clean yield = record {
+  market = market;
+  engine = engine;
+  name = name;
+  flows = flows;
+  settle = settle;
+  full = clean +ℤ accrued flows settle;
+  yield = unsigned_abs yield;
+}
 
-abbrev pub bond_text : Wording → List ℕ → List FlowTerm → ℤ → ℤ → List ℕ
-bond_text said name flows settle clean = answer_text said name flows settle clean (yield_of flows settle clean)
+-- the lines of flows by their yield, with what is said behind it, or by why they have none
+abbrev pub answer_text : Wording → Market → Option ℕ → List ℕ → List FlowTerm → ℤ → ℤ → Result ℤ YieldFault → List ℕ
+answer_text said market engine name flows settle clean (Ok yield) =
+    yield_text name (accrued flows settle) clean yield ++ said.more (bond_at market engine name flows settle clean yield)
+answer_text said market engine name flows settle clean (Err fault) = fault_text name (accrued flows settle) clean fault
+
+abbrev pub bond_text : Wording → Market → Option ℕ → List ℕ → List FlowTerm → ℤ → ℤ → List ℕ
+bond_text said market engine name flows settle clean =
+    answer_text said market engine name flows settle clean (yield_of flows settle clean)
 
 -- the lines of an object by its terms: only a bond, a swap or a forward rate agreement has flows
-abbrev pub terms_text : Wording → Terms → List ℕ → ℤ → ℤ → List ℕ
-terms_text said (Flows flows engine) name settle clean = bond_text said name flows.flows settle clean
-terms_text said (Quote value) name settle clean = unnamed_line said (codes "kind") name
-terms_text said (Derived minus first second) name settle clean = unnamed_line said (codes "kind") name
-terms_text said (Handle kind target) name settle clean = unnamed_line said (codes "kind") name
-terms_text said (Curve terms) name settle clean = unnamed_line said (codes "kind") name
-terms_text said (Implied curve reference) name settle clean = unnamed_line said (codes "kind") name
-terms_text said (Index terms fixings) name settle clean = unnamed_line said (codes "kind") name
-terms_text said (Engine curve) name settle clean = unnamed_line said (codes "kind") name
-terms_text said (Stock quote) name settle clean = unnamed_line said (codes "kind") name
-terms_text said (Composite parts) name settle clean = unnamed_line said (codes "kind") name
+abbrev pub terms_text : Wording → Market → Terms → List ℕ → ℤ → ℤ → List ℕ
+terms_text said market (Flows flows engine) name settle clean = bond_text said market engine name flows.flows settle clean
+terms_text said market (Quote value) name settle clean = unnamed_line said (codes "kind") name
+terms_text said market (Derived minus first second) name settle clean = unnamed_line said (codes "kind") name
+terms_text said market (Handle kind target) name settle clean = unnamed_line said (codes "kind") name
+terms_text said market (Curve terms) name settle clean = unnamed_line said (codes "kind") name
+terms_text said market (Implied curve reference) name settle clean = unnamed_line said (codes "kind") name
+terms_text said market (Index terms fixings) name settle clean = unnamed_line said (codes "kind") name
+terms_text said market (Engine curve) name settle clean = unnamed_line said (codes "kind") name
+terms_text said market (Stock quote) name settle clean = unnamed_line said (codes "kind") name
+terms_text said market (Composite parts) name settle clean = unnamed_line said (codes "kind") name
 
-abbrev pub entry_text : Wording → Option (ℕ × Terms) → List ℕ → ℤ → ℤ → List ℕ
-entry_text said None name settle clean = unnamed_line said (codes "unknown") name
-entry_text said (Some entry) name settle clean = terms_text said entry.1 name settle clean
+abbrev pub entry_text : Wording → Market → Option (ℕ × Terms) → List ℕ → ℤ → ℤ → List ℕ
+entry_text said market None name settle clean = unnamed_line said (codes "unknown") name
+entry_text said market (Some entry) name settle clean = terms_text said market entry.1 name settle clean
 
-abbrev pub place_text : Wording → List (ℕ × Terms) → Place → List ℕ → ℤ → ℤ → List ℕ
-place_text said made place.Nowhere name settle clean = unnamed_line said (codes "unknown") name
-place_text said made place.Today name settle clean = unnamed_line said (codes "kind") name
-place_text said made (place.Object at) name settle clean = entry_text said (slice_get made at) name settle clean
+abbrev pub place_text : Wording → Market → Place → List ℕ → ℤ → ℤ → List ℕ
+place_text said market place.Nowhere name settle clean = unnamed_line said (codes "unknown") name
+place_text said market place.Today name settle clean = unnamed_line said (codes "kind") name
+place_text said market (place.Object at) name settle clean = entry_text said market (slice_get market.made at) name settle clean
 
 -- THE LINES of a name in a market
-abbrev pub name_text : Wording → List (List ℕ) → List (ℕ × Terms) → List ℕ → ℤ → ℤ → List ℕ
-name_text said names made name settle clean = place_text said made (place_named names name) name settle clean
+abbrev pub name_text : Wording → Market → List ℕ → ℤ → ℤ → List ℕ
+name_text said market name settle clean = place_text said market (place_named market.names name) name settle clean
 
 unfoldable pub market_text : Wording → Market → List ℕ → ℤ → ℤ → List ℕ
-market_text said market name settle clean = name_text said market.names market.made name settle clean
+market_text said market name settle clean = name_text said market name settle clean

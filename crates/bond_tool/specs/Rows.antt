@@ -24,7 +24,7 @@ small = record {
 
 -- a program that says nothing behind the yield, and what it writes of this market
 abbrev pub plain : Wording
-plain = record { word = codes "yield"; more = λ name flows settle yield. [] }
+plain = record { word = codes "yield"; more = λ bond. [] }
 
 abbrev pub shown : List ℕ → ℤ → ℤ → List ℕ
 shown name settle clean = market_text plain small name settle clean

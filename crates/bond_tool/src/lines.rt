@@ -4,41 +4,43 @@ ghost use Rattle.jiff_core.specs.Calendar.{IsWithin};
 ghost use Rattle.desk_terms.specs.declared.terms.Terms.{Terms};
 ghost use Rattle.flow_terms.specs.declared.limits.TheConstants.{MOST_AMOUNT, MOST_FLOWS};
 ghost use Rattle.flow_terms.specs.Ranges.{AreFlowsInRange};
-ghost use Rattle.market_file.specs.Standing.{AreLimited};
+ghost use Rattle.market_file.specs.Standing.{AreLimited, IsReady};
 ghost use Rattle.bond_yield.specs.declared.yields.TheConstants.{MOST_YIELD};
 ghost use Rattle.bond_yield.specs.Accrued as accrual;
 ghost use Rattle.bond_yield.specs.Fixed.{is_fixed};
 ghost use Rattle.bond_yield.specs.Yield.{yield_of};
+ghost use Rattle.tool_run.specs.Market.{market_in};
 ghost use Rattle.bond_tool.specs.Lines as text;
 ghost use Rattle.bond_tool.specs.Named.{IsTaken};
 ghost use Rattle.bond_tool.specs.Words.{most_price};
 
 use crate::named::{Place, place_named};
-use crate::{BondTool, MONEY_PLACES, RATE_PLACES, push_refused, push_value};
+use crate::{Bond, BondTool, MONEY_PLACES, RATE_PLACES, push_refused, push_value};
 use bond_yield::{YieldFault, accrued, bond_yield};
 use day_number::Day;
-use desk_names::{NameId, Names};
+use desk_names::ObjId;
 use desk_terms::{FlowTerms, Terms};
 use fixed_amount::{Amount, Rate};
 use std::alloc::{AllocError, Global};
+use tool_run::OpenMarket;
 
 // The lines of a name in a market.
 pub(crate) fn name_lines<T: BondTool>(
     alloc: Global,
-    names: &Names,
-    made: &[(NameId, Terms)],
+    market: &OpenMarket,
     name: &[u8],
     settle: Day,
     clean: Amount,
 ) -> Result<Vec<u8>, AllocError>
-    requires { IsTaken made.now clean }
-    ensures { IfOk result (λ lines. lines.items ≡ text.name_text T.wording names.now made.now name.now settle clean) }
+    requires ready { IsReady market.now.names market.now.made.items }
+    requires taken { IsTaken market.now.made.items clean }
+    ensures { IfOk result (λ lines. lines.items ≡ text.name_text T.wording (market_in market.now) name.now settle clean) }
 {
-    match place_named(names, name) {
+    match place_named(&market.names, name) {
         Place::Nowhere => unnamed_line::<T>(alloc, b"unknown", name),
         Place::Today => unnamed_line::<T>(alloc, b"kind", name),
-        Place::Object(place) => match made.get(place) {
-            Some((_, terms)) => terms_lines::<T>(alloc, terms, name, settle, clean),
+        Place::Object(place) => match market.made.get(place) {
+            Some((_, terms)) => terms_lines::<T>(alloc, market, terms, name, settle, clean),
             None => unnamed_line::<T>(alloc, b"unknown", name),
         },
     }
@@ -47,17 +49,21 @@ pub(crate) fn name_lines<T: BondTool>(
 // The lines of an object by its terms: only a bond, a swap or a forward rate agreement has flows.
 fn terms_lines<T: BondTool>(
     alloc: Global,
+    market: &OpenMarket,
     terms: &Terms,
     name: &[u8],
     settle: Day,
     clean: Amount,
 ) -> Result<Vec<u8>, AllocError>
+    requires ready { IsReady market.now.names market.now.made.items }
     requires limited { AreLimited terms.now }
     requires price { IsWithin most_price clean }
-    ensures { IfOk result (λ lines. lines.items ≡ text.terms_text T.wording terms.now name.now settle clean) }
+    ensures { IfOk result (λ lines. lines.items ≡ text.terms_text T.wording (market_in market.now) terms.now name.now settle clean) }
 {
     match terms {
-        Terms::Flows(flows, _) => bond_lines::<T>(alloc, flows, name, settle, clean),
+        Terms::Flows(flows, engine) => {
+            bond_lines::<T>(alloc, market, *engine, flows, name, settle, clean)
+        }
         Terms::Quote(_)
         | Terms::Derived { .. }
         | Terms::Handle { .. }
@@ -73,17 +79,21 @@ fn terms_lines<T: BondTool>(
 // The lines of flows.
 fn bond_lines<T: BondTool>(
     alloc: Global,
+    market: &OpenMarket,
+    engine: Option<ObjId>,
     flows: &FlowTerms,
     name: &[u8],
     settle: Day,
     clean: Amount,
 ) -> Result<Vec<u8>, AllocError>
+    requires ready { IsReady market.now.names market.now.made.items }
     requires range { AreFlowsInRange flows.now }
     requires price { IsWithin most_price clean }
-    ensures { IfOk result (λ lines. lines.items ≡ text.bond_text T.wording name.now flows.now.flows settle clean) }
+    ensures { IfOk result (λ lines. lines.items
+        ≡ text.bond_text T.wording (market_in market.now) engine name.now flows.now.flows settle clean) }
 {
     match bond_yield(flows, settle, clean) {
-        Ok(y) => found_lines::<T>(alloc, flows, name, settle, clean, y),
+        Ok(y) => found_lines::<T>(alloc, market, engine, flows, name, settle, clean, y),
         Err(fault) => fault_lines(alloc, flows, name, settle, clean, fault),
     }
 }
@@ -91,12 +101,15 @@ fn bond_lines<T: BondTool>(
 // The lines of a bond that has a yield, with what is said behind it.
 fn found_lines<T: BondTool>(
     alloc: Global,
+    market: &OpenMarket,
+    engine: Option<ObjId>,
     flows: &FlowTerms,
     name: &[u8],
     settle: Day,
     clean: Amount,
     y: Rate,
 ) -> Result<Vec<u8>, AllocError>
+    requires ready { IsReady market.now.names market.now.made.items }
     requires range { AreFlowsInRange flows.now }
     requires price { IsWithin most_price clean }
     requires fixed { is_fixed flows.now.flows ≡ true }
@@ -104,17 +117,20 @@ fn found_lines<T: BondTool>(
     requires high { unsigned_abs y ≤ MOST_YIELD }
     ensures { IfOk result (λ lines. lines.items
         ≡ text.yield_text name.now (accrual.accrued flows.now.flows settle) clean y
-        ++ T.wording.more name.now flows.now.flows settle (unsigned_abs y)) }
+        ++ T.wording.more (text.bond_at (market_in market.now) engine name.now flows.now.flows settle clean y)) }
 {
-    let mut lines = yield_lines(alloc, name, accrued(flows, settle), clean, y)?;
-    T::push_more(
-        alloc,
-        flows,
+    let interest = accrued(flows, settle);
+    let mut lines = yield_lines(alloc, name, interest, clean, y)?;
+    let bond = Bond {
+        market,
+        engine,
         name,
+        flows,
         settle,
-        y.units().unsigned_abs(),
-        &mut lines,
-    )?;
+        full: sum(clean, interest),
+        y: y.units().unsigned_abs(),
+    };
+    T::push_more(alloc, &bond, &mut lines)?;
     Ok(lines)
 }
 

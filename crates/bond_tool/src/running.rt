@@ -8,6 +8,7 @@ ghost use Rattle.tool_run.specs.Market.{wanted_in};
 ghost use Rattle.tool_run.specs.Run.{status_of, given_for, IsAccepted, IsThere};
 ghost use Rattle.tool_run.specs.Stage.{IsOutside, IsEarly, IsQuiet, Writes, faults_then};
 ghost use Rattle.tool_run.specs.Status.{stage_of};
+ghost use Rattle.market_file.specs.Standing.{IsReady};
 ghost use Rattle.bond_tool.specs.Named.{IsTaken};
 ghost use Rattle.bond_tool.specs.Verdict.{Wanted as Asked, verdict_of, output_in, reading_calls};
 ghost use Rattle.bond_tool.specs.Words.{request_in, request_of};
@@ -81,14 +82,14 @@ pub fn run_bond<T: BondTool, H: Shelf, K: Sink>(
 
 // The lines of what is wanted.
 fn lines_of<T: BondTool>(alloc: Global, found: &Found<Request<'_>>) -> Result<Vec<u8>, AllocError>
+    requires ready { IsReady found.now.market.names found.now.market.made.items }
     requires taken { IsTaken found.now.market.made.items found.now.request.clean }
     ensures { IfOk result (λ lines. lines.items ≡ output_in T.wording (wanted_in request_in found.now)) }
 {
     let Found { market, request } = found;
     name_lines::<T>(
         alloc,
-        &market.names,
-        &market.made,
+        market,
         request.name.as_bytes(),
         request.settle,
         request.clean,

@@ -1,7 +1,27 @@
 // A program about a bond.
 use day_number::Day;
+use desk_names::ObjId;
+use fixed_amount::Amount;
 use flow_terms::FlowTerms;
 use std::alloc::{AllocError, Global};
+use tool_run::OpenMarket;
+
+/// A bond of a market that has a yield at a price.
+#[derive(Clone, Copy)]
+pub struct Bond<'a> {
+    /// Its market.
+    pub market: &'a OpenMarket,
+    /// The engine that it names there.
+    pub engine: Option<ObjId>,
+    pub name: &'a [u8],
+    pub flows: &'a FlowTerms,
+    /// The settlement day.
+    pub settle: Day,
+    /// The price with the interest that has accrued.
+    pub full: Amount,
+    /// Its yield there, in units of 10^-9.
+    pub y: u64,
+}
 
 /// A program about a bond, told from another by what it says beside the accrued interest, the price and the yield.
 pub trait BondTool {
@@ -9,6 +29,8 @@ pub trait BondTool {
     ghost use Rattle.flow_terms.specs.Ranges.{AreFlowsInRange};
     ghost use Rattle.bond_yield.specs.declared.yields.TheConstants.{MOST_YIELD};
     ghost use Rattle.bond_yield.specs.Fixed.{is_fixed};
+    ghost use Rattle.market_file.specs.Standing.{IsReady};
+    ghost use Rattle.bond_tool.specs.Asked.{bond_in};
     ghost use Rattle.bond_tool.specs.Wording.{Wording};
 
     /// What it says.
@@ -18,18 +40,11 @@ pub trait BondTool {
     fn word() -> &'static [u8]
         ensures { result.now ≡ wording.word };
 
-    /// Appends what it says behind the line of a yield, in units of 10^-9 from 0 to 10, of a bond with these flows on a
-    /// settlement day.
-    fn push_more(
-        alloc: Global,
-        flows: &FlowTerms,
-        name: &[u8],
-        settle: Day,
-        y: u64,
-        out: &mut Vec<u8>,
-    ) -> Result<(), AllocError>
-        requires range { AreFlowsInRange flows.now }
-        requires fixed { is_fixed flows.now.flows ≡ true }
-        requires high { y ≤ MOST_YIELD }
-        ensures { OnOk result (out.new.items ≡ out.old.items ++ wording.more name.now flows.now.flows settle y) };
+    /// Appends what it says behind the line of a yield.
+    fn push_more(alloc: Global, bond: &Bond<'_>, out: &mut Vec<u8>) -> Result<(), AllocError>
+        requires ready { IsReady bond.now.market.now.names bond.now.market.now.made.items }
+        requires range { AreFlowsInRange bond.now.flows.now }
+        requires fixed { is_fixed bond.now.flows.now.flows ≡ true }
+        requires high { bond.now.y ≤ MOST_YIELD }
+        ensures { OnOk result (out.new.items ≡ out.old.items ++ wording.more (bond_in bond.now)) };
 }

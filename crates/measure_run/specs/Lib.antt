@@ -1,4 +1,6 @@
+pub mod Curves
 pub mod Lines
 pub mod Rows
 pub mod Says
+pub mod Spreads
 pub mod Verdict

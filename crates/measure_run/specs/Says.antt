@@ -1,7 +1,13 @@
 -- What `desk_measure` says of a bond beside its accrued interest, price and yield (this project's profile).
-use Rattle.std.specs.Prelude.{codes}
-use Rattle.bond_tool.specs.Wording.{Wording}
+use Rattle.std.specs.Prelude.{List, ℕ, ◌++◌, codes}
+use Rattle.desk_terms.specs.Reading.{Calc}
+use Rattle.bond_tool.specs.Wording.{Bond, Wording}
 use Rattle.measure_run.specs.Lines.{measures_text}
+use Rattle.measure_run.specs.Spreads.{spread_text}
 
-abbrev pub measure_says : Wording
-measure_says = record { word = codes "measure"; more = measures_text }
+-- its measures and, by a way to price curves, its spread
+abbrev pub bond_text : Calc → Bond → List ℕ
+bond_text calc bond = measures_text bond.name bond.flows bond.settle bond.yield ++ spread_text calc bond
+
+abbrev pub measure_says : Calc → Wording
+measure_says calc = record { word = codes "measure"; more = bond_text calc }

@@ -3,6 +3,7 @@ use Rattle.std.specs.Prelude.{ℕ, List, Result}
 use Rattle.market_loader.specs.Files.{Files}
 use Rattle.tool_run.specs.declared.status.MarketStatus.{MarketStatus}
 use Rattle.bond_tool.specs.Verdict as bond
+use Rattle.desk_bench.specs.Pricing.{desk_calc}
 use Rattle.measure_run.specs.Says.{measure_says}
 
 -- a market, and what is asked of it: the name of the bond that is wanted, the settlement day and the clean price
@@ -19,4 +20,4 @@ reading_calls = bond.reading_calls
 
 -- the bytes that are written
 abbrev pub output_in : Wanted → List ℕ
-output_in = bond.output_in measure_says
+output_in = bond.output_in (measure_says desk_calc)

@@ -1,11 +1,14 @@
-//! What the program `desk_measure` says of a bond: behind the yield what a basis point does there.
+//! What the program `desk_measure` says of a bond: behind the yield what a basis point does there, and its spread
+//! over the curve of its engine.
 //!
 //! `run_measure`; `MeasureTool`, by which `run_bond` of bond_tool does it; `NAME`, `MeasureStatus`.
 #![tactic(auto)]
 
+mod curves;
 mod lines;
 mod rows;
 mod running;
+mod spreads;
 mod tool;
 
 pub use running::run_measure;

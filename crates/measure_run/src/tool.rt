@@ -1,48 +1,42 @@
 // What the program says.
 use crate::lines::{push_gain, push_measure};
+use crate::spreads::push_spread;
 use bond_measure::{convexity, duration};
-use bond_tool::{BondTool, RATE_PLACES};
-use day_number::Day;
-use flow_terms::FlowTerms;
+use bond_tool::{Bond, BondTool, RATE_PLACES};
 use std::alloc::{AllocError, Global};
 
-/// The program `desk_measure`, which writes the measures of a bond behind the line of its yield.
+/// The program `desk_measure`, which writes the measures of a bond behind the line of its yield, and its spread over the curve of its engine.
 pub struct MeasureTool;
 
 impl BondTool for MeasureTool {
+    ghost use Rattle.desk_bench.specs.Pricing.{desk_calc};
     ghost use Rattle.measure_run.specs.Says.{measure_says};
 
-    ghost wording = { measure_says };
+    ghost wording = { measure_says desk_calc };
 
     fn word() -> &'static [u8] {
         b"measure"
     }
 
     #[tactic(auto, unfolding(crate::specs::Lines::measures_text))]
-    fn push_more(
-        alloc: Global,
-        flows: &FlowTerms,
-        name: &[u8],
-        settle: Day,
-        y: u64,
-        out: &mut Vec<u8>,
-    ) -> Result<(), AllocError> {
-        push_gain(alloc, flows, name, settle, y, out)?;
+    fn push_more(alloc: Global, bond: &Bond<'_>, out: &mut Vec<u8>) -> Result<(), AllocError> {
+        push_gain(alloc, bond.flows, bond.name, bond.settle, bond.y, out)?;
         push_measure(
             alloc,
-            name,
+            bond.name,
             b"duration",
-            duration(flows, settle, y),
+            duration(bond.flows, bond.settle, bond.y),
             RATE_PLACES,
             out,
         )?;
         push_measure(
             alloc,
-            name,
+            bond.name,
             b"convexity",
-            convexity(flows, settle, y),
+            convexity(bond.flows, bond.settle, bond.y),
             0,
             out,
-        )
+        )?;
+        push_spread(alloc, bond, out)
     }
 }

@@ -72,6 +72,8 @@ pub(crate) fn compare(rt: &HostRuntime) -> io::Result<()> {
     // The same prices and days as for yields.
     compare_file(rt, Tool::Measure, "measure_by_hand")?;
     compare_file(rt, Tool::Measure, "measure_bonds")?;
+    // Prices at the curve and beyond, curves that are refused, days off the curve, flows beyond the limit.
+    compare_file(rt, Tool::Measure, "measure_spreads")?;
     // Prices at the limits and beyond, days on and beside those of coupons.
     compare_file(rt, Tool::Yield, "yield_by_hand")?;
     compare_file(rt, Tool::Yield, "yield_bonds")

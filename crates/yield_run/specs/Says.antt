@@ -3,4 +3,4 @@ use Rattle.std.specs.Prelude.{[], codes}
 use Rattle.bond_tool.specs.Wording.{Wording}
 
 abbrev pub yield_says : Wording
-yield_says = record { word = codes "yield"; more = λ name flows settle yield. [] }
+yield_says = record { word = codes "yield"; more = λ bond. [] }

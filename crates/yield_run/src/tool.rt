@@ -1,7 +1,5 @@
 // What the program says.
-use bond_tool::BondTool;
-use day_number::Day;
-use flow_terms::FlowTerms;
+use bond_tool::{Bond, BondTool};
 use std::alloc::{AllocError, Global};
 
 /// The program `desk_yield`, which ends with the line of the yield.
@@ -16,14 +14,7 @@ impl BondTool for YieldTool {
         b"yield"
     }
 
-    fn push_more(
-        _alloc: Global,
-        _flows: &FlowTerms,
-        _name: &[u8],
-        _settle: Day,
-        _y: u64,
-        _out: &mut Vec<u8>,
-    ) -> Result<(), AllocError> {
+    fn push_more(_alloc: Global, _bond: &Bond<'_>, _out: &mut Vec<u8>) -> Result<(), AllocError> {
         Ok(())
     }
 }

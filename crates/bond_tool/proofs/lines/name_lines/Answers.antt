@@ -1,0 +1,18 @@
+use Rattle.std.proofs.Common.{List, ℕ, IfOk, ◌≡◌, ◌∙◌, sym, subst}
+use Rattle.tool_run.specs.Market.{market_in}
+use Rattle.bond_tool.proofs.Placed.{object_text, nothing_text}
+use Rattle.bond_tool.proofs.lines.name_lines.Goals as goal
+
+pub returns-in-Some : goal.returns-in-Some
+returns-in-Some g c =
+    subst (λ (text : List ℕ). IfOk c.terms_lines.result (λ lines. lines.items ≡ text))
+    (object_text g.T.BondTool.wording (market_in c.args.market.now) c.args.name.now c.args.settle c.args.clean c.in-Object.place c.deref.result.now c.deref.ensures.value
+    (sym c.place_named.ensures ∙ c.in-Object.is) c.in-Some.field-0.now c.in-Some.ensures.lookup.0 c.in-Some.ensures.lookup.1)
+    c.terms_lines.ensures
+
+pub returns-in-None : goal.returns-in-None
+returns-in-None g c =
+    subst (λ (text : List ℕ). IfOk c.unnamed_line-in-None.result (λ lines. lines.items ≡ text))
+    (nothing_text g.T.BondTool.wording (market_in c.args.market.now) c.args.name.now c.args.settle c.args.clean c.in-Object.place c.deref.result.now c.deref.ensures.value
+    (sym c.place_named.ensures ∙ c.in-Object.is) c.in-None.ensures.lookup.0)
+    c.unnamed_line-in-None.ensures

@@ -9,7 +9,7 @@ use std::alloc::{AllocError, Global};
 
 // Each of these quotes by itself, and then all of them together.
 pub(crate) fn each_then_all(alloc: Global, quotes: Items<ObjId>) -> Result<Vec<Bump>, AllocError>
-    ensures { IfOk result (λ bumps. bumps.items ≡ each_then_all quotes.entry) }
+    ensures { IfOk result (λ bumps. bumps.items ≡ each_then_all quotes) }
 {
     let mut bumps = each(alloc, quotes.items())?;
     bumps.push(Bump::Together {

@@ -1,5 +1,5 @@
 -- What is put step by step is a front of what is to be put.
-use Rattle.std.proofs.Common.{◌≡◌, ◌∙◌, ap, sym, refl, ℕ, List, [], ◌∷◌, ◌++◌, append_assoc, append-nil, subst, take, drop, Option, None, Some}
+use Rattle.std.proofs.Common.{◌≡◌, ◌∙◌, ap, sym, refl, ℕ, List, [], ◌∷◌, ◌++◌, append_assoc, take, drop, Option, None, Some}
 use Rattle.std.proofs.lemmas.List.{take-append-drop}
 use Rattle.desk_edge.specs.Sink.{appended}
 use Rattle.desk_edge.proofs.SinkLemmas.{appended-appended, appended-nil}
@@ -15,10 +15,6 @@ append_cancel (x ∷ front) a b is = append_cancel front a b (cc)
 -- nothing was put
 pub put_none : (whole : List ℕ) (taken : Option (List ℕ)) → PutsFront whole taken taken
 put_none whole taken = ([], (whole, refl), sym (appended-nil taken))
-
--- all was put
-pub put_all : (whole : List ℕ) (old new : Option (List ℕ)) → new ≡ appended whole old → PutsFront whole old new
-put_all whole old new is = (whole, ([], sym (append-nil whole)), is)
 
 -- so many bytes were put
 pub put_some : (n : ℕ) (whole : List ℕ) (old new : Option (List ℕ)) → new ≡ appended (take n whole) old → PutsFront whole old new
@@ -58,10 +54,3 @@ answered line answers_old answers_new told told_now called called_now taken writ
       ∙ sym (appended-appended answers_old (told (line ∷ rest)) taken);
   calls = calls;
 }
-
--- what waits is put behind it
-pub answered_put : (line answers now : List ℕ) (told told_now : Told) (called called_now : Called) (old new before : Option (List ℕ))
-    → Answers line told told_now called called_now before (appended answers old) → now ≡ [] → new ≡ appended answers old
-    → Answers line told told_now called called_now before (appended now new)
-answered_put line answers now told told_now called called_now old new before is none put =
-    subst (λ (a : Option (List ℕ)). Answers line told told_now called called_now before a) (sym (after_put answers now old new none put)) is

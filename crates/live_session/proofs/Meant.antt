@@ -14,10 +14,6 @@ use Rattle.live_model.specs.Live.{unless_lacking, meaning}
 abbrev reads : Statement → Known → Result (Statement × Known) ScriptKind
 reads st next = Ok (st, next)
 
-pub meant_long : (known : Known) (inside : Bool) (line : List ℕ) → nat_lt MOST_LINE (length line) ≡ true → meaning known inside line ≡ Err fault.TooLong
-unfolding meaning
-meant_long known inside line long = ap (λ (b : Bool). cond b (Err fault.TooLong) (line_meaning known inside line >>= unless_lacking)) long
-
 module _ (known : Known) (inside : Bool) (line : List ℕ) (short : nat_lt MOST_LINE (length line) ≡ false) where
   meant_short : meaning known inside line ≡ (line_meaning known inside line >>= unless_lacking)
   unfolding meaning

@@ -13,7 +13,7 @@ use Rattle.observer_graph.specs.Stands.{Stands}
 use Rattle.observer_graph.specs.Walks.{graph_of}
 use Rattle.observer_graph.specs.GraphView.{GraphView, IsWhole, IsLive, IsLazy, IsPair, IsPlain, HasFlags, node_at, no_flags}
 use Rattle.observer_graph.specs.Notice.{Settles, unsettled}
-use Rattle.observer_graph.specs.Change.{with_node, with_flags, with_source, flagged}
+use Rattle.observer_graph.specs.Change.{with_node, with_flags, flagged}
 use Rattle.observer_graph.proofs.Marks.{marked_front}
 use Rattle.observer_graph.proofs.SubjectLists.{marks_some, same_marks}
 
@@ -145,21 +145,6 @@ whole_flagged graph o flags lazy w = whole_nodes graph (slice_set graph.nodes o 
     plain_flagged : (node : Option Node) → IsLazy node → IsPlain (flagged flags node)
     plain_flagged None lazy = absurd lazy
     plain_flagged (Some node) lazy = plain_as node.role lazy
-
--- a source more
-pub whole_source : (graph : GraphView) (o : ℕ) → IsLive graph o → IsWhole graph → IsWhole (with_source o graph)
-whole_source graph o live w = record {
-  lists = w.lists;
-  marks = length-set graph.sources o true ∙ w.marks;
-  ends = w.ends;
-  once = w.once;
-  live = λ p e. elim (cases_eq p o) [
-    | inl same ↦ subst (IsLive graph) (sym same) live
-    | inr other ↦ w.live p (sym (get_or-set_other graph.sources o p true false other) ∙ e)
-  ];
-  flags = w.flags;
-  limit = w.limit;
-}
 
 -- a node less
 pub whole_removed : (graph : GraphView) (o : ℕ) (subjects2 : List (List ℕ)) (sources2 : List Bool) → IsLive graph o

@@ -1,5 +1,5 @@
 -- What a session told before memory ran out in it.
-use Rattle.std.proofs.Common.{◌≡◌, ◌⊎◌, inl, inr, ℕ, ◌+◌, ◌<◌, Bool, List, [], ◌∷◌, ◌++◌, length, get_or, drop, Option, Result, Ok, Err, refl, sym, ◌∙◌, ap, subst, append_assoc}
+use Rattle.std.proofs.Common.{◌≡◌, ◌⊎◌, inl, inr, ℕ, ◌+◌, ◌<◌, Bool, List, [], ◌∷◌, ◌++◌, length, get_or, drop, Result, Ok, Err, refl, sym, ◌∙◌, ap, subst, append_assoc}
 use Rattle.std.proofs.lemmas.List.{append-nil, drop_more}
 use Rattle.desk_edge.specs.Sink.{appended}
 use Rattle.desk_edge.proofs.SinkLemmas.{appended-appended, appended-nil}
@@ -11,12 +11,12 @@ use Rattle.session_model.specs.Rounds.{rounds, lines_of, calls_in}
 use Rattle.session_model.specs.Moments.{Moment, moments_of_round, moments, lines_at, calls_at}
 use Rattle.session_model.proofs.Moments.{transcript_of}
 use Rattle.session_rounds.specs.Goes.{Output, with_more}
-use Rattle.session_rounds.specs.Stopped.{turn_at, done_at, StopsWithin, StopsBehind, HaltsIn}
+use Rattle.session_rounds.specs.Stopped.{turn_at, done_at, HaltsIn}
 use Rattle.session_rounds.proofs.Stopping.{Leads, halts_before, halts_after}
 use Rattle.desk_plan.specs.declared.status.Status.{Status}
 use Rattle.desk_plan.specs.Verdict.{Plan, Run, Load, Check}
-use Rattle.session_play.specs.Early.{Outside, outside, IsToldSoFar}
-use Rattle.session_play.specs.Output.{IsToldIn, IsToldOf}
+use Rattle.session_play.specs.Early.{Outside, IsToldSoFar}
+use Rattle.session_play.specs.Output.{IsToldOf}
 use Rattle.session_play.specs.Round.{IsPlayed}
 
 -- with these lines before
@@ -63,13 +63,6 @@ round_calls : {P : Type 0} (m : Meaning P) (r : Running P) (c : Command) → (ro
 unfolding rounds calls_in moments
 round_calls m r c = sym (append-nil (round_of m r c).calls) ∙ (transcript_of m r (c ∷ [])).calls
     ∙ ap (calls_at m.calc) (append-nil (moments_of_round m r c))
-
--- what was written where memory ran out in a round: all that it told, unless a put failed
-pub told_front : (calc : Calc) (ms : List Moment) (old new : Outside) (told : List ℕ) (Failed : Type 0)
-    → HaltsIn calc ms (record { lines = []; count = old.count; log = old.log }) (record { lines = told; count = new.count; log = new.log })
-    → (new.bytes ≡ appended told old.bytes) ⊎ Failed → IsToldSoFar calc ms old new ⊎ Failed
-told_front calc ms old new told Failed halts (inl bytes) = inl (record { told = told; halts = halts; bytes = bytes })
-told_front calc ms old new told Failed halts (inr failed) = inr failed
 
 -- where a session stands: what it told was written, and what runs out in the moments that are left ran out in all
 pub record Ahead (calc : Calc) (total left : List Moment) (start now : Outside) : Type 0 where

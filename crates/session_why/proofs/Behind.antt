@@ -63,9 +63,6 @@ module _ (calc : Calc) (t : State) (whole : IsWhole t) (sound : IsSound calc t) 
 
 -- ---- behind the line of a priced object
 
-some_is_none : {A : Type 0} {a : A} → Some a ≡ None → ⊥
-some_is_none e = cc
-
 module _ (calc : Calc) (q : Standing) (o : ℕ) (terms : Terms) (whole : IsWhole q.state) (sound : IsSound calc q.state)
     (are : terms_at q.state.market o ≡ Some terms) (lazy : is_lazy_at q.state.market o ≡ true)
     (current : (v : Value) → shows calc q.state o ≡ Ok v → held_outcome q.state o ≡ None → (kept_at q.state o).current

@@ -22,8 +22,8 @@ use Rattle.desk_model.specs.declared.slot.Slot.TheVariants as slot
 use Rattle.desk_model.specs.Market.{slot_at, terms_in, terms_at, kind_in, kind_at, is_lazy}
 use Rattle.desk_model.specs.State.{kept_at}
 use Rattle.session_model.specs.Standing.{Standing}
-use Rattle.why_model.specs.Answer.{named, nodes_text, nodes_of, workings_over, workings_by}
-use Rattle.session_why.specs.Lasts.{CanWork, last_inputs, nodes_in, workings_in}
+use Rattle.why_model.specs.Answer.{workings_over, workings_by}
+use Rattle.session_why.specs.Lasts.{CanWork, last_inputs, workings_in}
 
 -- what terms are by their kind
 abbrev pub OfKind : Kind → Terms → Type 0
@@ -99,22 +99,6 @@ working p o t are can =
           ∙ ap (workings_in p o (Some t)) v.1
           ∙ ap (workings_by p o t v.0) i.1;
     }
-
--- ---- a curve that is seen from another day
-
-shown_nodes : (v : Value) → nodes_in (Some v) ≡ nodes_of v
-shown_nodes (value.Money amount) = refl
-shown_nodes (value.Curve curve) = refl
-
-pub seen_text : (p : Standing) (o : ℕ) → kind_at p.state.market o ≡ Some kind.Implied → CanWork p.state o
-    → nodes_text (named p o) (nodes_in (kept_at p.state o).last)
-    ≡ workings_in p o (terms_at p.state.market o) (kept_at p.state o).last
-seen_text p o is can =
-    let t = terms_of_kind (slot_at p.state.market o) kind.Implied is refl in
-    let w = working p o (terms.Implied t.2.0 t.2.1) (t.1 ∙ ap Some t.2.2) can in
-    ap (λ (l : Option Value). nodes_text (named p o) (nodes_in l)) w.last
-    ∙ ap (nodes_text (named p o)) (shown_nodes w.shown)
-    ∙ sym w.text
 
 -- ---- an object that has none
 

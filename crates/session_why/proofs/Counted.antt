@@ -1,7 +1,7 @@
 -- What is computed while an answer is written.
 use Rattle.std.proofs.Common.{◌≡◌, ◌≢◌, inl, inr, ℕ, zero, suc, ◌+◌, ◌<◌, ◌≤◌, Bool, List, [], ◌∷◌, ◌++◌, length}
 use Rattle.std.proofs.Common.{Option, Result, Ok, Err, refl, sym, ◌∙◌, ap, subst, arith}
-use Rattle.std.specs.Prelude.{take, drop, is_ok, IfOk, OnErr, IsOk, IsErr}
+use Rattle.std.specs.Prelude.{take, drop, is_ok, IfOk, OnErr, IsOk}
 use Rattle.std.proofs.lemmas.Bool.{cases_eq}
 use Rattle.std.proofs.lemmas.List.{length-take, length-drop, take-append-drop}
 use Rattle.desk_terms.specs.declared.asked.Asked.{Asked}
@@ -14,8 +14,8 @@ use Rattle.session_model.specs.Pricing.{asking}
 use Rattle.session_core.specs.Pricing.{Prices, StopsShort}
 use Rattle.bump_model.specs.Asking.{Asking, Asks, Made, MadeFront, none, ask_of, then_ask}
 use Rattle.bump_model.proofs.Asking.{asked_market, stored_market}
-use Rattle.bump_model.proofs.Calls.{made_none, made_more, front_first, front_more, front_none, front_all, Progress}
-use Rattle.bump_model.proofs.Calls.{progress_none, progress_more, progress_front, last_next, last_made}
+use Rattle.bump_model.proofs.Calls.{made_none, made_more, front_more, front_none, Progress}
+use Rattle.bump_model.proofs.Calls.{progress_more, progress_front, last_next, last_made}
 use Rattle.session_why.specs.Computed.{IsAsked, ask_if, ask_each}
 
 abbrev pub Log : Type 0
@@ -91,15 +91,6 @@ pub asks_failed : {A E : Type 0}
     → result ≡ Err fault → MadeFront asking.calls count now log log_now → Asks asking result new count now log log_now
 asks_failed asking result new count now log log_now fault is made = rw is made
 
--- all were made, however it ended
-pub asks_still : {A B E F : Type 0}
-    → (asking : Asking) (first : Result A E) (result : Result B F) (new : State) (count now : ℕ)
-    (log log_now : Log) → IsOk first → Asks asking first new count now log log_now
-    → Asks asking result new count now log log_now
-asks_still asking (Ok x) (Ok y) new count now log log_now ok asks = asks
-asks_still asking (Ok x) (Err f) new count now log log_now ok asks = front_all asking.calls count now log log_now asks.1
-asks_still asking (Err e) result new count now log log_now ok asks = absurd (cc)
-
 -- none was made
 pub asks_none : {A E : Type 0} → (s : State) (result : Result A E) (count : ℕ) (log : Log)
     → Asks (none s) result s count count log log
@@ -121,16 +112,6 @@ asks_more first others (Ok x) (Ok y) middle new count now then log log_now log_e
 asks_more first others (Ok x) (Err f) middle new count now then log log_now log_end ok asks more =
     subst (λ (t : State). MadeFront (first.calls ++ (others t).calls) count then log log_end) asks.0
     (front_more first.calls (others middle).calls count now then log log_now log_end asks.1 more)
-
--- a front of some, where memory ran out
-pub asks_front : {A B E F : Type 0}
-    → (first : Asking) (others : State → Asking) (before : Result A E) (result : Result B F)
-    (middle new : State) (count now : ℕ) (log log_now : Log) → IsErr before → IsErr result
-    → Asks first before middle count now log log_now → Asks (then_ask first others) result new count now log log_now
-asks_front first others (Ok x) result middle new count now log log_now failed is asks = absurd (cc)
-asks_front first others (Err e) (Ok y) middle new count now log log_now failed is asks = absurd (cc)
-asks_front first others (Err e) (Err f) middle new count now log log_now failed is asks =
-    front_first first.calls (others first.next).calls count now log log_now asks
 
 -- ---- those of a list, one behind another
 
@@ -164,9 +145,6 @@ module _ (calc : Calc) (x : ℕ) (all rest : List ℕ) where
       progress_front whole (ask_each calc all s) (ask_if calc x s) (ask_each calc rest) (each_steps s are) so_far.0
       count now then
       log log_now log_end so_far.1 made
-
-pub come_none : (whole : Asking) (count : ℕ) (log : Log) → Come whole whole count count log log
-come_none whole count log = (0, progress_none whole count log)
 
 nothing_left : (calc : Calc) (rest : List ℕ) (s : State) → rest ≡ [] → ask_each calc rest s ≡ none s
 unfolding ask_each

@@ -1,8 +1,7 @@
 -- The products of flows, found or refused.
-use Rattle.std.proofs.Common.{◌≡◌, ℕ, ℤ, List, [], ◌∷◌, ◌++◌, Some, None, Result, Ok, Err, refl, sym, ap, subst}
+use Rattle.std.proofs.Common.{◌≡◌, ℕ, ℤ, List, [], ◌∷◌, Some, None, Result, Ok, Err, refl, ap, subst}
 use Rattle.std.specs.Prelude.{option_copied}
 use Rattle.std.specs.List.{filter}
-use Rattle.std.proofs.lemmas.List.{append-nil}
 use Rattle.desk_terms.specs.declared.cause.Cause.{Cause}
 use Rattle.flow_terms.specs.declared.flows.FlowTerm.{FlowTerm}
 use Rattle.flow_terms.specs.Flows.{paid_on, fixed_on}
@@ -59,11 +58,6 @@ pub given_cause : (due : Result (List Flow) Cause) (fault : FlowFault) (cause : 
 given_cause due fault cause is gives = subst (λ (f : FlowFault). Gives due (Err f)) is gives
 
 -- ---- their text
-
-pub text_refused : (name old : List ℕ) (r : Result (List FlowProduct) Cause) → None ≡ found r
-    → old ≡ old ++ sum_text name r
-text_refused name old (Ok flows) none = absurd (cc)
-text_refused name old (Err cause) none = sym (append-nil old)
 
 pub text_found : (name : List ℕ) (flows : List FlowProduct) (r : Result (List FlowProduct) Cause) → Some flows ≡ found r
     → sum_text name (Ok flows) ≡ sum_text name r

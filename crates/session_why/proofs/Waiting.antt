@@ -1,38 +1,18 @@
 -- What is listed and what waits, as the walk that makes a listing is taken over a session.
-use Rattle.std.proofs.Common.{◌≡◌, ℕ, suc, ◌+◌, ◌<◌, Bool, true, false, List, [], ◌∷◌, ◌++◌, length, Option, Some, None}
+use Rattle.std.proofs.Common.{◌≡◌, ℕ, suc, ◌+◌, ◌<◌, Bool, true, false, List, [], ◌∷◌, ◌++◌, length, Some}
 use Rattle.std.proofs.Common.{refl, sym, ◌∙◌, ap, subst, arith}
 use Rattle.std.specs.Prelude.{◌==◌, ◌||◌, nat_eq, if◌then◌else◌, reverse, not}
 use Rattle.std.specs.List.{All, list_any}
-use Rattle.std.proofs.lemmas.List.{length-append, length-reverse, append-nil}
+use Rattle.std.proofs.lemmas.List.{length-append, length-reverse}
 use Rattle.std.proofs.lemmas.List.Elements.{All-nil, All-cons, All-append, All-pop}
 use Rattle.std.proofs.lemmas.Bool.Decides.{Decides-eqb, same_from_decides}
-use Rattle.desk_terms.specs.declared.terms.Terms.{Terms}
-use Rattle.desk_model.specs.Market.{edges, edges_of}
 use Rattle.desk_model.specs.State.{State}
 use Rattle.desk_model.specs.Links.{IsLinked}
-use Rattle.object_store.specs.Objects.{bare}
 use Rattle.indexmap.specs.IndexSet.{insert_key}
-use Rattle.session_graph.proofs.Edged.{bare_edges}
-use Rattle.why_model.specs.Listing.{shows_last, rests_on, is_listed, each_put, with_object, listing}
+use Rattle.why_model.specs.Listing.{rests_on, is_listed, each_put, with_object, listing}
 use Rattle.session_why.proofs.Walked.{open_cost, cost_less, walk_begins, walk_listed, walk_new, rests_within}
 
 -- ---- what an object observes
-
--- the value of a quote has no part in it
-pub told_edges : (told found : Option Terms) → told ≡ bare found → edges_of told ≡ edges_of found
-told_edges told found is = ap edges_of is ∙ bare_edges found
-
-pub nothing_told : (found : Option Terms) (old : List ℕ) → None ≡ bare found → old ≡ old ++ reverse (edges_of found)
-nothing_told found old is = sym (append-nil old) ∙ ap (λ (l : List ℕ). old ++ reverse l) (told_edges None found is)
-
--- an object that shows its last value rests on nothing, any other on what it observes
-pub rests_nothing : (s : State) (o : ℕ) (old : List ℕ) → shows_last s o ≡ true → old ≡ old ++ reverse (rests_on s o)
-rests_nothing s o old is =
-    sym (append-nil old) ∙ sym (ap (λ (b : Bool). old ++ reverse (if b then [] else edges s.market o)) is)
-
-pub rests_all : (s : State) (o : ℕ) (old : List ℕ) → shows_last s o ≡ false
-    → old ++ reverse (edges s.market o) ≡ old ++ reverse (rests_on s o)
-rests_all s o old is = sym (ap (λ (b : Bool). old ++ reverse (if b then [] else edges s.market o)) is)
 
 -- ---- a set of numbers, and the list of them
 

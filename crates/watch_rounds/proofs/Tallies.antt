@@ -89,13 +89,6 @@ pub cleared_all : (tallies : List Tally) (names : List ℕ) (i : ℕ) → length
     → tallies ≡ replicate (length tallies) blank
 cleared_all tallies names i past each = all_blank tallies (λ name. each name (not_past name names i past))
 
-pub tracked_blank : (n : ℕ) → IsTracked (replicate n blank) []
-tracked_blank n = record {
-  within = λ name among. absurd among;
-  listed = λ name apart. read_blank n name;
-  room = let total = sum_by-replicate unrun n blank in let long = length-replicate n blank in omega arith;
-}
-
 grown_at : (tallies : List Tally) (more name : ℕ) → get_or (tallies ++ replicate more blank) name blank ≡ get_or
     tallies name blank
 grown_at tallies more name = elim (cases_lt name (length tallies)) [
@@ -210,11 +203,6 @@ counted_again tallies names name tally low tracked is some =
     subst (λ (t : Tally). IsTracked (slice_set tallies name (one_more t)) names) (sym is)
     (tracked_again tallies names name low tracked
     (ne_eqb (get_or tallies name blank).runs 0 (λ none. some (ap (λ (t : Tally). t.runs) is ∙ none))))
-
-pub counted_room : (tallies : List Tally) (names : List ℕ) (name : ℕ) (tally : Tally) → name < length tallies
-    → IsTracked tallies names → tally ≡ get_or tallies name blank → tally.runs ≡ 0 → length names < length tallies
-counted_room tallies names name tally low tracked is none =
-    room_for tallies names name low tracked (ap (λ (t : Tally). t.runs) (sym is) ∙ none)
 
 pub over_tracked : (tallies : List Tally) (names : List ℕ) (name : ℕ) (tally : Tally) → name < length tallies
     → IsTracked tallies names → tally ≡ get_or tallies name blank → 8 ≤ tally.runs

@@ -1,7 +1,7 @@
 -- Lemmas on the digits that a text begins with, and on the last digits of a number.
 use Rattle.std.proofs.Common.{◌≡◌, ℕ, zero, suc, ◌+◌, ◌-◌, ◌*◌, ◌/◌, ◌%◌, ◌^◌, ◌<◌, ◌≤◌, Bool, true, false, List, [], ◌∷◌, ◌++◌, length, take, drop, refl, arith, length-append, nat_le, decimal, ap, sym, ◌∙◌, take_all}
-use Rattle.std.specs.Str.Parse.{digits_value}
-use Rattle.std.proofs.lemmas.Nat.{mod_below}
+use Rattle.std.specs.Str.Parse.{digits_value, digits_value_after}
+use Rattle.std.proofs.lemmas.Nat.{mod_below, pow-add}
 use Rattle.std.proofs.lemmas.Int.Digits.{digits_value_push}
 use Rattle.std.proofs.Math.Arith.{mod-mul}
 use Rattle.std.proofs.Math.Numerals.{one-add}
@@ -128,3 +128,24 @@ length_wide n h = length-decimal-le_wide 39 n (omega arith) (omega arith) (omega
 -- and one more than its tenth
 pub length_step_wide : (n : ℕ) → 10 ≤ n → n < 2 ^ 128 → length (decimal n) ≡ length (decimal (n / 10)) + 1
 length_step_wide n low high = ap length (decimal_step_wide n low (omega arith)) ∙ length-append _ _
+
+-- digits behind those of a number shift it
+digits_value_after-shifts : (n : ℕ) (digits : List ℕ) → digits_value_after 10 n digits ≡ n * 10 ^ length digits + digits_value 10 digits
+digits_value_after-shifts n [] = omega arith
+digits_value_after-shifts n (c ∷ digits) =
+    omega (arith, ap (λ x. n * x) (pow-suc 10 (length digits)), digits_value_after-shifts (n * 10 + digit_value c) digits, digits_value_after-shifts (0 * 10 + digit_value c) digits)
+
+digits_value_after-append : (n : ℕ) (digits more : List ℕ) → digits_value_after 10 n (digits ++ more) ≡ digits_value_after 10 (digits_value_after 10 n digits) more
+digits_value_after-append n [] more = refl
+digits_value_after-append n (c ∷ digits) more = digits_value_after-append (n * 10 + digit_value c) digits more
+
+-- the digits of a whole part and of a fraction, read together
+pub digits_value-append : (digits more : List ℕ) → digits_value 10 (digits ++ more) ≡ digits_value 10 digits * 10 ^ length more + digits_value 10 more
+digits_value-append digits more = digits_value_after-append 0 digits more ∙ digits_value_after-shifts (digits_value 10 digits) more
+
+-- and in units
+pub digits_value_units : (digits fraction : List ℕ) (places : ℕ) → length fraction ≤ places
+    → digits_value 10 (digits ++ fraction) * 10 ^ (places - length fraction) ≡ digits_value 10 digits * 10 ^ places + digits_value 10 fraction * 10 ^ (places - length fraction)
+digits_value_units digits fraction places few =
+    let split : 10 ^ length fraction * 10 ^ (places - length fraction) ≡ 10 ^ places = sym (pow-add 10 (length fraction) (places - length fraction)) ∙ ap (λ n. 10 ^ n) (omega arith) in
+    omega (arith, ap (λ n. n * 10 ^ (places - length fraction)) (digits_value-append digits fraction), ap (λ n. digits_value 10 digits * n) split)

@@ -1,5 +1,5 @@
 -- Lemmas on the range of 64 bits.
-use Rattle.std.proofs.Common.{◌≡◌, ℕ, zero, suc, ◌+◌, ◌-◌, ◌*◌, ◌^◌, ◌<◌, ◌≤◌, ℤ, pos, negsuc, neg_ℤ, Bool, true, false, refl, sym, ◌∙◌, arith, min, Ok, Err, inl, inr, ◌≤ℤ◌, ◌<ℤ◌, ◌⊎◌}
+use Rattle.std.proofs.Common.{◌≡◌, ℕ, zero, suc, ◌-◌, ◌*◌, ◌^◌, ◌<◌, ◌≤◌, ℤ, pos, negsuc, neg_ℤ, Bool, true, false, refl, sym, ◌∙◌, arith, min, Ok, Err, inl, inr, ◌≤ℤ◌, ◌<ℤ◌, ◌⊎◌}
 use Rattle.std.proofs.lemmas.Int.{ints, by_lt_z}
 use Rattle.std.proofs.Math.Nat.{le-mul_of_pos_right}
 use Rattle.std.proofs.lemmas.Bool.{cases_lt, lt-ltb, le-ltb, le-leb, lt-leb}
@@ -27,18 +27,23 @@ pub in_range_far : (negative : Bool) (size : ℕ) → 2 ^ 63 < size → in_range
 in_range_far true size h = in_range_far_minus size h
 in_range_far false size h = in_range_far_plus size (omega arith)
 
--- numbers cut to 64 bits fit where the numbers do, also as parts of a sum
-pub in_range_capped : (negative : Bool) (whole part p q : ℕ) → 0 < p → 0 < q → in_range (signed negative (min whole (2 ^ 64 - 1) * p + min part (2 ^ 64 - 1) * q)) ≡ in_range (signed negative (whole * p + part * q))
-in_range_capped negative whole part p q hp hq =
-    elim (cases_lt whole (2 ^ 64)) as (λ _. in_range (signed negative (min whole (2 ^ 64 - 1) * p + min part (2 ^ 64 - 1) * q)) ≡ in_range (signed negative (whole * p + part * q))) [
-      | inl a ↦ elim (cases_lt part (2 ^ 64)) as (λ _. in_range (signed negative (min whole (2 ^ 64 - 1) * p + min part (2 ^ 64 - 1) * q)) ≡ in_range (signed negative (whole * p + part * q))) [
-        | inl b ↦ (let e : min whole (2 ^ 64 - 1) ≡ whole = omega arith in let f : min part (2 ^ 64 - 1) ≡ part = omega arith in rw (e, f))
-        | inr b ↦ in_range_far negative (min whole (2 ^ 64 - 1) * p + min part (2 ^ 64 - 1) * q) (omega (arith, le-mul_of_pos_right (min part (2 ^ 64 - 1)) hq))
-            ∙ sym (in_range_far negative (whole * p + part * q) (omega (arith, le-mul_of_pos_right part hq)))
+-- a number cut at 10^19, times another and cut to 64 bits, fits where the product does
+pub in_range_capped : (negative : Bool) (number power : ℕ) → 0 < power → in_range (signed negative (min (min number (10 ^ 19) * power) (2 ^ 64 - 1))) ≡ in_range (signed negative (number * power))
+in_range_capped negative number power some =
+    elim (cases_lt (number * power) (2 ^ 64)) as (λ _. in_range (signed negative (min (min number (10 ^ 19) * power) (2 ^ 64 - 1))) ≡ in_range (signed negative (number * power))) [
+      | inl a ↦ elim (cases_lt number (10 ^ 19)) as (λ _. in_range (signed negative (min (min number (10 ^ 19) * power) (2 ^ 64 - 1))) ≡ in_range (signed negative (number * power))) [
+        | inl b ↦ (let e : min number (10 ^ 19) ≡ number = omega arith in let f : min (number * power) (2 ^ 64 - 1) ≡ number * power = omega arith in rw (e, f))
+        | inr b ↦ far b
       ]
-      | inr a ↦ in_range_far negative (min whole (2 ^ 64 - 1) * p + min part (2 ^ 64 - 1) * q) (omega (arith, le-mul_of_pos_right (min whole (2 ^ 64 - 1)) hp))
-          ∙ sym (in_range_far negative (whole * p + part * q) (omega (arith, le-mul_of_pos_right whole hp)))
-    ]
+      | inr a ↦ elim (cases_lt number (10 ^ 19)) as (λ _. in_range (signed negative (min (min number (10 ^ 19) * power) (2 ^ 64 - 1))) ≡ in_range (signed negative (number * power))) [
+        | inl b ↦ (let e : min number (10 ^ 19) ≡ number = omega arith in rw e (in_range_far negative (min (number * power) (2 ^ 64 - 1)) (omega arith) ∙ sym (in_range_far negative (number * power) (omega arith))))
+        | inr b ↦ far b
+      ]
+    ] where
+      far : 10 ^ 19 ≤ number → in_range (signed negative (min (min number (10 ^ 19) * power) (2 ^ 64 - 1))) ≡ in_range (signed negative (number * power))
+      far b =
+          let e : min number (10 ^ 19) ≡ 10 ^ 19 = omega arith in
+          rw e (in_range_far negative (min (10 ^ 19 * power) (2 ^ 64 - 1)) (omega arith) ∙ sym (in_range_far negative (number * power) (omega (arith, le-mul_of_pos_right number some))))
 
 -- a number of 64 bits is in range
 pub in_range_fits : (units : ℤ) → neg_ℤ (pos (2 ^ 63)) ≤ℤ units → units <ℤ pos (2 ^ 63) → in_range units ≡ Ok units

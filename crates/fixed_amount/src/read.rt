@@ -1,5 +1,5 @@
 // Decimal text read as a whole number of units.
-ghost use Rattle.std.specs.Prelude.{◌≡◌, ℕ, ℤ, List, [], ◌↔◌, Ok, Err, ◌+◌, ◌-◌, ◌^◌, ◌<◌, ◌≤◌, min, length, take};
+ghost use Rattle.std.specs.Prelude.{◌≡◌, ℕ, ℤ, List, [], ◌↔◌, Ok, Err, ◌+◌, ◌-◌, ◌^◌, ◌<◌, ◌≤◌, ◌++◌, min, length, take};
 ghost use Rattle.std.specs.Str.Parse.{digits_value};
 ghost use Rattle.fixed_amount.specs.declared.decimal.DecimalFault.TheVariants.{Empty, Char, Places, Range};
 ghost use Rattle.fixed_amount.specs.Decimal.{WritesUnits, HasManyPlaces, IsOutOfRange, IsFirstFault};
@@ -7,6 +7,12 @@ ghost use Rattle.fixed_amount.specs.Decimal.{all_digits, digit_count, decimal_va
 
 use crate::decimal::DecimalFault;
 use crate::power::power_of_ten;
+
+// A number below this takes one digit more and stays below `FAR`.
+const NEAR: u64 = 1_000_000_000_000_000_000;
+
+// Stands for every number from 10^19 on: times any power of ten, each of them is out of range.
+const FAR: u64 = 10_000_000_000_000_000_000;
 
 /// The number that a decimal writes, times 10^places: an optional `-`, one or more digits, and optionally a `.` with
 /// one or more digits, at most `places` of them. Leading zeros are accepted, and `-0` is 0. The first fault in the
@@ -29,12 +35,12 @@ fn read_whole(at: usize, negative: bool, text: &[u8], places: u8) -> Result<i64,
     requires room { at + length text.now < 2 ^ 64 }
     ensures { result ≡ whole_value at negative text.now places }
 {
-    let (count, whole) = leading_number(text);
+    let (count, number) = leading_number(0, text);
     if count == 0 {
         return Err(DecimalFault::Char(at));
     }
     let (_, rest) = text.split_at(count);
-    read_point(at + count, negative, whole, rest, places)
+    read_point(at + count, negative, number, rest, places)
 }
 
 // What stands behind the whole part, `at` bytes into the text. The digits of that part write the number `whole`.
@@ -47,16 +53,16 @@ fn read_point(
 ) -> Result<i64, DecimalFault>
     requires few { places ≤ 18 }
     requires room { at + length text.now < 2 ^ 64 }
-    ensures { (digits : List ℕ) → whole ≡ min (digits_value 10 digits) (2 ^ 64 - 1) → result ≡ point_value at negative digits text.now places }
+    ensures { (digits : List ℕ) → whole ≡ min (digits_value 10 digits) (10 ^ 19) → result ≡ point_value at negative digits text.now places }
 {
     match text {
-        [] => units(negative, whole, 0, 0, places),
+        [] => units(negative, whole, 0, places),
         [b'.', fraction @ ..] => read_fraction(at + 1, negative, whole, fraction, places),
         _ => Err(DecimalFault::Char(at)),
     }
 }
 
-// What stands behind the point, `at` bytes into the text.
+// What stands behind the point, `at` bytes into the text. Its digits are read on behind those of the number `whole`.
 fn read_fraction(
     at: usize,
     negative: bool,
@@ -66,62 +72,59 @@ fn read_fraction(
 ) -> Result<i64, DecimalFault>
     requires few { places ≤ 18 }
     requires room { at + length text.now < 2 ^ 64 }
-    ensures { (digits : List ℕ) → whole ≡ min (digits_value 10 digits) (2 ^ 64 - 1) → result ≡ fraction_value at negative digits text.now places }
+    ensures { (digits : List ℕ) → whole ≡ min (digits_value 10 digits) (10 ^ 19) → result ≡ fraction_value at negative digits text.now places }
 {
-    let (count, part) = leading_number(text);
+    let (count, number) = leading_number(whole, text);
     if count < text.len() {
         return Err(DecimalFault::Char(at + count));
     }
     if count == 0 {
         return Err(DecimalFault::Char(at));
     }
-    units(negative, whole, part, count, places)
+    units(negative, number, count, places)
 }
 
-// How many digits the text begins with, and the number that they write, or the greatest of 64 bits where it is beyond that.
-// Each digit is looked at once.
-fn leading_number(text: &[u8]) -> (usize, u64)
+// How many digits the text begins with, and the number that they write behind those of `before`, or `FAR` where it is that
+// or more. Each digit is looked at once.
+fn leading_number(before: u64, text: &[u8]) -> (usize, u64)
     ensures count { result.0 ≡ digit_count text.now }
     ensures bound { result.0 ≤ length text.now }
-    ensures number { result.1 ≡ min (digits_value 10 (take (digit_count text.now) text.now)) (2 ^ 64 - 1) }
+    ensures number { (digits : List ℕ) → before ≡ min (digits_value 10 digits) (10 ^ 19)
+        → result.1 ≡ min (digits_value 10 (digits ++ take (digit_count text.now) text.now)) (10 ^ 19) }
 {
     let mut count = 0;
-    let mut number: u64 = 0;
+    let mut number = before;
     for byte in text {
         if !byte.is_ascii_digit() {
             return (count, number);
         }
-        number = number
-            .saturating_mul(10)
-            .saturating_add((*byte - b'0') as u64);
+        number = if number < NEAR {
+            number * 10 + (*byte - b'0') as u64
+        } else {
+            FAR
+        };
         count += 1;
     }
     (count, number)
 }
 
-// The units that the numbers of a whole part and of a fraction write, the fraction of so many digits.
-fn units(
-    negative: bool,
-    whole: u64,
-    part: u64,
-    count: usize,
-    places: u8,
-) -> Result<i64, DecimalFault>
+// The units that the digits of a whole part and of a fraction write together, the fraction of so many digits.
+fn units(negative: bool, number: u64, count: usize, places: u8) -> Result<i64, DecimalFault>
     requires few { places ≤ 18 }
-    ensures { (digits fraction : List ℕ) → whole ≡ min (digits_value 10 digits) (2 ^ 64 - 1) → part ≡ min (digits_value 10 fraction) (2 ^ 64 - 1) → count ≡ length fraction
+    ensures { (digits fraction : List ℕ) → number ≡ min (digits_value 10 (digits ++ fraction)) (10 ^ 19) → count ≡ length fraction
         → result ≡ in_units negative digits fraction places }
 {
     if count > places as usize {
         return Err(DecimalFault::Places);
     }
-    let missing = places - count as u8;
-    let size = whole as u128 * power_of_ten(places) as u128
-        + part as u128 * power_of_ten(missing) as u128;
-    ranged(negative, size)
+    ranged(
+        negative,
+        number.saturating_mul(power_of_ten(places - count as u8)),
+    )
 }
 
 // The number of this size and sign, where 64 bits hold it.
-fn ranged(negative: bool, size: u128) -> Result<i64, DecimalFault>
+fn ranged(negative: bool, size: u64) -> Result<i64, DecimalFault>
     ensures { result ≡ in_range (signed negative size) }
 {
     if negative {

@@ -10,5 +10,5 @@ returns-then-count-eq0 c = λ digits _. fraction_none c.args.at c.args.negative 
 
 pub returns : goal.returns
 returns c = λ digits whole.
-    fraction_read c.args.at c.args.negative digits c.args.text.now c.args.places c.leading_number-count.result.0 c.leading_number-count.result.1 c.units.result c.leading_number-count.ensures.count c.leading_number-count.ensures.number (omega arith) (omega arith)
-    (λ fraction part count. c.units.ensures digits fraction whole part count)
+    fraction_read c.args.at c.args.negative digits c.args.text.now c.args.places c.leading_number-count.result.0 c.leading_number-count.result.1 c.units.result c.leading_number-count.ensures.count (c.leading_number-count.ensures.number digits whole) (omega arith) (omega arith)
+    (c.units.ensures digits)

@@ -1,16 +1,16 @@
 -- Lemmas on the digits that a text begins with, and on the last digits of a number.
-use Rattle.std.proofs.Common.{◌≡◌, ℕ, zero, suc, ◌+◌, ◌-◌, ◌*◌, ◌/◌, ◌%◌, ◌^◌, ◌<◌, ◌≤◌, Bool, true, false, List, [], ◌∷◌, ◌++◌, length, take, drop, refl, arith, length-append, nat_le, decimal, ap, sym, ◌∙◌, take_all}
+use Rattle.std.proofs.Common.{◌≡◌, ℕ, zero, suc, ◌+◌, ◌-◌, ◌*◌, ◌/◌, ◌%◌, ◌^◌, ◌<◌, ◌≤◌, Bool, true, false, List, [], ◌∷◌, ◌++◌, length, take, drop, set, refl, arith, length-append, nat_le, decimal, ap, sym, ◌∙◌, take_all, eq-zero-or-pos, inl, inr}
 use Rattle.std.specs.Str.Parse.{digits_value, digits_value_after}
-use Rattle.std.proofs.lemmas.Nat.{mod_below, pow-add}
+use Rattle.std.proofs.lemmas.Nat.{mod_below, pow-add, div-add-mod'}
 use Rattle.std.proofs.lemmas.Int.Digits.{digits_value_push}
 use Rattle.std.proofs.Math.Arith.{mod-mul}
 use Rattle.std.proofs.Math.Numerals.{one-add}
 use Rattle.std.proofs.lemmas.Bool.{and_parts, and_from, leb-true, le-ltb, lt-ltb, le-leb}
-use Rattle.std.proofs.lemmas.List.{drop-drop, take-append-drop, append-nil, length-take-le}
+use Rattle.std.proofs.lemmas.List.{drop-drop, take-append-drop, append-nil, append_assoc, length-take-le}
 use Rattle.std.proofs.lemmas.List.Folds.{list_all-append}
 use Rattle.std.specs.Char.{is_ascii_digit, digit_value}
 use Rattle.std.specs.List.{list_all, prefix_len}
-use Rattle.std.proofs.Math.Nat.{pow-suc, one-le-pow, pow-le-pow_right, mod-eq_of_lt}
+use Rattle.std.proofs.Math.Nat.{pow-suc, one-le-pow, pow-le-pow_right, mod-eq_of_lt, le-mul_of_pos_right, div-le_self}
 use Rattle.std.proofs.lemmas.Fmt.{decimal_digit, decimal_step_wide, length-decimal-le_wide}
 use Rattle.fixed_amount.specs.Decimal.{all_digits, point_text, last_digits}
 
@@ -89,24 +89,67 @@ digits_value-last (suc count) n =
     let power : 0 < 10 ^ count = omega (arith, one-le-pow count 10 ten) in
     rw (digits_value_push 10 (last_digits count (n / 10)) (48 + n % 10), digits_value-last count (n / 10), pow-suc, mod-mul n power ten) (omega (arith, value))
 
--- the decimal of a power of ten and what is below it: a one, and the last digits
-pub decimal_marked : (count n : ℕ) → count ≤ 18 → decimal (10 ^ count + n % 10 ^ count) ≡ 49 ∷ last_digits count n
-decimal_marked zero n h =
+-- the decimal of a number of powers of ten and what is below one: the number's, and the last digits
+pub decimal_joined : (count whole n : ℕ) → 0 < whole → whole * 10 ^ count + n % 10 ^ count < 10 ^ 64 → decimal (whole * 10 ^ count + n % 10 ^ count) ≡ decimal whole ++ last_digits count n
+decimal_joined zero whole n some h =
     let rest = mod_below n 1 (omega arith) in
-    let one : 10 ^ 0 + n % 10 ^ 0 ≡ 1 = omega arith in
-    rw one (decimal_digit 1 (omega arith))
-decimal_marked (suc count) n h =
+    let same : whole * 10 ^ 0 + n % 10 ^ 0 ≡ whole = omega arith in
+    rw (same, append-nil (decimal whole)) refl
+decimal_joined (suc count) whole n some h =
     let ten : 0 < 10 = omega arith in
     let power : 0 < 10 ^ count = omega (arith, one-le-pow count 10 ten) in
-    let fits : count ≤ 18 = omega arith in
-    let few : 10 ^ count ≤ 10 ^ 18 = pow-le-pow_right ten fits in
     let below = mod_below (n / 10) (10 ^ count) power in
     let digit = mod_below n 10 ten in
-    let parts : 10 ^ suc count + n % 10 ^ suc count ≡ 10 ^ count * 10 + (n / 10 % 10 ^ count * 10 + n % 10) = rw (pow-suc, mod-mul n power ten) refl in
-    let front : (10 ^ count * 10 + (n / 10 % 10 ^ count * 10 + n % 10)) / 10 ≡ 10 ^ count + n / 10 % 10 ^ count = omega arith in
-    let last : (10 ^ count * 10 + (n / 10 % 10 ^ count * 10 + n % 10)) % 10 ≡ n % 10 = omega arith in
-    let step = decimal_step_wide (10 ^ count * 10 + (n / 10 % 10 ^ count * 10 + n % 10)) (omega arith) (omega arith) in
-    rw (parts, step, front, last, decimal_marked count (n / 10) (omega arith)) refl
+    let grows : whole ≤ whole * 10 ^ count = le-mul_of_pos_right whole power in
+    let parts : whole * 10 ^ suc count + n % 10 ^ suc count ≡ whole * 10 ^ count * 10 + (n / 10 % 10 ^ count * 10 + n % 10) = rw (pow-suc, mod-mul n power ten) (omega arith) in
+    let front : (whole * 10 ^ count * 10 + (n / 10 % 10 ^ count * 10 + n % 10)) / 10 ≡ whole * 10 ^ count + n / 10 % 10 ^ count = omega arith in
+    let last : (whole * 10 ^ count * 10 + (n / 10 % 10 ^ count * 10 + n % 10)) % 10 ≡ n % 10 = omega arith in
+    let step = decimal_step_wide (whole * 10 ^ count * 10 + (n / 10 % 10 ^ count * 10 + n % 10)) (omega arith) (omega (arith, parts, h)) in
+    rw (parts, step, front, last, decimal_joined count whole (n / 10) some (omega (arith, parts, h))) (append_assoc (decimal whole) (last_digits count (n / 10)) ((48 + n % 10) ∷ []))
+
+-- the decimal of a power of ten and what is below it: a one, and the last digits
+pub decimal_marked : (count n : ℕ) → count ≤ 18 → decimal (10 ^ count + n % 10 ^ count) ≡ 49 ∷ last_digits count n
+decimal_marked count n h =
+    let ten : 0 < 10 = omega arith in
+    let few : 10 ^ count ≤ 10 ^ 18 = pow-le-pow_right ten h in
+    let below = mod_below n (10 ^ count) (omega (arith, one-le-pow count 10 ten)) in
+    let same : 1 * 10 ^ count + n % 10 ^ count ≡ 10 ^ count + n % 10 ^ count = omega arith in
+    rw (← same, decimal_joined count 1 n (omega arith) (omega arith), decimal_digit 1 (omega arith)) refl
+
+-- ten times a number
+pub decimal_ten : (n : ℕ) → 0 < n → n < 10 ^ 18 → decimal (n * 10) ≡ decimal n ++ 48 ∷ []
+decimal_ten n some few =
+    let front : n * 10 / 10 ≡ n = omega arith in
+    let last : n * 10 % 10 ≡ 0 = omega arith in
+    rw (decimal_step_wide (n * 10) (omega arith) (omega arith), front, last) refl
+
+-- ten times a whole part, before its fraction: a zero between their digits
+pub decimal_parted : (places size power : ℕ) → power ≡ 10 ^ places → power ≤ size → size < 10 ^ 18 → decimal ((size - size % power) * 10 + size % power) ≡ decimal (size / 10 ^ places) ++ 48 ∷ last_digits places size
+decimal_parted places size power e h near =
+    let ten : 0 < 10 = omega arith in
+    let positive : 0 < 10 ^ places = omega (arith, one-le-pow places 10 ten) in
+    let all = div-add-mod' size (10 ^ places) in
+    let below = mod_below size (10 ^ places) positive in
+    let some : 0 < size / 10 ^ places = elim (eq-zero-or-pos (size / 10 ^ places)) [ inl z ↦ absurd (omega (arith, all, below, ap (λ n. n * 10 ^ places) z, h, e)) | inr g ↦ g ] in
+    let few : size / 10 ^ places < 10 ^ 18 = omega (arith, div-le_self size (10 ^ places), near) in
+    let same : (size - size % 10 ^ places) * 10 + size % 10 ^ places ≡ size / 10 ^ places * 10 * 10 ^ places + size % 10 ^ places = omega (arith, all) in
+    rw (e, same, decimal_joined places (size / 10 ^ places * 10) size (omega (arith, some)) (omega (arith, all, below, near)), decimal_ten (size / 10 ^ places) some few) (append_assoc (decimal (size / 10 ^ places)) (48 ∷ []) (last_digits places size))
+
+-- ten times a power of ten, and a number below the power: a one and a zero before its digits
+pub decimal_below : (places size power : ℕ) → places ≤ 18 → power ≡ 10 ^ places → size < power → decimal (power * 10 + size) ≡ 49 ∷ 48 ∷ last_digits places size
+decimal_below places size power h e less =
+    let ten : 0 < 10 = omega arith in
+    let few : 10 ^ places ≤ 10 ^ 18 = pow-le-pow_right ten h in
+    let small : size < 10 ^ places = omega (arith, e, less) in
+    let rest : size % 10 ^ places ≡ size = mod-eq_of_lt small in
+    let same : power * 10 + size ≡ 10 * 10 ^ places + size % 10 ^ places = omega (arith, rest, e) in
+    let text : decimal 10 ≡ 49 ∷ 48 ∷ [] = decimal_ten 1 (omega arith) (omega arith) ∙ ap (λ t. t ++ 48 ∷ []) (decimal_digit 1 (omega arith)) in
+    rw (same, decimal_joined places 10 size ten (omega (arith, rest, few, small)), text) refl
+
+-- a byte behind others is put in place of another
+pub set_behind : {X : Type 0} (xs ys : List X) (x y : X) → set (xs ++ x ∷ ys) (length xs) y ≡ xs ++ y ∷ ys
+set_behind [] ys x y = refl
+set_behind (z ∷ xs) ys x y = ap (λ t. z ∷ t) (set_behind xs ys x y)
 
 -- the same of a number's rest by the power
 pub decimal_of_part : (count part number power : ℕ) → count ≤ 18 → power ≡ 10 ^ count → number % 10 ^ count ≡ part → decimal (power + part) ≡ 49 ∷ last_digits count number

@@ -9,6 +9,9 @@ use std::alloc::{AllocError, Global};
 // The most bytes of a decimal: a sign, the 39 digits of 2^127, a point and 18 digits.
 const MOST_BYTES: usize = 59;
 
+// Ten times a number below this, and a digit more, is one of 64 bits.
+const NEAR: u128 = 1_000_000_000_000_000_000;
+
 /// Appends the decimal that writes `value / 10^places`: `-` for a negative value, the whole part without leading
 /// zeros, and, where `places` is above 0, a `.` and exactly that many digits. Any value will do, `i128::MIN` too.
 /// Memory is taken for `out` alone, and after want of it `out` has its old bytes.
@@ -34,9 +37,12 @@ fn write_decimal(value: i128, places: u8, text: &mut [u8; MOST_BYTES]) -> usize
     ensures within { result ≤ 59 }
     ensures written { drop result text.new ≡ decimal_text value places }
 {
-    let (whole, part) = parts_of(value.unsigned_abs(), power_of_ten(places));
-    let point = write_fraction(part, places, text);
-    let start = write_whole(whole, text, point);
+    let size = value.unsigned_abs();
+    let start = if size < NEAR {
+        write_near(size as u64, places, text)
+    } else {
+        write_far(size, places, text)
+    };
     if value >= 0 {
         return start;
     }
@@ -44,17 +50,40 @@ fn write_decimal(value: i128, places: u8, text: &mut [u8; MOST_BYTES]) -> usize
     start - 1
 }
 
-// The quotient and the rest; of a number of 64 bits by a division of 64 bits, which is quicker.
-fn parts_of(size: u128, power: u64) -> (u128, u64)
-    requires { 0 < power }
-    ensures whole { result.0 ≡ size / power }
-    ensures part { result.1 ≡ size % power }
+// Writes the decimal of a number below `NEAR` at the end of the buffer, and tells where it starts: all digits at once, with
+// one between the whole part and the fraction that the point takes the place of.
+fn write_near(size: u64, places: u8, text: &mut [u8; MOST_BYTES]) -> usize
+    requires few { places ≤ 18 }
+    requires near { size < 10 ^ 18 }
+    ensures start { (1 ≤ result) × (result ≤ 59) }
+    ensures written { drop result text.new ≡ decimal (size / 10 ^ places) ++ point_text (last_digits places size) }
 {
-    if size <= u64::MAX as u128 {
-        let short = size as u64;
-        return ((short / power) as u128, short % power);
+    if places == 0 {
+        return write_digits(size, text, MOST_BYTES);
     }
-    (size / power as u128, (size % power as u128) as u64)
+    let power = power_of_ten(places);
+    if size < power {
+        let start = write_digits(power * 10 + size, text, MOST_BYTES);
+        text[start] = b'0';
+        text[start + 1] = b'.';
+        return start;
+    }
+    let part = size % power;
+    let start = write_digits((size - part) * 10 + part, text, MOST_BYTES);
+    text[MOST_BYTES - 1 - places as usize] = b'.';
+    start
+}
+
+// The same of any number.
+#[inline(never)]
+fn write_far(size: u128, places: u8, text: &mut [u8; MOST_BYTES]) -> usize
+    requires few { places ≤ 18 }
+    ensures start { (1 ≤ result) × (result ≤ 59) }
+    ensures written { drop result text.new ≡ decimal (size / 10 ^ places) ++ point_text (last_digits places size) }
+{
+    let power = power_of_ten(places) as u128;
+    let point = write_fraction((size % power) as u64, places, text);
+    write_whole(size / power, text, point)
 }
 
 // Writes the point and the digits behind it at the end of the buffer, or nothing where there are no places. The digits of

@@ -1,4 +1,4 @@
-use Rattle.std.proofs.Common.{◌≡◌, ◌+◌, ◌^◌, ◌<◌, ◌∷◌, length, arith, append-nil}
+use Rattle.std.proofs.Common.{◌+◌, ◌∷◌, arith, append-nil}
 use Rattle.std.proofs.lemmas.Fmt.{length-decimal-le}
 use Rattle.std.proofs.lemmas.List.{drop-set, drop_all}
 use Rattle.fixed_amount.specs.Decimal.{last_digits}

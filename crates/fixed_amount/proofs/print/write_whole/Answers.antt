@@ -1,4 +1,4 @@
-use Rattle.std.proofs.Common.{◌≡◌, ◌+◌, ◌-◌, ◌%◌, refl, arith, append_assoc, ap, length, length-append, ◌∙◌}
+use Rattle.std.proofs.Common.{◌≡◌, ◌+◌, ◌-◌, ◌%◌, refl, arith, append_assoc}
 use Rattle.std.proofs.lemmas.Fmt.{decimal_step_wide}
 use Rattle.std.proofs.lemmas.List.{drop-set, length-set}
 use Rattle.fixed_amount.proofs.Digits.{length_wide, length_step_wide}

@@ -59,6 +59,7 @@ pub(crate) fn answer<'a, P: Picker, B: Bench>(
         words,
         &mut reader.names,
         &mut reader.begun,
+        &mut reader.met,
         names,
         &blocks.begun,
         inside,

@@ -9,7 +9,7 @@ ghost use Rattle.live_session.specs.Standing.{IsCopy, IsRead};
 use desk_names::Names;
 use live_model::MOST_LINE;
 use script_words::LineFault;
-use session_lang::{ScriptKind, Statement, lacks, read_line};
+use session_lang::{Met, ScriptKind, Statement, lacks, read_line};
 use std::alloc::{AllocError, Global};
 
 // Names that lines are read over: copies of those of a session and of those of its actions. A line may leave more than
@@ -18,6 +18,7 @@ use std::alloc::{AllocError, Global};
 pub(crate) struct Reader {
     pub(crate) names: Names,
     pub(crate) begun: Names,
+    pub(crate) met: Met,
 }
 
 impl Reader {
@@ -29,6 +30,7 @@ impl Reader {
         Reader {
             names: Names::new(alloc),
             begun: Names::new(alloc),
+            met: Met::new(),
         }
     }
 }
@@ -42,6 +44,7 @@ pub(crate) fn read<'a>(
     words: &mut Vec<&'a [u8]>,
     copy: &mut Names,
     copy_begun: &mut Names,
+    met: &mut Met,
     names: &Names,
     begun: &Names,
     inside: bool,
@@ -60,7 +63,7 @@ pub(crate) fn read<'a>(
     }
     copy_of(alloc, copy, names)?;
     copy_of(alloc, copy_begun, begun)?;
-    let statement = read_line(line, words, copy, copy_begun, inside)?;
+    let statement = read_line(line, words, copy, copy_begun, met, inside)?;
     if is_lacking(copy, copy_begun, &statement) {
         return Err(LineFault::Kind(ScriptKind::NoAction));
     }

@@ -27,8 +27,8 @@ use Rattle.script_words.proofs.WordBytes.{IsWord, name_word}
 use Rattle.script_words.proofs.PrintedLines.{spaced, words_printable, line_first}
 use Rattle.script_words.proofs.Fields.{Back, nothing_back, name_said, number_said, weight_said}
 use Rattle.session_lang.specs.declared.statement.Statement.TheVariants.{Run}
-use Rattle.session_lang.specs.Statement.{word, command_meaning, words_meaning}
-use Rattle.session_lang.specs.Reading.{action_of, IsFirstLine}
+use Rattle.session_lang.specs.Statement.{word, command_meaning, words_meaning, line_meaning}
+use Rattle.session_lang.specs.Reading.{action_of, IsSaidFirst}
 use Rattle.session_lang.proofs.RowFacts.{row_is}
 use Rattle.session_lang.proofs.CommandLines.{command_read, row_said, words_line}
 
@@ -133,56 +133,67 @@ pub found_at : (names : List (List ℕ)) (text : List ℕ) (found : Option ℕ) 
 found_at names text None is at = tt
 found_at names text (Some place) is at = ap (slice_get names) at ∙ slice_get-place_of names text (sym is)
 
--- the first line of a text, by its words
-first_line : (names : List (List ℕ)) (command : Command) (w : List ℕ) (ws : List (List ℕ)) (text after : List ℕ)
+-- the first words of a text, where they are a line
+said_first : (names : List (List ℕ)) (command : Command) (w : List ℕ) (ws : List (List ℕ)) (text behind : List ℕ)
     → IsWord w → All IsWord ws → action_of command ≡ None
-    → ((begun : List (List ℕ)) → words_meaning (record { names = names; begun = begun }) false (w ∷ ws)
+    → ((begun : List (List ℕ)) (inside : Bool) → words_meaning (record { names = names; begun = begun }) inside (w ∷ ws)
     ≡ Ok (Run command, record { names = names; begun = begun }))
-    → text ≡ (w ++ spaced ws) ++ 10 ∷ after → IsFirstLine names text command after
-first_line names command w ws text after word words unlinked says whole = record {
+    → text ≡ (w ++ spaced ws) ++ behind → IsSaidFirst names text command behind
+said_first names command w ws text behind word words unlinked says whole = record {
   line = w ++ spaced ws;
-  first = ap lines whole ∙ line_first (w ++ spaced ws) after (words_printable w ws word words);
-  says = λ begun. words_line (record { names = names; begun = begun }) false w ws word words ∙ says begun;
+  whole = whole;
+  alone = λ after. line_first (w ++ spaced ws) after (words_printable w ws word words);
+  says = λ begun inside. words_line (record { names = names; begun = begun }) inside w ws word words ∙ says begun inside;
   unlinked = unlinked;
-  shorter = omega (arith, ap length whole ∙ length-append (w ++ spaced ws) (10 ∷ after));
 }
 
-ask_text : (name after : List ℕ) → codes "ask " ++ (name ++ 10 ∷ after) ≡ (codes "ask" ++ spaced (name ∷ [])) ++ 10 ∷ after
-ask_text name after = simp append-nil
+-- words that are said first and nothing behind them are a line
+pub whole_line : (names text : _) (command : Command) → IsSaidFirst names text command [] → (begun : List (List ℕ)) (inside : Bool)
+    → line_meaning (record { names = names; begun = begun }) inside text ≡ Ok (Run command, record { names = names; begun = begun })
+whole_line names text command said begun inside =
+    ap (line_meaning (record { names = names; begun = begun }) inside) (said.whole ∙ append-nil said.line) ∙ said.says begun inside
 
-set_text : (name value after : List ℕ) → codes "set " ++ (name ++ 32 ∷ (value ++ 10 ∷ after)) ≡ (codes "set" ++ spaced (name ∷ value ∷ [])) ++ 10 ∷ after
-set_text name value after = simp (append_assoc, append-nil)
+ask_text : (name behind : List ℕ) → codes "ask " ++ (name ++ behind) ≡ (codes "ask" ++ spaced (name ∷ [])) ++ behind
+ask_text name behind = simp append-nil
+
+set_text : (name value behind : List ℕ) → codes "set " ++ (name ++ 32 ∷ (value ++ behind)) ≡ (codes "set" ++ spaced (name ∷ value ∷ [])) ++ behind
+set_text name value behind = simp (append_assoc, append-nil)
 
 module _ (names : List (List ℕ)) (sound : IsNames names) (name : List ℕ) (place : ℕ) (at : slice_get names place ≡ Some name) where
   is_word : IsWord name
   is_word = name_word name (IsName-at names name sound place at)
 
   -- an ask of a known name
-  pub ask_first : (text after : List ℕ) → text ≡ name ++ 10 ∷ after → IsFirstLine names (codes "ask " ++ text) (command.Ask place) after
+  pub ask_first : (text behind : List ℕ) → text ≡ name ++ behind → IsSaidFirst names (codes "ask " ++ text) (command.Ask place) behind
   unfolding row_of parts_of
-  ask_first text after whole =
-      first_line names (command.Ask place) (codes "ask") (name ∷ []) (codes "ask " ++ text) after (row_is verb.Ask).word
+  ask_first text behind whole =
+      said_first names (command.Ask place) (codes "ask") (name ∷ []) (codes "ask " ++ text) behind (row_is verb.Ask).word
       (All-cons IsWord name [] is_word (All-nil IsWord)) refl
-      (λ begun. row_said (record { names = names; begun = begun }) false verb.Ask (name ∷ [])
+      (λ begun inside. row_said (record { names = names; begun = begun }) inside verb.Ask (name ∷ [])
       ∙ ask_said names begun (name ∷ []) place refl (name_said names [] sound place name at))
-      (ap (λ t. codes "ask " ++ t) whole ∙ ask_text name after)
+      (ap (λ t. codes "ask " ++ t) whole ∙ ask_text name behind)
 
   -- a set of a known name
-  pub set_first : (value : List ℕ) (units : ℤ) (text after : List ℕ) → Some units ≡ number_within 9 1_000_000_000_000_000_000 value
-      → text ≡ name ++ 32 ∷ (value ++ 10 ∷ after) → IsFirstLine names (codes "set " ++ text) (command.Set place units) after
+  pub set_first : (value : List ℕ) (units : ℤ) (text behind : List ℕ) → Some units ≡ number_within 9 1_000_000_000_000_000_000 value
+      → text ≡ name ++ 32 ∷ (value ++ behind) → IsSaidFirst names (codes "set " ++ text) (command.Set place units) behind
   unfolding row_of parts_of
-  set_first value units text after read whole =
-      first_line names (command.Set place units) (codes "set") (name ∷ value ∷ []) (codes "set " ++ text) after (row_is verb.Set).word
+  set_first value units text behind read whole =
+      said_first names (command.Set place units) (codes "set") (name ∷ value ∷ []) (codes "set " ++ text) behind (row_is verb.Set).word
       (All-cons IsWord name (value ∷ []) is_word
       (All-cons IsWord value [] (number_word 9 1_000_000_000_000_000_000 value units (sym read)) (All-nil IsWord))) refl
-      (λ begun. row_said (record { names = names; begun = begun }) false verb.Set (name ∷ value ∷ [])
+      (λ begun inside. row_said (record { names = names; begun = begun }) inside verb.Set (name ∷ value ∷ [])
       ∙ set_said names begun (name ∷ value ∷ []) place units refl (name_said names [] sound place name at)
       (number_found names value value units refl read))
-      (ap (λ t. codes "set " ++ t) whole ∙ set_text name value after)
+      (ap (λ t. codes "set " ++ t) whole ∙ set_text name value behind)
+
+-- the parts of a text
+pub joined : (text word behind : List ℕ) (n : ℕ) → word ≡ take n text → behind ≡ drop n text → text ≡ word ++ behind
+joined text word behind n front back =
+    sym (take-append-drop n text) ∙ ap (λ t. t ++ drop n text) (sym front) ∙ ap (λ t. word ++ t) (sym back)
 
 -- the parts of a text that a byte parts
 pub parted : (text word behind : List ℕ) (n byte : ℕ) → word ≡ take n text → behind ≡ drop n text → 1 ≤ length behind → get_or behind 0 0 ≡ byte
     → text ≡ word ++ byte ∷ take (length behind - 1) (drop 1 behind)
 parted text word behind n byte front back some first =
-    sym (take-append-drop n text) ∙ ap (λ t. t ++ drop n text) (sym front) ∙ ap (λ t. word ++ t) (sym back)
+    joined text word behind n front back
     ∙ ap (λ t. word ++ t) (first_and_rest behind some) ∙ ap (λ b. word ++ b ∷ take (length behind - 1) (drop 1 behind)) first

@@ -1,5 +1,5 @@
 -- A whole script: what its lines say, one after another, and what they say together.
-use Rattle.std.specs.Prelude.{◌≡◌, ℕ, ◌+◌, ◌<◌, Bool, true, false, nat_lt, if◌then◌else◌, List, [], ◌∷◌, length, slice_index_or, Option, Some, None, is_some, Result, Ok, Err}
+use Rattle.std.specs.Prelude.{◌≡◌, ℕ, ◌+◌, Bool, true, false, nat_lt, if◌then◌else◌, List, [], ◌∷◌, ◌++◌, length, slice_index_or, Option, Some, None, is_some, Result, Ok, Err}
 use Rattle.std.specs.List.{find}
 use Rattle.std.specs.Str.Lines.{lines}
 use Rattle.desk_names.specs.Names.{has_text, place_of}
@@ -64,14 +64,14 @@ lines_meaning known open_at number (line ∷ rest) =
 abbrev pub action_of : Command → Option ℕ
 action_of command = action_in (parts_of command).second
 
--- the first line of a text is this command, which names no action and no new name, and this text stands behind the line
-pub record IsFirstLine (names : List (List ℕ)) (text : List ℕ) (command : Command) (after : List ℕ) : Type 0 where
+-- the first words of a text, up to this rest of it, say this command, which names no action and no new name, where they are a line
+pub record IsSaidFirst (names : List (List ℕ)) (text : List ℕ) (command : Command) (behind : List ℕ) : Type 0 where
   pub line : List ℕ
-  pub first : lines text ≡ line ∷ lines after
-  pub says : (begun : List (List ℕ)) → line_meaning (record { names = names; begun = begun }) false line
+  pub whole : text ≡ line ++ behind
+  pub alone : (after : List ℕ) → lines (line ++ 10 ∷ after) ≡ line ∷ lines after
+  pub says : (begun : List (List ℕ)) (inside : Bool) → line_meaning (record { names = names; begun = begun }) inside line
       ≡ Ok (Run command, record { names = names; begun = begun })
   pub unlinked : action_of command ≡ None
-  pub shorter : length after < length text
 
 -- what a line leaves to those behind it, or the names as they were where it has a fault
 abbrev pub after_line : List (List ℕ) → (Statement × Known → List (List ℕ)) → Result (Statement × Known) ScriptKind → List (List ℕ)

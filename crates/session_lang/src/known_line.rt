@@ -1,70 +1,95 @@
-// The first line of a text, read at once where it is an ask or a set of known names.
-ghost use Rattle.std.specs.Prelude.{◌≡◌, ◌≤◌, ◌++◌, length, codes, nat_lt, false, IfSome};
+// Lines that are read at once: an ask or a set of known names.
+ghost use Rattle.std.specs.Prelude.{◌≡◌, ◌≤◌, ◌++◌, ◌∷◌, ℕ, List, Bool, length, codes, nat_lt, false, Ok, IfSome};
 ghost use Rattle.std.specs.List.{prefix_len};
-ghost use Rattle.session_lang.specs.Reading.{IsFirstLine};
+ghost use Rattle.session_lang.specs.declared.statement.Statement.TheVariants.{Run};
+ghost use Rattle.session_lang.specs.Statement.{line_meaning};
+ghost use Rattle.session_lang.specs.Reading.{IsSaidFirst};
 
-use crate::met::{MOST_MET, number_of};
-use desk_names::{NameId, Names};
+use crate::met::Met;
+use desk_names::Names;
 use script_words::number_of_word;
 use session_commands::Command;
 
-/// The command of a text's first line and the text behind that line, where the line stands outside of blocks and is an ask or
-/// a set of known names, one space before each further word and a newline right behind the last. Most lines of a long script
-/// are so. They are not parted into words first: no name and no decimal has a byte that may not stand in a word.
-pub(crate) fn known_line<'a>(
+/// The command of a text's first line and the text behind that line, where the line stands outside of blocks and is read at
+/// once, with a newline right behind it.
+pub(crate) fn known_first<'a>(
     text: &'a [u8],
     names: &Names,
-    met: &mut [NameId; MOST_MET],
+    met: &mut Met,
     inside: bool,
 ) -> Option<(Command, &'a [u8])>
-    ensures first { IfSome result (λ first. IsFirstLine names.now text.now first.0 first.1.now) }
+    ensures first { IfSome result (λ first. IsSaidFirst names.now text.now first.0 (10 ∷ first.1.now)) }
     ensures outside { IfSome result (λ _. inside ≡ false) }
 {
     if inside {
         return None;
     }
+    match said_first(text, names, met) {
+        Some((command, [b'\n', after @ ..])) => Some((command, after)),
+        _ => None,
+    }
+}
+
+/// The command of a line, where it is read at once.
+pub(crate) fn known_line(line: &[u8], names: &Names, met: &mut Met) -> Option<Command>
+    ensures { IfSome result (λ command. (begun : List (List ℕ)) (inside : Bool) →
+        line_meaning (record { names = names.now; begun = begun }) inside line.now
+        ≡ Ok (Run command, record { names = names.now; begun = begun })) }
+{
+    match said_first(line, names, met) {
+        Some((command, [])) => Some(command),
+        _ => None,
+    }
+}
+
+// The command that a text's first words say and the text behind them, where that is nothing or begins with a newline and they
+// are an ask or a set of known names with one space before each further word. Most lines of a long script are so. They are not
+// parted into words first: no name and no decimal has a byte that may not stand in a word.
+#[inline(always)]
+fn said_first<'a>(text: &'a [u8], names: &Names, met: &mut Met) -> Option<(Command, &'a [u8])>
+    ensures { IfSome result (λ said. IsSaidFirst names.now text.now said.0 said.1.now) }
+{
     match text {
-        [b'a', b's', b'k', b' ', rest @ ..] => ask_line(rest, names, met),
-        [b's', b'e', b't', b' ', rest @ ..] => set_line(rest, names, met),
+        [b'a', b's', b'k', b' ', rest @ ..] => ask_said(rest, names, met),
+        [b's', b'e', b't', b' ', rest @ ..] => set_said(rest, names, met),
         _ => None,
     }
 }
 
 // The same of what stands behind `ask `.
-fn ask_line<'a>(
-    text: &'a [u8],
-    names: &Names,
-    met: &mut [NameId; MOST_MET],
-) -> Option<(Command, &'a [u8])>
-    ensures { IfSome result (λ first. IsFirstLine names.now (codes "ask " ++ text.now) first.0 first.1.now) }
+#[inline(always)]
+fn ask_said<'a>(text: &'a [u8], names: &Names, met: &mut Met) -> Option<(Command, &'a [u8])>
+    ensures { IfSome result (λ said. IsSaidFirst names.now (codes "ask " ++ text.now) said.0 said.1.now) }
 {
     let (name, behind) = text.split_at(bytes_to_blank(text));
-    let [b'\n', after @ ..] = behind else {
+    if !is_end(behind) {
         return None;
-    };
-    Some((Command::Ask(number_of(name, names, met)?), after))
+    }
+    Some((Command::Ask(met.number_of(name, names)?), behind))
 }
 
 // The same of what stands behind `set `.
-fn set_line<'a>(
-    text: &'a [u8],
-    names: &Names,
-    met: &mut [NameId; MOST_MET],
-) -> Option<(Command, &'a [u8])>
-    ensures { IfSome result (λ first. IsFirstLine names.now (codes "set " ++ text.now) first.0 first.1.now) }
+#[inline(always)]
+fn set_said<'a>(text: &'a [u8], names: &Names, met: &mut Met) -> Option<(Command, &'a [u8])>
+    ensures { IfSome result (λ said. IsSaidFirst names.now (codes "set " ++ text.now) said.0 said.1.now) }
 {
     let (name, behind) = text.split_at(bytes_to_blank(text));
     let [b' ', rest @ ..] = behind else {
         return None;
     };
     let (value, behind) = rest.split_at(bytes_to_blank(rest));
-    let [b'\n', after @ ..] = behind else {
+    if !is_end(behind) {
         return None;
-    };
+    }
     Some((
-        Command::Set(number_of(name, names, met)?, number_of_word(value)?),
-        after,
+        Command::Set(met.number_of(name, names)?, number_of_word(value)?),
+        behind,
     ))
+}
+
+// Whether a line may end before this text. It spares the search where it does not, and decides no answer.
+fn is_end(text: &[u8]) -> bool {
+    matches!(text, [] | [b'\n', ..])
 }
 
 // How many bytes stand before the first that is a space or less, or in all.

@@ -4,22 +4,37 @@ ghost use Rattle.desk_names.specs.Names.{IsNames};
 
 use desk_names::{NameId, Names};
 
-/// How many names are kept.
-pub(crate) const MOST_MET: usize = 64;
+// How many names are kept.
+const MOST_MET: usize = 64;
 
-/// The number of a known name. It is kept at a place by its first and last byte; what is kept there is looked at first.
-pub(crate) fn number_of(text: &[u8], names: &Names, met: &mut [NameId; MOST_MET]) -> Option<NameId>
-    ensures at { IfSome result (λ name. slice_get names.now name ≡ Some text.now) }
-    ensures names { IsNames names.now }
-{
-    let at = place_of(text);
-    let name = met[at];
-    if is_named(text, names, name) {
-        return Some(name);
+/// The numbers of names that lines named lately. What is kept is looked at before it is used: it changes no answer.
+#[derive(Drop)]
+pub struct Met {
+    names: [NameId; MOST_MET],
+}
+
+impl Met {
+    /// No name was met yet.
+    pub fn new() -> Met {
+        Met {
+            names: [NameId(0); MOST_MET],
+        }
     }
-    let name = found(text, names)?;
-    met[at] = name;
-    Some(name)
+
+    // The number of a known name. It is kept at a place by its first and last byte; what is kept there is looked at first.
+    pub(crate) fn number_of(&mut self, text: &[u8], names: &Names) -> Option<NameId>
+        ensures at { IfSome result (λ name. slice_get names.now name ≡ Some text.now) }
+        ensures names { IsNames names.now }
+    {
+        let at = place_of(text);
+        let name = self.names[at];
+        if is_named(text, names, name) {
+            return Some(name);
+        }
+        let name = found(text, names)?;
+        self.names[at] = name;
+        Some(name)
+    }
 }
 
 // Whether a name has this number and this text.

@@ -13,11 +13,11 @@ ghost use Rattle.session_lang.specs.Gathered.{gathered_behind, Takes, together_g
 ghost use Rattle.text_limits.specs.declared.limit.TheConstants.{MOST_BYTES};
 
 use crate::ScriptFault;
-use crate::known_line::known_line;
-use crate::met::MOST_MET;
-use crate::statement::read_line;
+use crate::known_line::known_first;
+use crate::met::Met;
+use crate::statement::read_words;
 use crate::steps::{Step, action_names_of, actions_of, add, all_linked, first_lacking, is_open};
-use desk_names::{NameId, Names};
+use desk_names::Names;
 use script_words::{LineFault, next_line};
 use session_commands::{CommandList, Script, ScriptKind};
 use std::alloc::Global;
@@ -61,7 +61,7 @@ fn take_line<'a>(
         (names_left (record { names = names.old; begun = begun.old }) open_at number (line.now ∷ rest)) }
     ensures grows { Grows names.old names.new }
 {
-    match read_line(line, words, names, begun, is_open(open_at)) {
+    match read_words(line, words, names, begun, is_open(open_at)) {
         Ok(statement) => Ok(add(commands, steps, number, statement, open_at)?),
         Err(fault) => Err(at_number(number, fault)),
     }
@@ -83,12 +83,12 @@ fn read_lines(
     let mut commands = CommandList::new(alloc);
     let mut steps = Vec::new(alloc);
     let mut words = Vec::new(alloc);
-    let mut met = [NameId(0); MOST_MET];
+    let mut met = Met::new();
     let mut open_at = None;
     let mut number = 1;
     let mut rest = text;
     while !rest.is_empty() {
-        match known_line(rest, names, &mut met, is_open(open_at)) {
+        match known_first(rest, names, &mut met, is_open(open_at)) {
             Some((command, after)) => {
                 commands.push(command)?;
                 rest = after;

@@ -8,6 +8,8 @@ ghost use Rattle.session_commands.specs.declared.table.Verb.TheVariants.{Ask, Se
 ghost use Rattle.session_lang.specs.declared.statement.Statement.TheVariants.{Run};
 ghost use Rattle.session_lang.specs.Statement.{Known, ArePlain, PlainOf, names_with, fields_meaning, command_meaning, begin_meaning, end_meaning, words_meaning, line_meaning};
 
+use crate::known_line::known_line;
+use crate::met::Met;
 use desk_names::{MOST_NAMES, NameId, Names, is_name};
 use script_words::{
     LineFault, field_of, good_words_of, names_new, number_of, number_of_word, weight_of_word,
@@ -299,10 +301,32 @@ fn words_line(
 }
 
 /// What a line says, or its first fault. The names of a line without a fault get numbers, in order; one with a fault
-/// adds none. `begun` are the names of the actions so far, to which a line that begins one adds its own. `words` is left
-/// with the words of the line: a vector for all lines is made once.
-#[tactic(auto, unfolding(crate::specs::Statement::line_meaning), using(script_words::proofs::Interning::grows_same))]
+/// adds none. `begun` are the names of the actions so far, to which a line that begins one adds its own. `words` is room for
+/// the words of the line: a vector for all lines is made once, as is `met`. An ask or a set of known names is read at once.
+#[tactic(auto, using(script_words::proofs::Interning::grows_same))]
 pub fn read_line<'a>(
+    line: &'a [u8],
+    words: &mut Vec<&'a [u8]>,
+    names: &mut Names,
+    begun: &mut Names,
+    met: &mut Met,
+    inside: bool,
+) -> Result<Statement, LineFault>
+    ensures gives { Gives (λ s. (s, record { names = names.new; begun = begun.new })) result
+        (line_meaning (record { names = names.old; begun = begun.old }) inside line.now) }
+    ensures grows { Grows names.old names.new }
+    ensures begun { Grows begun.old begun.new }
+    ensures kept { Keeps result names.old names.new }
+{
+    match known_line(line, names, met) {
+        Some(command) => Ok(Statement::Run(command)),
+        None => read_words(line, words, names, begun, inside),
+    }
+}
+
+// The same by the words of the line.
+#[tactic(auto, unfolding(crate::specs::Statement::line_meaning), using(script_words::proofs::Interning::grows_same))]
+pub(crate) fn read_words<'a>(
     line: &'a [u8],
     words: &mut Vec<&'a [u8]>,
     names: &mut Names,

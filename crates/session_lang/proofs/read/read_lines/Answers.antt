@@ -1,4 +1,4 @@
-use Rattle.std.proofs.Common.{◌≡◌, ◌+◌, false, arith, sym, ◌∙◌, ap, rules, is_some}
+use Rattle.std.proofs.Common.{◌≡◌, ◌+◌, false, arith, sym, ◌∙◌, ap, rules, is_some, length, length-append, ◌∷◌}
 use Rattle.std.proofs.lemmas.List.{nil_from_length}
 use Rattle.std.specs.Str.Lines.{lines}
 use Rattle.session_lang.specs.Statement.{Known}
@@ -32,6 +32,6 @@ loop-rest-preserved-in-Some c =
           ∙ c.loop-rest.invariant.whole;
       left = sym (left_first c.loop-rest.names c.loop-rest.begun c.loop-rest.number _ _ _ c.loop-rest.open_at closed first)
           ∙ c.loop-rest.invariant.left;
-      count = omega (arith, first.shorter, c.loop-rest.invariant.count);
+      count = omega (arith, ap length first.whole, length-append first.line (10 ∷ c.in-Some.after.now), c.loop-rest.invariant.count);
       grows = c.loop-rest.invariant.grows;
     }

@@ -23,7 +23,7 @@ returns-in_ok-add-in-Ok-clause-leaves c = left_more _ _ c.args.open_at c.in_ok-a
 pub returns-in-Err-clause-leaves : goal.returns-in-Err-clause-leaves
 returns-in-Err-clause-leaves c = λ rest.
     let known : Known = record { names = c.args.names.now; begun = c.args.begun.now } in
-    let new : Known = record { names = c.read_line.new.names; begun = c.read_line.new.begun } in
+    let new : Known = record { names = c.read_words.new.names; begun = c.read_words.new.begun } in
     let next : Option ℕ → List (List ℕ) = λ o. names_left new o (c.args.number + 1) rest in
     subst (λ (e : ScriptFault). Leaves (Err e) new.names next (names_left known c.args.open_at c.args.number (c.args.line.now ∷ rest))) (sym c.at_number.ensures)
     (left_here known c.args.open_at c.args.number c.in-Err.fault c.args.line.now c.is_open.result new.names c.is_open.ensures c.in-Err.ensures.gives c.in-Err.ensures.kept next rest)

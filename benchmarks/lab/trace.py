@@ -47,14 +47,13 @@ class Sources:
 
     def function(self, path, line, is_closure):
         """(file, line, name) in the repository's sources; none where the line is a derive's, or in no crate of the repository."""
-        if not path.startswith(self.rust):
-            return None
-        file = path[len(self.rust):]
-        source = f"{self.crates}{file[:-3]}.rt"
-        if not os.path.exists(source):
+        # Where the folder was copied, what cargo did not build anew still names the place that it was copied from.
+        file = path.split("/rust/")[-1]
+        made, source = f"{self.rust}{file}", f"{self.crates}{file[:-3]}.rt"
+        if not (os.path.exists(made) and os.path.exists(source)):
             return None
         if file not in self.known:
-            self.known[file] = lines_of(path), lines_of(source)
+            self.known[file] = lines_of(made), lines_of(source)
         made, written = self.known[file]
         at = max((at for at, (begun, _) in enumerate(made) if begun <= line), default=None)
         if at is None or (made[at][0] != line and not is_closure):
@@ -163,8 +162,10 @@ def main():
         sys.exit(__doc__)
     subprocess.run([sys.executable, f"{lab}/convert.py"], check=True)
     # No pass of the compiler's back end runs, so that what is marked `inline(always)` is a call as any other.
-    subprocess.run(["cargo", "build", "--offline", "-q"], cwd=f"{lab}/rust", check=True, stderr=subprocess.DEVNULL, env={
-        **os.environ, "RUSTFLAGS": "-Cno-prepopulate-passes", "CARGO_TARGET_DIR": "trace"})
+    built = subprocess.run(["cargo", "build", "--offline", "-q"], cwd=f"{lab}/rust", capture_output=True, text=True, env={
+        **os.environ, "RUSTFLAGS": "-Cno-prepopulate-passes -Awarnings", "CARGO_TARGET_DIR": "trace"})
+    if built.returncode:
+        sys.exit(built.stderr)
     with tempfile.TemporaryDirectory() as work:
         def trace(title, market, script):
             out = f"{work}/trace"

@@ -67,7 +67,7 @@ fn step_agrees(held: &mut Deferral, step: &str) -> Option<bool> {
             held.resume();
             Some(!held.is_on())
         }
-        "told" => Some(held.graph().next_told() == node_or_none(first)?),
+        "told" => Some(held.graph.next_told() == node_or_none(first)?),
         "link" | "unlink" | "pair" | "reaches" => {
             pair_agrees(held, verb, node_of(first)?, node_of(second)?, third)
         }
@@ -86,7 +86,7 @@ fn pair_agrees(
     second: ObjId,
     answer: &str,
 ) -> Option<bool> {
-    let graph = held.graph();
+    let graph = &mut held.graph;
     if !graph.is_live(first) || !graph.is_live(second) {
         return None;
     }
@@ -112,30 +112,30 @@ fn link(graph: &mut Graph, subject: ObjId, observer: ObjId) -> Option<bool> {
 
 // Whether a question about one node agrees.
 fn answer_agrees(held: &mut Deferral, verb: &str, node: ObjId, answer: &str) -> Option<bool> {
-    if !held.as_graph().is_live(node) {
+    if !held.graph.is_live(node) {
         return None;
     }
     match verb {
-        "watching" => Some(held.as_graph().has_subject(node) == is_yes(answer)?),
-        "user" => Some(held.as_graph().least_observer(node) == node_or_none(answer)?),
+        "watching" => Some(held.graph.has_subject(node) == is_yes(answer)?),
+        "user" => Some(held.graph.least_observer(node) == node_or_none(answer)?),
         "late" => Some(held.late(node) == node_or_none(answer)?),
-        "clear" => Some(held.clear(node) == is_yes(answer)?),
-        _ => Some(held.as_graph().is_current(node) == is_yes(answer)?),
+        "clear" => Some(held.graph.all_clear(node) == is_yes(answer)?),
+        _ => Some(held.graph.is_current(node) == is_yes(answer)?),
     }
 }
 
 // A change of one node.
 fn change(held: &mut Deferral, verb: &str, node: ObjId) -> Option<bool> {
-    if !held.as_graph().is_live(node) {
+    if !held.graph.is_live(node) {
         return None;
     }
     match verb {
         "change" => held.changed(node),
-        "forget" => held.forget(node),
-        "drop" => held.graph().remove(node),
+        "forget" => held.graph.unmark(node),
+        "drop" => held.graph.remove(node),
         _ => {
-            let flags = flags_by(verb, held.as_graph().flags(node))?;
-            set(held.graph(), node, flags)?;
+            let flags = flags_by(verb, held.graph.flags(node))?;
+            set(&mut held.graph, node, flags)?;
         }
     }
     Some(true)

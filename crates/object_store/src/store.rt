@@ -64,7 +64,7 @@ impl Store {
         ensures same { OnErr result (self.new ≡ self.old) }
     {
         self.lasts.reserve(1)?;
-        self.deferral.graph().add_watching(role, named)?;
+        self.deferral.graph.add_watching(role, named)?;
         self.lasts.push_reserved(None);
         Ok(())
     }
@@ -74,7 +74,7 @@ impl Store {
         requires { is_some (role_at self.old.shape object) ≡ true }
         ensures { TakesObject object self.old self.new }
     {
-        self.deferral.graph().remove(object);
+        self.deferral.graph.remove(object);
         self.lasts[object.place()] = None;
     }
 
@@ -82,14 +82,14 @@ impl Store {
     pub fn has(&self, object: ObjId) -> bool
         ensures { result ≡ is_some (role_at self.now.shape object) }
     {
-        self.deferral.as_graph().is_live(object)
+        self.deferral.graph.is_live(object)
     }
 
     /// Whether the value of an object is current.
     pub fn is_current(&self, object: ObjId) -> bool
         ensures { result ≡ is_now self.now.kept object }
     {
-        self.deferral.as_graph().is_current(object)
+        self.deferral.graph.is_current(object)
     }
 
     /// The last value of an object, if it has one.
@@ -108,7 +108,7 @@ impl Store {
         ensures switch { self.new.deferring ≡ self.old.deferring }
         ensures told { self.new.noticed ≡ self.old.noticed }
     {
-        self.deferral.graph().settle(object);
+        self.deferral.graph.settle(object);
         self.lasts[object.place()] = Some(value);
     }
 
@@ -121,7 +121,7 @@ impl Store {
         ensures switch { self.new.deferring ≡ self.old.deferring }
         ensures told { self.new.noticed ≡ self.old.noticed }
     {
-        self.deferral.graph().settle(object);
+        self.deferral.graph.settle(object);
         put_money(&mut self.lasts[object.place()], amount);
     }
 
@@ -130,7 +130,7 @@ impl Store {
         requires { is_some (role_at self.old.shape object) ≡ true }
         ensures { self.new ≡ stored_as object (record (stored_at self.old object) { current = false }) self.old }
     {
-        self.deferral.graph().outdate(object);
+        self.deferral.graph.outdate(object);
     }
 
     /// An object is frozen: it takes notices without passing them on. Nobody is told.
@@ -138,9 +138,9 @@ impl Store {
         requires { role_at self.old.shape object ≡ Some role.Lazy }
         ensures { self.new ≡ stored_as object (record (stored_at self.old object) { frozen = true }) self.old }
     {
-        let flags = self.deferral.as_graph().flags(object);
+        let flags = self.deferral.graph.flags(object);
         self.deferral
-            .graph()
+            .graph
             .set_flags(object, frozen_as(flags, true));
     }
 
@@ -151,10 +151,10 @@ impl Store {
         ensures thawed { result ≡ true → self.new ≡ stored_as object (record (stored_at self.old object) { frozen = false }) self.old }
         ensures same { result ≡ false → self.new ≡ self.old }
     {
-        let flags = self.deferral.as_graph().flags(object);
+        let flags = self.deferral.graph.flags(object);
         if flags.frozen {
             self.deferral
-                .graph()
+                .graph
                 .set_flags(object, frozen_as(flags, false));
         }
         flags.frozen
@@ -165,10 +165,8 @@ impl Store {
         requires { role_at self.old.shape object ≡ Some role.Lazy }
         ensures { self.new ≡ stored_as object (record (stored_at self.old object) { forward = on }) self.old }
     {
-        let flags = self.deferral.as_graph().flags(object);
-        self.deferral
-            .graph()
-            .set_flags(object, forwarding(flags, on));
+        let flags = self.deferral.graph.flags(object);
+        self.deferral.graph.set_flags(object, forwarding(flags, on));
     }
 
     /// An object was changed: those whom its notice reaches are not current. Where notices are held back, the object is
@@ -208,7 +206,7 @@ impl Store {
         ensures same { OnErr result (self.new ≡ self.old) }
         ensures spare { self.new.shape.spare ≡ self.old.shape.spare }
     {
-        self.deferral.graph().watch(subject, observer)
+        self.deferral.graph.watch(subject, observer)
     }
 
     /// Finds spare places, so that there are at least so many. After want of memory nothing is changed.
@@ -216,7 +214,7 @@ impl Store {
         ensures reserved { OnOk result (self.new ≡ record self.old { shape = record self.old.shape { spare = max self.old.shape.spare pairs } }) }
         ensures same { OnErr result (self.new ≡ self.old) }
     {
-        self.deferral.graph().reserve(pairs)
+        self.deferral.graph.reserve(pairs)
     }
 
     /// An object observes another too, by one of the spare places. It takes no memory.
@@ -228,7 +226,7 @@ impl Store {
         ensures joins { Joins self.old self.new subject observer }
         ensures spare { self.new.shape.spare + 1 ≡ self.old.shape.spare }
     {
-        self.deferral.graph().watch_spare(subject, observer);
+        self.deferral.graph.watch_spare(subject, observer);
     }
 
     /// An object does not observe another; whether it did, which leaves a spare place. It takes no memory.
@@ -239,7 +237,7 @@ impl Store {
         ensures leaves { Leaves self.old self.new subject observer }
         ensures spare { self.new.shape.spare ≡ self.old.shape.spare + (if result then 1 else 0) }
     {
-        self.deferral.graph().unwatch(subject, observer)
+        self.deferral.graph.unwatch(subject, observer)
     }
 
     /// Whether an object observes another. It costs the fewer of what the observer observes and of who observes the subject.
@@ -248,7 +246,7 @@ impl Store {
         requires observer { is_some (role_at self.now.shape observer) ≡ true }
         ensures { IsTrue result ↔ Among subject (observed_by self.now.shape observer) }
     {
-        self.deferral.as_graph().has_pair(subject, observer)
+        self.deferral.graph.has_pair(subject, observer)
     }
 
     /// Whether an object observes any.
@@ -256,7 +254,7 @@ impl Store {
         requires { is_some (role_at self.now.shape observer) ≡ true }
         ensures { IsTrue result ↔ ((x : ℕ) × Among x (observed_by self.now.shape observer)) }
     {
-        self.deferral.as_graph().has_subject(observer)
+        self.deferral.graph.has_subject(observer)
     }
 
     /// The first by creation of the watchers that were told and not handed out since; it is forgotten. None where there
@@ -267,7 +265,7 @@ impl Store {
         ensures some { IfSome result (λ w. (self.old.noticed ≡ w ∷ self.new.noticed)
             × (self.new ≡ record self.old { noticed = self.new.noticed })) }
     {
-        self.deferral.graph().next_told()
+        self.deferral.graph.next_told()
     }
 
     /// Whether an object is another, or reaches it by edges.
@@ -277,7 +275,7 @@ impl Store {
         ensures answer { IsTrue result ↔ ((from ≡ to) ⊎ Below (edges_at self.old.shape) (λ y. y == to) (λ y. true) from) }
         ensures same { self.new ≡ self.old }
     {
-        self.deferral.graph().reaches(from, to)
+        self.deferral.graph.reaches(from, to)
     }
 
     /// The least object that has another among its edges, if any has.
@@ -285,24 +283,24 @@ impl Store {
         requires { is_some (role_at self.now.shape object) ≡ true }
         ensures { IsLeast (λ o. Among object (edges_at self.now.shape o)) result }
     {
-        self.deferral.as_graph().least_observer(object)
+        self.deferral.graph.least_observer(object)
     }
 
     /// Whether an object is frozen.
     pub fn is_frozen(&self, object: ObjId) -> bool
         ensures { result ≡ (slice_index_or self.now.kept object unpriced).frozen }
     {
-        if !self.deferral.as_graph().is_live(object) {
+        if !self.deferral.graph.is_live(object) {
             return false;
         }
-        self.deferral.as_graph().flags(object).frozen
+        self.deferral.graph.flags(object).frozen
     }
 
     /// Whether an object holds its notice back.
     pub fn is_source(&self, object: ObjId) -> bool
         ensures { result ≡ (slice_index_or self.now.kept object unpriced).source }
     {
-        self.deferral.as_graph().is_source(object)
+        self.deferral.graph.is_source(object)
     }
 
     /// Whether an object answers its last value where another needs it.
@@ -329,7 +327,7 @@ impl Store {
         ensures answer { IsTrue result ↔ IsClear self.old object }
         ensures same { self.new ≡ self.old }
     {
-        self.deferral.clear(object)
+        self.deferral.graph.all_clear(object)
     }
 }
 

@@ -2,8 +2,6 @@ use Rattle.std.proofs.Common.{◌≡◌, true, Some, sym, ◌∙◌, ap, subst}
 use Rattle.std.specs.Prelude.{is_some}
 use Rattle.observer_graph.specs.declared.node.Role.TheVariants.{Lazy}
 use Rattle.observer_graph.specs.declared.node.Flags.{Flags}
-use Rattle.observer_graph.specs.GraphView.{GraphView, flags_of, node_at}
-use Rattle.observer_graph.specs.Change.{with_flags}
 use Rattle.object_store.specs.Shape.{role_at, shape_of}
 use Rattle.object_store.specs.Store.{StoreView}
 use Rattle.object_store.proofs.Kept.{frozen_view}
@@ -12,5 +10,5 @@ use Rattle.object_store.proofs.store.Store.freeze.Goals as goal
 pub returns : goal.returns
 returns c =
     let is : is_some (role_at (shape_of c.self.inside.deferral.graph) c.args.object) ≡ true = ap is_some (subst (λ (v : StoreView). role_at v.shape c.args.object ≡ Some Lazy) (sym c.self.view_is) c.requires) in
-    let flags = c.frozen_as.ensures ∙ ap (λ (f : Flags). record f { frozen = true }) (c.flags-flags.ensures ∙ ap (λ (g : GraphView). flags_of (node_at g c.args.object)) c.as_graph.ensures) in
-    rw (← c.self.view_is) (frozen_view c.self.inside.deferral.graph c.self.inside.lasts.items c.self.inside.deferral.on (record { nodes = c.self.invariant.0; sources = c.self.invariant.1 }) c.args.object is c.set_flags.new.self c.frozen_as.result true (c.set_flags.ensures ∙ ap (with_flags c.args.object c.frozen_as.result) c.graph.ensures.value) flags)
+    let flags = c.frozen_as.ensures ∙ ap (λ (f : Flags). record f { frozen = true }) c.flags-flags.ensures in
+    rw (← c.self.view_is) (frozen_view c.self.inside.deferral.graph c.self.inside.lasts.items c.self.inside.deferral.on (record { nodes = c.self.invariant.0; sources = c.self.invariant.1 }) c.args.object is c.set_flags.new.self c.frozen_as.result true c.set_flags.ensures flags)

@@ -12,12 +12,12 @@ pub returns-clause-kept : goal.returns-clause-kept
 returns-clause-kept c =
     let is : is_some (role_at (shape_of c.self.inside.deferral.graph) c.args.object) ≡ true = ap is_some (subst (λ (v : StoreView). role_at v.shape c.args.object ≡ Some Lazy) (sym c.self.view_is) c.requires) in
     let flags = record (flags_at c.self.inside.deferral.graph c.args.object) { current = true } in
-    rw (← c.self.view_is, c.place.ensures, c.put_money.ensures, c.settle.ensures, c.graph.ensures.value)
+    rw (← c.self.view_is, c.place.ensures, c.put_money.ensures, c.settle.ensures)
     (valued_kept c.self.inside.deferral.graph c.self.inside.lasts.items (record { nodes = c.self.invariant.0; sources = c.self.invariant.1 }) c.args.object (place_within c.self.inside.deferral.graph c.self.inside.lasts.items (record { nodes = c.self.invariant.0; sources = c.self.invariant.1 }) c.args.object is) flags refl (Money c.args.amount) (live_node c.self.inside.deferral.graph c.args.object is))
 
 pub returns-clause-shape : goal.returns-clause-shape
 returns-clause-shape c =
     let is : is_some (role_at (shape_of c.self.inside.deferral.graph) c.args.object) ≡ true = ap is_some (subst (λ (v : StoreView). role_at v.shape c.args.object ≡ Some Lazy) (sym c.self.view_is) c.requires) in
     let flags = record (flags_at c.self.inside.deferral.graph c.args.object) { current = true } in
-    rw (← c.self.view_is, c.settle.ensures, c.graph.ensures.value)
+    rw (← c.self.view_is, c.settle.ensures)
     (flagged_shape c.self.inside.deferral.graph c.self.inside.lasts.items (record { nodes = c.self.invariant.0; sources = c.self.invariant.1 }) c.args.object (place_within c.self.inside.deferral.graph c.self.inside.lasts.items (record { nodes = c.self.invariant.0; sources = c.self.invariant.1 }) c.args.object is) flags)

@@ -1,23 +1,28 @@
-// What one command does in a round.
-ghost use Rattle.std.specs.Prelude.{◌≡◌, ◌⊎◌, ◌∷◌, ◌≤◌, ◌+◌, true, false, [], length, is_ok, OnOk, OnErr};
+// What one command does in a round, whom its notices make due, and who of the due has no registration left.
+ghost use Rattle.std.specs.Prelude.{◌≡◌, ◌⊎◌, ◌∷◌, ◌≤◌, ◌+◌, true, false, [], length, is_ok, OnOk, OnErr, ◌++◌};
 ghost use Rattle.desk_model.specs.Sound.{IsSound};
-ghost use Rattle.session_model.specs.Standing.{IsKnown};
+ghost use Rattle.session_model.specs.Standing.{IsKnown, name_of};
 ghost use Rattle.session_model.specs.Resolve.{resolve};
 ghost use Rattle.session_model.specs.Turn.{turn};
-ghost use Rattle.session_model.specs.Course.{taken, course_of};
+ghost use Rattle.session_model.specs.Course.{taken, course_of, notice, over_lines, heard, undue};
 ghost use Rattle.session_core.specs.Steps.{is_without_memory};
 ghost use Rattle.session_model.specs.Moments.{moment_of};
-ghost use Rattle.session_rounds.specs.Goes.{Does, Halts, Stays};
-ghost use Rattle.session_rounds.specs.Quiet.{IsQuiet};
+ghost use Rattle.session_rounds.specs.Goes.{Does, Halts, Stays, lines_alone};
 ghost use Rattle.session_rounds.specs.Stopped.{StopsWithin, StopsBehind, HaltsIn};
+ghost use Rattle.desk_terms.specs.Reading.{Calc};
+ghost use Rattle.session_core.specs.Watchers.{IsAWatcher};
+ghost use Rattle.desk_model.specs.Told.{is_watching};
+ghost use Rattle.watch_rounds.specs.declared.notice.Notice.TheVariants.{Due};
+ghost use Rattle.session_rounds.specs.Fits.{AreWatching, IsSettled, may_idle};
 
 use crate::WatchedSession;
-use crate::idle::{settle, stays_settled};
+use desk_names::{NameId, ObjId};
 use desk_terms::Bench;
+use price_report::over_line;
 use session_commands::Command;
 use session_core::Session;
 use std::alloc::AllocError;
-use watch_rounds::{Picker, Rounds};
+use watch_rounds::{Notice, Picker, Rounds};
 
 impl<P: Picker> WatchedSession<P> {
     // Does one command, at the top or in an action, with its notices.
@@ -94,6 +99,53 @@ impl<P: Picker> WatchedSession<P> {
             }
         }
     }
+
+    // Hands the notices of a command out, to each watcher that was told, by creation.
+    fn hear(&mut self, lines: &mut Vec<u8>) -> Result<(), AllocError>
+        ensures ok { OnOk result (Does P (heard self.old) self.new (lines_alone lines.old.items) (lines_alone lines.new.items)) }
+        ensures err { OnErr result (Halts P (heard self.old) (lines_alone lines.old.items) (lines_alone lines.new.items)) }
+        ensures ready { (heard self.old).lines ≡ [] → is_ok result ≡ true }
+        ensures names { self.new.standing.names ≡ self.old.standing.names }
+        ensures actions { self.new.standing.actions ≡ self.old.standing.actions }
+        ensures stopped { self.new.standing.stopped ≡ self.old.standing.stopped }
+        ensures sound { (calc : Calc) → IsSound calc self.old.standing.state → IsSound calc self.new.standing.state }
+    {
+        while let Some(watcher) = self.session.next_told() {
+            self.notice(watcher, lines)?;
+        }
+        Ok(())
+    }
+
+    // A notice to a watcher: it is due, or its name is over, which the first time writes a line.
+    fn notice(&mut self, watcher: ObjId, lines: &mut Vec<u8>) -> Result<(), AllocError>
+        requires { IsAWatcher self.old.standing watcher }
+        ensures ok { OnOk result (Does P (notice watcher self.old) self.new (lines_alone lines.old.items) (lines_alone lines.new.items)) }
+        ensures err { OnErr result (Halts P (notice watcher self.old) (lines_alone lines.old.items) (lines_alone lines.new.items)) }
+        ensures ready { (notice watcher self.old).lines ≡ [] → is_ok result ≡ true }
+        ensures standing { self.new.standing ≡ self.old.standing }
+    {
+        self.session.watchers();
+        if self.rounds.stays_due(watcher) {
+            return Ok(());
+        }
+        let name = self.session.name_of(watcher);
+        let notice = self.rounds.told(watcher, name);
+        self.settled = settled_with(self.settled, notice, &self.session, watcher);
+        self.say(notice, name, lines)
+    }
+
+    // The line of a name that is over.
+    fn say(&self, notice: Notice, name: NameId, lines: &mut Vec<u8>) -> Result<(), AllocError>
+        ensures ok { OnOk result (lines.new.items ≡ lines.old.items ++ over_lines self.now.standing.names name notice) }
+        ensures err { OnErr result (lines.new.items ≡ lines.old.items) }
+        ensures ready { over_lines self.now.standing.names name notice ≡ [] → is_ok result ≡ true }
+    {
+        match notice {
+            Notice::Due => Ok(()),
+            Notice::OverFirst => over_line(self.alloc, name, self.session.names(), lines),
+            Notice::OverAgain => Ok(()),
+        }
+    }
 }
 
 // Finds room for one object more, where the last command gave a number. Where there is none, the session is stopped.
@@ -116,6 +168,81 @@ fn make_room(rounds: &mut Rounds, session: &mut Session, given: u32) -> Result<(
         Err(fault) => {
             session.stop();
             Err(fault)
+        }
+    }
+}
+
+// Whether a command may leave a watcher without a registration.
+fn may_idle(command: &Command) -> bool
+    ensures { result ≡ may_idle command.now }
+{
+    match command {
+        Command::Quote(_, _)
+        | Command::Sum(_, _, _)
+        | Command::Difference(_, _, _)
+        | Command::Handle(_, _)
+        | Command::Stock(_, _)
+        | Command::Composite(_)
+        | Command::Member(_, _, _)
+        | Command::Set(_, _)
+        | Command::Unset(_)
+        | Command::Link(_, _)
+        | Command::Unlink(_)
+        | Command::Engine(_, _)
+        | Command::Today(_)
+        | Command::Fixing(_, _, _)
+        | Command::Freeze(_)
+        | Command::Thaw(_)
+        | Command::Recalc(_)
+        | Command::Forward(_, _)
+        | Command::Defer
+        | Command::Resume
+        | Command::Watch(_, _)
+        | Command::Register(_, _)
+        | Command::Ask(_)
+        | Command::Df(_, _) => false,
+        Command::Unregister(_, _) | Command::Drop(_) => true,
+    }
+}
+
+// Whether each due watcher is known to have a registration also after a command.
+fn stays_settled(settled: bool, command: &Command) -> bool
+    ensures { (result ≡ true) → (settled ≡ true) × (may_idle command.now ≡ false) }
+{
+    settled && !may_idle(command)
+}
+
+// Whether each due watcher is known to have a registration also after a notice to a watcher.
+fn settled_with(settled: bool, notice: Notice, session: &Session, watcher: ObjId) -> bool
+    ensures { result ≡ true
+        → (settled ≡ true) × (notice ≡ Due → is_watching session.now.state watcher ≡ true) }
+{
+    settled && (notice != Notice::Due || session.is_watching(watcher))
+}
+
+// Takes out of the due who has no registration left, unless each of them is known to have one.
+pub(crate) fn settle(rounds: &mut Rounds, session: &Session, settled: bool)
+    requires { IsSettled settled session.now.state rounds.old.round.due }
+    ensures undue { rounds.new ≡ record rounds.old { round = undue session.now.state rounds.old.round } }
+    ensures watching { AreWatching session.now.state rounds.new.round.due }
+{
+    if settled {
+        return;
+    }
+    forget_idle(rounds, session);
+}
+
+// Takes out of the due who has no registration left.
+fn forget_idle(rounds: &mut Rounds, session: &Session)
+    ensures undue { rounds.new ≡ record rounds.old { round = undue session.now.state rounds.old.round } }
+    ensures watching { AreWatching session.now.state rounds.new.round.due }
+{
+    let mut at = rounds.due().len();
+    while at > 0 {
+        at -= 1;
+        let watcher = rounds.due()[at].watcher;
+        if !session.is_watching(watcher) {
+            rounds.gone(watcher);
         }
     }
 }

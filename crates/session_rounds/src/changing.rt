@@ -16,7 +16,7 @@ ghost use Rattle.session_model.specs.Turn.{turn};
 ghost use Rattle.session_model.specs.Course.{taken};
 
 use crate::WatchedSession;
-use crate::idle::settle;
+use crate::acting::settle;
 use desk_model::Entry;
 use desk_names::{NameId, ObjId};
 use desk_terms::{Asked, Bench};

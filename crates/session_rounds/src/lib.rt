@@ -6,9 +6,6 @@
 mod acting;
 mod changing;
 mod growing;
-mod idle;
-mod playing;
 mod session;
-mod telling;
 
 pub use session::WatchedSession;

@@ -3,7 +3,7 @@ use Rattle.desk_model.specs.Told.{is_watching}
 use Rattle.watch_rounds.specs.Due.{AreAll}
 use Rattle.watch_rounds.specs.declared.due.DueWatcher.{DueWatcher}
 use Rattle.session_rounds.proofs.Passing.{step_kept, step_gone, step_end}
-use Rattle.session_rounds.proofs.idle.forget_idle.Goals as goal
+use Rattle.session_rounds.proofs.acting.forget_idle.Goals as goal
 
 before : (n : ℕ) → 0 < n → n ≡ suc (n - 1)
 before n some = omega arith

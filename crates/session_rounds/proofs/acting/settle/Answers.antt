@@ -3,7 +3,7 @@ use Rattle.desk_model.specs.Told.{is_watching}
 use Rattle.watch_rounds.specs.declared.due.DueWatcher.{DueWatcher}
 use Rattle.watch_rounds.specs.Round.{RoundsView}
 use Rattle.session_rounds.proofs.Passing.{all_pass}
-use Rattle.session_rounds.proofs.idle.settle.Goals as goal
+use Rattle.session_rounds.proofs.acting.settle.Goals as goal
 
 pub returns-then-settled-clause-undue : goal.returns-then-settled-clause-undue
 returns-then-settled-clause-undue c =

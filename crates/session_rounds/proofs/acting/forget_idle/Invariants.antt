@@ -2,7 +2,7 @@ use Rattle.std.proofs.Common.{◌≡◌, ◌≤◌, true, length, drop}
 use Rattle.std.specs.List.{filter}
 use Rattle.desk_model.specs.Told.{is_watching}
 use Rattle.watch_rounds.specs.Due.{AreAll}
-use Rattle.session_rounds.proofs.idle.forget_idle.Given as goal
+use Rattle.session_rounds.proofs.acting.forget_idle.Given as goal
 
 abbrev pub invariant-loop-at : goal.invariant-loop-at
 invariant-loop-at l = record {

@@ -2,7 +2,7 @@ use Rattle.std.proofs.Common.{◌≡◌, length}
 use Rattle.desk_terms.specs.Reading.{Calc}
 use Rattle.desk_model.specs.Sound.{IsSound}
 use Rattle.session_model.specs.Course.{all_handed_out}
-use Rattle.session_rounds.proofs.telling.drain.Given as goal
+use Rattle.session_rounds.proofs.session.drain.Given as goal
 
 abbrev pub invariant-loop-watcher : goal.invariant-loop-watcher
 invariant-loop-watcher l = record {

@@ -1,6 +1,6 @@
 use Rattle.std.proofs.Common.{◌∙◌, refl, ap}
 use Rattle.session_model.specs.Course.{all_handed_out}
-use Rattle.session_rounds.proofs.telling.drain.Goals as goal
+use Rattle.session_rounds.proofs.session.drain.Goals as goal
 
 pub loop-watcher-init : goal.loop-watcher-init
 loop-watcher-init c = record { same = refl; sound = λ calc is. is }

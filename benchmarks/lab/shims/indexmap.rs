@@ -141,7 +141,7 @@ impl IndexSet<Vec<u8>> {
     }
     // The keys are compared and hashed once more, as the kit does, which has no law that a clone is like its source.
     pub fn clone(&self) -> Result<Self, AllocError> {
-        let mut keys: Vec<Vec<u8>> = Vec::with_capacity(Global, self.keys.len())?;
+        let mut keys: Vec<Vec<u8>> = Vec::with_capacity(Global, 9 * self.groups.len())?;
         for key in self.keys.iter() {
             keys.push_reserved(key.clone()?);
         }

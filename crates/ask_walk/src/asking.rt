@@ -25,12 +25,13 @@ use crate::books::Books;
 use crate::reader::read;
 use crate::turning::Turn;
 use crate::uses::index_named;
-use crate::waiting::{Begun, begin, left};
+use crate::waiting::{begin, left};
 use desk_model::Entry;
 use desk_names::ObjId;
 use desk_terms::{Asked, Bench, Cause, InputList, Job, Mark};
 use object_store::{Market, Store};
 use std::alloc::{AllocError, Global};
+use std::mem;
 
 impl Books {
     /// Asks a lazy object. It computes only what it uses and has no current value, and works each derived quote out at most
@@ -102,7 +103,8 @@ impl Books {
         entry
     }
 
-    // The walk of an ask, of an object that is neither held nor current.
+    // The walk of an ask, of an object that is neither held nor current. Those that wait stand where those of the last walk
+    // did, which costs no memory but for more of them.
     pub(crate) fn walk<B: Bench>(
         &mut self,
         market: &Market,
@@ -127,12 +129,16 @@ impl Books {
         ensures remembers { Remembers (market_in market.now) self.new.scratch.entries }
         ensures keeps { Keeps self.old.store.kept self.new.store.kept }
     {
-        let mut waiting: Vec<Begun> = Vec::new(self.scratch.alloc());
+        let mut waiting = mem::replace(&mut self.waiting, Vec::new(self.scratch.alloc()));
+        waiting.clear();
         let mut top = begin(object);
         let mut runs: u64 = 0;
         loop {
             match self.turn(market, &mut top, bench)? {
-                Turn::Stops(cause) => return Ok(answered(Some(cause), mark, runs)),
+                Turn::Stops(cause) => {
+                    self.waiting = waiting;
+                    return Ok(answered(Some(cause), mark, runs));
+                }
                 Turn::Waits(needed) => {
                     waiting.push(left(&top))?;
                     top = begin(needed);
@@ -140,11 +146,15 @@ impl Books {
                 Turn::Ran(cause) => {
                     runs += 1;
                     if cause.is_some() {
+                        self.waiting = waiting;
                         return Ok(answered(cause, mark, runs));
                     }
                     match waiting.pop() {
                         Some(under) => top = under,
-                        None => return Ok(answered(None, mark, runs)),
+                        None => {
+                            self.waiting = waiting;
+                            return Ok(answered(None, mark, runs));
+                        }
                     }
                 }
             }

@@ -94,6 +94,7 @@ impl Desk {
                 store,
                 scratch,
                 inputs: InputList::new(alloc),
+                waiting: Vec::new(alloc),
             },
         })
     }

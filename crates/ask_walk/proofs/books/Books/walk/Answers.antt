@@ -16,12 +16,12 @@ use Rattle.ask_walk.proofs.books.Books.walk.Goals as goal
 pub loop-waiting-init : goal.loop-waiting-init
 loop-waiting-init g c = (
   refl,
-  asking_on _ _ _ _ _ (c.args.object ∷ []) (objects_of c.new-waiting.result.items ++ c.begin-top.result.object ∷ []) _ _ _ _
-      (ap (λ (b : Begun). objects_of c.new-waiting.result.items ++ b.object ∷ []) c.begin-top.ensures ∙ ap (λ (l : List Begun). objects_of l ++ c.args.object ∷ []) c.new-waiting.ensures.items) (begins _ _ _ _ _ c.requires.may c.requires.free c.requires.stale),
+  asking_on _ _ _ _ _ (c.args.object ∷ []) (objects_of c.clear.new.self.items ++ c.begin-top.result.object ∷ []) _ _ _ _
+      (ap (λ (b : Begun). objects_of c.clear.new.self.items ++ b.object ∷ []) c.begin-top.ensures ∙ ap (λ (l : List Begun). objects_of l ++ c.args.object ∷ []) c.clear.ensures.items) (begins _ _ _ _ _ c.requires.may c.requires.free c.requires.stale),
   c.requires.remembers,
   (
     unread_begun (market_in c.args.market.now) c.args.self.now.store.kept c.args.object c.begin-top.result c.begin-top.ensures,
-    subst (λ (w : List Begun). AreBegun (market_in c.args.market.now) c.args.self.now.store.kept w) (sym c.new-waiting.ensures.items) tt,
+    subst (λ (w : List Begun). AreBegun (market_in c.args.market.now) c.args.self.now.store.kept w) (sym c.clear.ensures.items) tt,
   ),
   refl,
   refl,

@@ -1,6 +1,6 @@
 -- Which changes leave every object's life, and so its name, as it was.
 use Rattle.std.proofs.Common.{◌≡◌, ◌≢◌, inl, inr, ℕ, ◌<◌, ◌≤◌, ◌+◌, ◌-◌, Bool, true, false, ◌||◌, length, List, [], ◌∷◌, Option, Some, None, ℤ, if◌then◌else◌, refl, sym, ◌∙◌, ap, subst, arith}
-use Rattle.std.specs.Prelude.{slice_index_or, slice_set, nat_le, Result, Ok, Err, IfOk, IfSome, IfNone, OnOk, OnErr}
+use Rattle.std.specs.Prelude.{slice_index_or, slice_set, nat_le, Result, Ok, Err, IfSome, IfNone, OnOk, OnErr}
 use Rattle.std.specs.Ordering.{int_eq}
 use Rattle.std.proofs.lemmas.List.{get_or-set_same, get_or-set_other, length-set}
 use Rattle.std.proofs.lemmas.Option.{get_or_from_slice_get, slice_get_read}
@@ -19,11 +19,17 @@ use Rattle.desk_model.specs.Visit.{runs, stored, asked}
 use Rattle.desk_model.specs.Recalc.{inputs_walk, recalced_bare, recalced}
 use Rattle.desk_model.proofs.Stores.{told_market}
 use Rattle.desk_model.specs.Changeable.{Changeable, changeable}
-use Rattle.desk_model.specs.Changeable.Changeable.{HasValue, HasTarget, HasFixings, HasParts, HasEngine, HasNone}
+use Rattle.desk_model.specs.Changeable.Changeable.{HasValue, HasTarget, HasFixings, HasParts, HasEngine}
 use Rattle.desk_model.specs.Effect.{notified_as, notified, with_terms, revised, revised_unless, value_set, quote_set, target_set, relinked, priced_by_engine, engine_set, weight_set, member_set, fixing_stored, fixing_added, with_today, today_set, dropped, frozen_set, unfrozen, thawed, forward_set, deferred, resumed, registered_with, unregistered}
-use Rattle.session_model.specs.declared.place.Place.TheVariants.{Droppable}
+use Rattle.session_model.specs.declared.act.Change.{Change}
+use Rattle.session_model.specs.declared.act.Change.TheVariants as change
+use Rattle.session_model.specs.declared.act.Growth.{Growth}
+use Rattle.session_model.specs.declared.act.Growth.TheVariants as growth
+use Rattle.session_model.specs.declared.place.Place.TheVariants.{Droppable, Handle}
+use Rattle.session_model.specs.Change.{changed, grown}
 use Rattle.session_model.specs.Place.{takes_found}
 use Rattle.session_model.specs.Standing.{Standing, is_full}
+use Rattle.session_core.specs.Allowed.{MayChange, MayGrow}
 use Rattle.session_core.specs.HasNames.{IsNamed, HasNames}
 use Rattle.session_core.proofs.Naming.{given_within, AreAlike, apart_from, living_within, name_within, names_dropped}
 
@@ -56,18 +62,7 @@ droppable : (found : Option Kind) → takes_found Droppable found ≡ true
     → (k : Kind) × (found ≡ Some k) × (k ≢ kind.Today)
 droppable None e = absurd (false≢true e)
 droppable (Some kind.Today) e = absurd (false≢true e)
-droppable (Some kind.Quote) e = (kind.Quote, refl, λ same. cc)
-droppable (Some kind.Derived) e = (kind.Derived, refl, λ same. cc)
-droppable (Some kind.QuoteHandle) e = (kind.QuoteHandle, refl, λ same. cc)
-droppable (Some kind.CurveHandle) e = (kind.CurveHandle, refl, λ same. cc)
-droppable (Some kind.Index) e = (kind.Index, refl, λ same. cc)
-droppable (Some kind.Engine) e = (kind.Engine, refl, λ same. cc)
-droppable (Some kind.Curve) e = (kind.Curve, refl, λ same. cc)
-droppable (Some kind.Implied) e = (kind.Implied, refl, λ same. cc)
-droppable (Some kind.Stock) e = (kind.Stock, refl, λ same. cc)
-droppable (Some kind.Composite) e = (kind.Composite, refl, λ same. cc)
-droppable (Some kind.Flows) e = (kind.Flows, refl, λ same. cc)
-droppable (Some kind.Watcher) e = (kind.Watcher, refl, λ same. cc)
+droppable (Some k) e = (k, refl, λ same. cc)
 
 pub record IsDroppable (m : Market) (o : ℕ) : Type 0 where
   pub given : is_given (slot_at m o) ≡ true
@@ -79,6 +74,15 @@ given_of_kind m o kind e = kind_given (slot_at m o) kind e
 pub droppable_there : (m : Market) (o : ℕ) → takes_found Droppable (kind_at m o) ≡ true → IsDroppable m o
 droppable_there m o e = let d = droppable (kind_at m o) e in
     record { given = given_of_kind m o d.0 d.1; apart = apart_of_kind m o d.0 d.1 d.2 }
+
+-- a handle among them
+handle_droppable : (k : Option Kind) → takes_found Handle k ≡ true → takes_found Droppable k ≡ true
+handle_droppable (Some kind.QuoteHandle) e = refl
+handle_droppable (Some kind.CurveHandle) e = refl
+handle_droppable k e = absurd (false≢true e)
+
+handle_stays : (m : Market) (h : ℕ) → takes_found Handle (kind_at m h) ≡ true → IsDroppable m h
+handle_stays m h e = droppable_there m h (handle_droppable (kind_at m h) e)
 
 notified_market : (x : ℕ) (s : State) → (notified x s).market ≡ s.market
 unfolding notified tell
@@ -112,127 +116,76 @@ module _ (s : State) (x : ℕ) (there : IsDroppable s.market x) where
 
   alike_value : (c : Changeable) (value : Option ℤ) → AreAlike s.market (value_set c x value s).market
   alike_value (HasValue held) value = alike_unless _ _
-  alike_value (HasTarget kind held) value = alike_same s.market s.market refl
-  alike_value (HasFixings terms fixings) value = alike_same s.market s.market refl
-  alike_value (HasParts parts) value = alike_same s.market s.market refl
-  alike_value (HasEngine flows held) value = alike_same s.market s.market refl
-  alike_value HasNone value = alike_same s.market s.market refl
+  alike_value c value = alike_same s.market s.market refl
 
   alike_weight : (c : Changeable) (member : ℕ) (weight : ℤ) → AreAlike s.market (weight_set c x member weight s).market
-  alike_weight (HasValue held) member weight = alike_same s.market s.market refl
-  alike_weight (HasTarget kind held) member weight = alike_same s.market s.market refl
-  alike_weight (HasFixings terms fixings) member weight = alike_same s.market s.market refl
   alike_weight (HasParts parts) member weight = alike_unless _ _
-  alike_weight (HasEngine flows held) member weight = alike_same s.market s.market refl
-  alike_weight HasNone member weight = alike_same s.market s.market refl
+  alike_weight c member weight = alike_same s.market s.market refl
 
   alike_target : (c : Changeable) (target : Option ℕ) → AreAlike s.market (target_set c x target s).market
-  alike_target (HasValue held) target = alike_same s.market s.market refl
   alike_target (HasTarget kind held) target = alike_unless _ _
-  alike_target (HasFixings terms fixings) target = alike_same s.market s.market refl
-  alike_target (HasParts parts) target = alike_same s.market s.market refl
-  alike_target (HasEngine flows held) target = alike_same s.market s.market refl
-  alike_target HasNone target = alike_same s.market s.market refl
+  alike_target c target = alike_same s.market s.market refl
 
   alike_engine : (c : Changeable) (engine : Option ℕ) → AreAlike s.market (priced_by_engine c x engine s).market
-  alike_engine (HasValue held) engine = alike_same s.market s.market refl
-  alike_engine (HasTarget kind held) engine = alike_same s.market s.market refl
-  alike_engine (HasFixings terms fixings) engine = alike_same s.market s.market refl
-  alike_engine (HasParts parts) engine = alike_same s.market s.market refl
   alike_engine (HasEngine flows held) engine = alike_revised _
-  alike_engine HasNone engine = alike_same s.market s.market refl
+  alike_engine c engine = alike_same s.market s.market refl
 
   alike_fixing : (c : Changeable) (day rate : ℤ) → AreAlike s.market (fixing_stored c x day rate s).market
-  alike_fixing (HasValue held) day rate = alike_same s.market s.market refl
-  alike_fixing (HasTarget kind held) day rate = alike_same s.market s.market refl
   alike_fixing (HasFixings terms fixings) day rate = alike_revised _
-  alike_fixing (HasParts parts) day rate = alike_same s.market s.market refl
-  alike_fixing (HasEngine flows held) day rate = alike_same s.market s.market refl
-  alike_fixing HasNone day rate = alike_same s.market s.market refl
+  alike_fixing c day rate = alike_same s.market s.market refl
 
 abbrev to : (s t u : State) → t ≡ u → AreAlike s.market u.market → AreAlike s.market t.market
 to s t u same alike = subst (λ (v : State). AreAlike s.market v.market) (sym same) alike
-
-pub quote_alike : (s t : State) (q : ℕ) (value : Option ℤ) → IsDroppable s.market q → t ≡ quote_set q value s
-    → AreAlike s.market t.market
-unfolding quote_set
-quote_alike s t q value there is =
-    to s t (quote_set q value s) is (alike_value s q there (changeable (terms_at s.market q)) value)
-
-pub member_alike : {A E : Type 0} (s t : State) (k member : ℕ) (weight : ℤ) (result : Result A E)
-    → IsDroppable s.market k → OnOk result (t ≡ member_set k member weight s) → OnErr result (t ≡ s)
-    → AreAlike s.market t.market
-unfolding member_set
-member_alike s t k member weight (Ok x) there is same =
-    to s t (member_set k member weight s) is (alike_weight s k there (changeable (terms_at s.market k)) member weight)
-member_alike s t k member weight (Err e) there is same = to s t s same (alike_same s.market s.market refl)
-
-pub link_alike : (s t : State) (h : ℕ) (target : Option ℕ) → IsDroppable s.market h → t ≡ relinked h target s → AreAlike s.market t.market
-unfolding relinked
-link_alike s t h target there is = to s t (relinked h target s) is (alike_target s h there (changeable (terms_at s.market h)) target)
-
-pub engine_alike : (s t : State) (i : ℕ) (engine : Option ℕ) → IsDroppable s.market i → t ≡ engine_set i engine s → AreAlike s.market t.market
-unfolding engine_set
-engine_alike s t i engine there is = to s t (engine_set i engine s) is (alike_engine s i there (changeable (terms_at s.market i)) engine)
-
-pub fixing_alike : {A E : Type 0} (s t : State) (x : ℕ) (day rate : ℤ) (result : Result A E)
-    → IsDroppable s.market x → OnOk result (t ≡ fixing_added x day rate s) → OnErr result (t ≡ s)
-    → AreAlike s.market t.market
-unfolding fixing_added
-fixing_alike s t x day rate (Ok y) there is same =
-    to s t (fixing_added x day rate s) is (alike_fixing s x there (changeable (terms_at s.market x)) day rate)
-fixing_alike s t x day rate (Err e) there is same = to s t s same (alike_same s.market s.market refl)
-
--- another evaluation date
-pub today_alike : (s t : State) (day : ℤ) → t ≡ today_set day s → AreAlike s.market t.market
-unfolding today_set
-today_alike s t day is = to s t (today_set day s) is (by (int_eq s.market.today day))
-  where
-    by : (b : Bool) → AreAlike s.market (if b then s else notified 0 (with_today day s)).market
-    by true = alike_same s.market s.market refl
-    by false = record {
-      length = ap (λ (m : Market). length m.objects) (notified_market 0 (with_today day s));
-      given = λ o. ap (λ (m : Market). is_given (slot_at m o)) (notified_market 0 (with_today day s));
-      today = λ is. ap (λ (m : Market). slot_at m 0) (notified_market 0 (with_today day s)) ∙ is;
-    }
-
--- flags, and notices that are held back
-pub frozen_alike : (s t : State) (o : ℕ) → t ≡ frozen_set o s → AreAlike s.market t.market
-unfolding frozen_set
-frozen_alike s t o is = to s t (frozen_set o s) is (alike_same s.market s.market refl)
 
 -- a change that is made or not
 alike_either : (s u : State) (b : Bool) → u.market ≡ s.market → AreAlike s.market (if b then u else s).market
 alike_either s u true same = alike_same s.market u.market same
 alike_either s u false same = alike_same s.market s.market refl
 
-pub thawed_alike : (s t : State) (o : ℕ) → t ≡ thawed o s → AreAlike s.market t.market
-unfolding thawed
-thawed_alike s t o is =
-    to s t (thawed o s) is (alike_either s _ (is_frozen s o) (notified_market o (unfrozen o s)))
+-- another evaluation date
+alike_today : (s : State) (day : ℤ) (b : Bool) → AreAlike s.market (if b then s else notified 0 (with_today day s)).market
+alike_today s day true = alike_same s.market s.market refl
+alike_today s day false = record {
+  length = ap (λ (m : Market). length m.objects) (notified_market 0 (with_today day s));
+  given = λ o. ap (λ (m : Market). is_given (slot_at m o)) (notified_market 0 (with_today day s));
+  today = λ is. ap (λ (m : Market). slot_at m 0) (notified_market 0 (with_today day s)) ∙ is;
+}
 
-pub forward_alike : (s t : State) (o : ℕ) (is_on : Bool) → t ≡ forward_set o is_on s → AreAlike s.market t.market
-unfolding forward_set
-forward_alike s t o is_on is = to s t (forward_set o is_on s) is (alike_same s.market s.market refl)
+-- an object of a kind other than `today` is one that stays where its terms change
+there_of_kind : (m : Market) (o : ℕ) (k : Kind) → k ≢ kind.Today → kind_at m o ≡ Some k → IsDroppable m o
+there_of_kind m o k other e = record { given = given_of_kind m o k e; apart = apart_of_kind m o k e other }
 
-pub deferred_alike : (s t : State) → t ≡ deferred s → AreAlike s.market t.market
-unfolding deferred
-deferred_alike s t is = to s t (deferred s) is (alike_same s.market s.market refl)
+-- every change that takes nothing out leaves every object's life as it was
+alike_changed : (s : State) (c : Change) → MayChange s c → ((o : ℕ) → c ≡ change.Drop o → ⊥) → AreAlike s.market (changed c s).market
+unfolding changed quote_set relinked engine_set today_set frozen_set thawed forward_set deferred resumed unregistered
+alike_changed s (change.Set q value) may stays =
+    alike_value s q (there_of_kind s.market q kind.Quote (λ same. cc) may) (changeable (terms_at s.market q)) value
+alike_changed s (change.Link h target) may stays =
+    alike_target s h (handle_stays s.market h may.handle) (changeable (terms_at s.market h)) target
+alike_changed s (change.Engine i engine) may stays =
+    alike_engine s i (there_of_kind s.market i kind.Flows (λ same. cc) may.instrument) (changeable (terms_at s.market i)) engine
+alike_changed s (change.Today day) may stays = alike_today s day (int_eq s.market.today day)
+alike_changed s (change.Thaw o) may stays = alike_either s _ (is_frozen s o) (notified_market o (unfrozen o s))
+alike_changed s change.Resume may stays = alike_either s _ s.deferring (told_market (is_source s) s)
+alike_changed s (change.Drop o) may stays = absurd (stays o refl)
+alike_changed s c may stays = alike_same s.market s.market refl
 
-pub resumed_alike : (s t : State) → t ≡ resumed s → AreAlike s.market t.market
-unfolding resumed
-resumed_alike s t is = to s t (resumed s) is (alike_either s _ s.deferring (told_market (is_source s) s))
+pub change_alike : (s t : State) (c : Change) → MayChange s c → ((o : ℕ) → c ≡ change.Drop o → ⊥) → t ≡ changed c s → AreAlike s.market t.market
+change_alike s t c may stays is = to s t (changed c s) is (alike_changed s c may stays)
 
-pub unregistered_alike : (s t : State) (w o : ℕ) → t ≡ unregistered w o s → AreAlike s.market t.market
-unfolding unregistered
-unregistered_alike s t w o is = to s t (unregistered w o s) is (alike_same s.market s.market refl)
+-- and what is stored beside them
+alike_grown : (s : State) (g : Growth) → MayGrow s g → AreAlike s.market (grown g s).market
+unfolding grown member_set fixing_added registered_with
+alike_grown s (growth.Member k member weight) may =
+    alike_weight s k (there_of_kind s.market k kind.Composite (λ same. cc) may.composite) (changeable (terms_at s.market k)) member weight
+alike_grown s (growth.Fixing x day rate) may =
+    alike_fixing s x (there_of_kind s.market x kind.Index (λ same. cc) may.index) (changeable (terms_at s.market x)) day rate
+alike_grown s (growth.Register w o) may = alike_same s.market s.market refl
 
-pub registered_alike : {E : Type 0} (s t : State) (w o : ℕ) (result : Result Bool E)
-    → IfOk result (λ is_new. t ≡ (if is_new then registered_with w o s else s)) → OnErr result (t ≡ s) → AreAlike s.market t.market
-unfolding registered_with
-registered_alike s t w o (Ok true) is same = to s t (registered_with w o s) is (alike_same s.market s.market refl)
-registered_alike s t w o (Ok false) is same = to s t s is (alike_same s.market s.market refl)
-registered_alike s t w o (Err e) is same = to s t s same (alike_same s.market s.market refl)
+pub growth_alike : {A E : Type 0} (s t : State) (g : Growth) (result : Result A E) → MayGrow s g
+    → OnOk result (t ≡ grown g s) → OnErr result (t ≡ s) → AreAlike s.market t.market
+growth_alike s t g (Ok x) may is same = to s t (grown g s) is (alike_grown s g may)
+growth_alike s t g (Err e) may is same = to s t s same (alike_same s.market s.market refl)
 
 pub told_alike : (s t : State) (result : Option ℕ) → IfNone result ((s.noticed ≡ []) × (t ≡ s))
     → IfSome result (λ w. (s.noticed ≡ w ∷ t.noticed) × (t ≡ record s { noticed = t.noticed })) → AreAlike s.market t.market
@@ -247,10 +200,6 @@ stored_alike s t calls is = to s t (stored s calls) is (alike_same s.market s.ma
 pub sound_as : (p q : Standing) (t : State) → p ≡ q → ((calc : Calc) → IsSound calc p.state → IsSound calc t)
     → (calc : Calc) → IsSound calc q.state → IsSound calc t
 sound_as p q t same keeps calc sound = keeps calc (subst (λ (r : Standing). IsSound calc r.state) (sym same) sound)
-
--- an object of a kind other than `today` is one that stays where its terms change
-pub there_of_kind : (m : Market) (o : ℕ) (k : Kind) → k ≢ kind.Today → kind_at m o ≡ Some k → IsDroppable m o
-there_of_kind m o k other e = record { given = given_of_kind m o k e; apart = apart_of_kind m o k e other }
 
 -- there is room for one object more
 pub record HasRoom (m : Market) : Type 0 where

@@ -19,52 +19,22 @@ use Rattle.object_store.specs.Slots.{is_handle}
 use Rattle.session_model.specs.declared.place.Place.TheVariants as place
 use Rattle.session_model.specs.Place.{takes_found}
 use Rattle.session_core.specs.Allowed.{IsTarget}
-use Rattle.session_core.proofs.Alike.{IsDroppable, droppable_there}
 
 -- terms of a handle
 abbrev AreOfHandle : Option Terms → Type 0
 AreOfHandle t = (kind : handle.HandleKind) × (held : Option ℕ) × (t ≡ Some (terms.Handle kind held))
 
 handle_terms : (terms : Terms) → takes_found place.Handle (Some (kind_of terms)) ≡ true → AreOfHandle (Some terms)
-handle_terms (terms.Quote value) e = absurd (false≢true e)
-handle_terms (terms.Derived minus first second) e = absurd (false≢true e)
 handle_terms (terms.Handle kind target) e = (kind, target, refl)
-handle_terms (terms.Curve terms) e = absurd (false≢true e)
-handle_terms (terms.Implied curve reference) e = absurd (false≢true e)
-handle_terms (terms.Index terms fixings) e = absurd (false≢true e)
-handle_terms (terms.Engine curve) e = absurd (false≢true e)
-handle_terms (terms.Stock quote) e = absurd (false≢true e)
-handle_terms (terms.Composite parts) e = absurd (false≢true e)
-handle_terms (terms.Flows flows engine) e = absurd (false≢true e)
+handle_terms t e = absurd (false≢true e)
 
 handle_in : (slot : Slot) → takes_found place.Handle (kind_in slot) ≡ true → AreOfHandle (terms_in slot)
-handle_in Free e = absurd (false≢true e)
-handle_in Today e = absurd (false≢true e)
-handle_in Watcher e = absurd (false≢true e)
 handle_in (Live terms) e = handle_terms terms e
+handle_in slot e = absurd (false≢true e)
 
 pub handle_there : (m : Market) (h : ℕ) → takes_found place.Handle (kind_at m h) ≡ true
     → is_handle (terms_at m h) ≡ true
 handle_there m h e = ap is_handle (handle_in (slot_at m h) e).2
-
-handle_droppable : (k : Option Kind) → takes_found place.Handle k ≡ true → takes_found place.Droppable k ≡ true
-handle_droppable None e = absurd (false≢true e)
-handle_droppable (Some kind.Today) e = absurd (false≢true e)
-handle_droppable (Some kind.Quote) e = absurd (false≢true e)
-handle_droppable (Some kind.Derived) e = absurd (false≢true e)
-handle_droppable (Some kind.QuoteHandle) e = refl
-handle_droppable (Some kind.CurveHandle) e = refl
-handle_droppable (Some kind.Index) e = absurd (false≢true e)
-handle_droppable (Some kind.Engine) e = absurd (false≢true e)
-handle_droppable (Some kind.Curve) e = absurd (false≢true e)
-handle_droppable (Some kind.Implied) e = absurd (false≢true e)
-handle_droppable (Some kind.Stock) e = absurd (false≢true e)
-handle_droppable (Some kind.Composite) e = absurd (false≢true e)
-handle_droppable (Some kind.Flows) e = absurd (false≢true e)
-handle_droppable (Some kind.Watcher) e = absurd (false≢true e)
-
-pub handle_stays : (m : Market) (h : ℕ) → takes_found place.Handle (kind_at m h) ≡ true → IsDroppable m h
-handle_stays m h e = droppable_there m h (handle_droppable (kind_at m h) e)
 
 -- what may be linked to is live, and is no watcher
 input_observable : (w : Wanted) (slot : Slot) → takes_found (place.Input w) (kind_in slot) ≡ true

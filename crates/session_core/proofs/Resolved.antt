@@ -60,84 +60,26 @@ taken_input None w e = e
 taken_input (Some k) w e = e
 
 taken_quote : (k : Option Kind) → takes_found place.Quote k ≡ true → k ≡ Some kind.Quote
-taken_quote None e = absurd (false≢true e)
-taken_quote (Some kind.Today) e = absurd (false≢true e)
 taken_quote (Some kind.Quote) e = refl
-taken_quote (Some kind.Derived) e = absurd (false≢true e)
-taken_quote (Some kind.QuoteHandle) e = absurd (false≢true e)
-taken_quote (Some kind.CurveHandle) e = absurd (false≢true e)
-taken_quote (Some kind.Index) e = absurd (false≢true e)
-taken_quote (Some kind.Engine) e = absurd (false≢true e)
-taken_quote (Some kind.Curve) e = absurd (false≢true e)
-taken_quote (Some kind.Implied) e = absurd (false≢true e)
-taken_quote (Some kind.Stock) e = absurd (false≢true e)
-taken_quote (Some kind.Composite) e = absurd (false≢true e)
-taken_quote (Some kind.Flows) e = absurd (false≢true e)
-taken_quote (Some kind.Watcher) e = absurd (false≢true e)
+taken_quote k e = absurd (false≢true e)
 
 taken_composite : (k : Option Kind) → takes_found place.Composite k ≡ true → k ≡ Some kind.Composite
-taken_composite None e = absurd (false≢true e)
-taken_composite (Some kind.Today) e = absurd (false≢true e)
-taken_composite (Some kind.Quote) e = absurd (false≢true e)
-taken_composite (Some kind.Derived) e = absurd (false≢true e)
-taken_composite (Some kind.QuoteHandle) e = absurd (false≢true e)
-taken_composite (Some kind.CurveHandle) e = absurd (false≢true e)
-taken_composite (Some kind.Index) e = absurd (false≢true e)
-taken_composite (Some kind.Engine) e = absurd (false≢true e)
-taken_composite (Some kind.Curve) e = absurd (false≢true e)
-taken_composite (Some kind.Implied) e = absurd (false≢true e)
-taken_composite (Some kind.Stock) e = absurd (false≢true e)
 taken_composite (Some kind.Composite) e = refl
-taken_composite (Some kind.Flows) e = absurd (false≢true e)
-taken_composite (Some kind.Watcher) e = absurd (false≢true e)
+taken_composite k e = absurd (false≢true e)
 
 taken_flows : (k : Option Kind) → takes_found place.Flows k ≡ true → k ≡ Some kind.Flows
-taken_flows None e = absurd (false≢true e)
-taken_flows (Some kind.Today) e = absurd (false≢true e)
-taken_flows (Some kind.Quote) e = absurd (false≢true e)
-taken_flows (Some kind.Derived) e = absurd (false≢true e)
-taken_flows (Some kind.QuoteHandle) e = absurd (false≢true e)
-taken_flows (Some kind.CurveHandle) e = absurd (false≢true e)
-taken_flows (Some kind.Index) e = absurd (false≢true e)
-taken_flows (Some kind.Engine) e = absurd (false≢true e)
-taken_flows (Some kind.Curve) e = absurd (false≢true e)
-taken_flows (Some kind.Implied) e = absurd (false≢true e)
-taken_flows (Some kind.Stock) e = absurd (false≢true e)
-taken_flows (Some kind.Composite) e = absurd (false≢true e)
 taken_flows (Some kind.Flows) e = refl
-taken_flows (Some kind.Watcher) e = absurd (false≢true e)
+taken_flows k e = absurd (false≢true e)
 
 taken_index : (k : Option Kind) → takes_found (place.Input wanted.Index) k ≡ true → k ≡ Some kind.Index
-taken_index None e = absurd (false≢true e)
-taken_index (Some kind.Today) e = absurd (false≢true e)
-taken_index (Some kind.Quote) e = absurd (false≢true e)
-taken_index (Some kind.Derived) e = absurd (false≢true e)
-taken_index (Some kind.QuoteHandle) e = absurd (false≢true e)
-taken_index (Some kind.CurveHandle) e = absurd (false≢true e)
 taken_index (Some kind.Index) e = refl
-taken_index (Some kind.Engine) e = absurd (false≢true e)
-taken_index (Some kind.Curve) e = absurd (false≢true e)
-taken_index (Some kind.Implied) e = absurd (false≢true e)
-taken_index (Some kind.Stock) e = absurd (false≢true e)
-taken_index (Some kind.Composite) e = absurd (false≢true e)
-taken_index (Some kind.Flows) e = absurd (false≢true e)
-taken_index (Some kind.Watcher) e = absurd (false≢true e)
+taken_index k e = absurd (false≢true e)
 
 -- a curve or an implied curve is priced
 curve_lazy : (k : Kind) → takes_found (place.Input wanted.CurveTarget) (Some k) ≡ true → is_lazy (role k) ≡ true
-curve_lazy kind.Today e = absurd (false≢true e)
-curve_lazy kind.Quote e = absurd (false≢true e)
-curve_lazy kind.Derived e = absurd (false≢true e)
-curve_lazy kind.QuoteHandle e = absurd (false≢true e)
-curve_lazy kind.CurveHandle e = absurd (false≢true e)
-curve_lazy kind.Index e = absurd (false≢true e)
-curve_lazy kind.Engine e = absurd (false≢true e)
 curve_lazy kind.Curve e = refl
 curve_lazy kind.Implied e = refl
-curve_lazy kind.Stock e = absurd (false≢true e)
-curve_lazy kind.Composite e = absurd (false≢true e)
-curve_lazy kind.Flows e = absurd (false≢true e)
-curve_lazy kind.Watcher e = absurd (false≢true e)
+curve_lazy k e = absurd (false≢true e)
 
 taken_curve : (slot : Slot) → takes_found (place.Input wanted.CurveTarget) (kind_in slot) ≡ true
     → is_lazy (role_of (terms_in slot)) ≡ true
@@ -195,7 +137,7 @@ taken_observable Watcher e = absurd (false≢true e)
 taken_observable (Live terms) e = refl
 
 -- what is found for a registration is a watcher, and what it may watch
-pub found_pair : (p : Standing) (w o x y : ℕ) → find place.Watcher p w ≡ Ok x → find place.Observable p o ≡ Ok y → MayPair p x y
+pub found_pair : (p : Standing) (w o x y : ℕ) → find place.Watcher p w ≡ Ok x → find place.Observable p o ≡ Ok y → MayPair p.state x y
 found_pair p w o x y watcher subject = record {
   watcher = taken_watcher (slot_at p.state.market x) (find_taken place.Watcher p w x watcher);
   subject = taken_observable (slot_at p.state.market y) (find_taken place.Observable p o y subject);
@@ -268,7 +210,7 @@ module _ (p : Standing) where
       (taken_input _ wanted.QuoteInput first, (taken_input _ wanted.QuoteInput second, tt)) free))
 
   pairs : (w o : ℕ) (rest : ℕ → ℕ → Result Act Refusal)
-      → ((x y : ℕ) → MayPair p x y → AllAllowed (rest x y)) → AllAllowed (pairing p w o rest)
+      → ((x y : ℕ) → MayPair p.state x y → AllAllowed (rest x y)) → AllAllowed (pairing p w o rest)
   pairs w o rest all = finds place.Watcher w _ (λ x watcher. finds place.Observable o _ (λ y subject. all x y (record {
     watcher = taken_watcher (slot_at p.state.market x) watcher;
     subject = taken_observable (slot_at p.state.market y) subject;

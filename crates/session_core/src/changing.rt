@@ -1,7 +1,9 @@
 // Changes of what is there, and changes that are stored beside it.
-ghost use Rattle.std.specs.Prelude.{◌≡◌, true, false, IfSome, OnOk, OnErr};
+ghost use Rattle.std.specs.Prelude.{◌≡◌, ◌≤◌, true, false, IfSome, OnOk, OnErr};
 ghost use Rattle.std.specs.Result.{result_err};
 ghost use Rattle.desk_terms.specs.Reading.{Calc};
+ghost use Rattle.desk_model.specs.declared.slot.Slot.TheVariants.{Today};
+ghost use Rattle.desk_model.specs.Market.{live_count, slot_at};
 ghost use Rattle.desk_model.specs.Sound.{IsSound, KeepsCurrent};
 ghost use Rattle.session_model.specs.Change.{changed, grown};
 ghost use Rattle.session_model.specs.Standing.{IsKnown};
@@ -12,6 +14,8 @@ ghost use Rattle.session_core.specs.Allowed.{IsAllowed, MayChange, MayGrow};
 ghost use Rattle.session_core.specs.Steps.{with_state};
 
 use crate::Session;
+use desk_terms::FixFault;
+use lazy_objects::Desk;
 use session_commands::{Command, Refusal};
 use session_model::{Act, Change, Growth};
 use std::alloc::AllocError;
@@ -58,41 +62,80 @@ impl Session {
         }
     }
 
-    // Makes a change, by itself or in a turn.
-    #[tactic(auto, unfolding(session_model::specs::Change::changed))]
+    // Makes a change, by itself or in a turn. What is dropped leaves its name free.
     pub(crate) fn apply(&mut self, change: Change)
-        requires may { MayChange self.old change }
+        requires may { MayChange self.old.state change }
         ensures set { self.new ≡ with_state (changed change self.old.state) self.old }
         ensures keeps { KeepsCurrent self.old.state self.new.state }
         ensures sound { (calc : Calc) → IsSound calc self.old.state → IsSound calc self.new.state }
     {
-        match change {
-            Change::Set(quote, value) => self.set(quote, value),
-            Change::Link(handle, target) => self.link(handle, target),
-            Change::Engine(instrument, engine) => self.engage(instrument, engine),
-            Change::Today(day) => self.move_today(day),
-            Change::Freeze(object) => self.freeze(object),
-            Change::Thaw(object) => self.thaw(object),
-            Change::Forward(object, is_on) => self.forward(object, is_on),
-            Change::Defer => self.defer(),
-            Change::Resume => self.resume(),
-            Change::Unregister(watcher, object) => self.unregister(watcher, object),
-            Change::Drop(object) => self.remove(object),
+        change_desk(&mut self.desk, &change);
+        if let Change::Drop(object) = &change {
+            let name = self.of_object.items()[object.place()];
+            self.of_name[name.place()] = None;
+            self.live -= 1;
         }
     }
 
     // Makes a change that is stored beside what is there. After want of memory the session is as it was.
-    #[tactic(auto, unfolding(session_model::specs::Change::grown))]
     pub(crate) fn grow(&mut self, growth: Growth) -> Result<(), AllocError>
-        requires may { MayGrow self.old growth }
+        requires may { MayGrow self.old.state growth }
         ensures set { OnOk result (self.new ≡ with_state (grown growth self.old.state) self.old) }
         ensures err { OnErr result (self.new ≡ self.old) }
         ensures sound { (calc : Calc) → IsSound calc self.old.state → IsSound calc self.new.state }
     {
-        match growth {
-            Growth::Member(composite, member, weight) => self.weigh(composite, member, weight),
-            Growth::Fixing(index, day, rate) => self.fix(index, day, rate),
-            Growth::Register(watcher, object) => self.register(watcher, object),
+        grow_desk(&mut self.desk, growth)
+    }
+}
+
+// Makes a change of the objects.
+#[tactic(auto, unfolding(session_model::specs::Change::changed))]
+fn change_desk(desk: &mut Desk, change: &Change)
+    requires may { MayChange desk.old change.now }
+    requires today { slot_at desk.old.market 0 ≡ Today }
+    ensures set { desk.new ≡ changed change.now desk.old }
+    ensures keeps { KeepsCurrent desk.old desk.new }
+    ensures sound { (calc : Calc) → IsSound calc desk.old → IsSound calc desk.new }
+{
+    match change {
+        Change::Set(quote, value) => desk.set_quote(*quote, *value),
+        Change::Link(handle, target) => desk.relink(*handle, *target),
+        Change::Engine(instrument, engine) => desk.set_engine(*instrument, *engine),
+        Change::Today(day) => desk.set_today(*day),
+        Change::Freeze(object) => desk.freeze(*object),
+        Change::Thaw(object) => desk.thaw(*object),
+        Change::Forward(object, is_on) => desk.forward(*object, *is_on),
+        Change::Defer => desk.defer(),
+        Change::Resume => desk.resume(),
+        Change::Unregister(watcher, object) => {
+            desk.unregister(*watcher, *object);
         }
+        Change::Drop(object) => desk.remove(*object),
+    }
+}
+
+// Makes a change that is stored beside the objects. After want of memory they are as they were.
+#[tactic(auto, unfolding(session_model::specs::Change::grown))]
+fn grow_desk(desk: &mut Desk, growth: Growth) -> Result<(), AllocError>
+    requires may { MayGrow desk.old growth }
+    requires few { live_count desk.old.market ≤ 4096 }
+    ensures set { OnOk result (desk.new ≡ grown growth desk.old) }
+    ensures same { OnErr result (desk.new ≡ desk.old) }
+    ensures sound { (calc : Calc) → IsSound calc desk.old → IsSound calc desk.new }
+{
+    match growth {
+        Growth::Member(composite, member, weight) => {
+            desk.shape();
+            desk.set_member(composite, member, weight)
+        }
+        Growth::Fixing(index, day, rate) => match desk.add_fixing(index, day, rate) {
+            Ok(()) => Ok(()),
+            Err(FixFault::Exists(_)) => unreachable!(),
+            Err(FixFault::NoMemory) => Err(AllocError),
+        },
+        Growth::Register(watcher, object) => match desk.register(watcher, object) {
+            Ok(_) => Ok(()),
+            Err(fault) => Err(fault),
+        },
     }
 }

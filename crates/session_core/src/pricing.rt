@@ -23,7 +23,7 @@ impl Session {
         bench: &mut B,
         lines: &mut Vec<u8>,
     ) -> Result<(), AllocError>
-        requires may { MayPrice self.old object how.now }
+        requires may { MayPrice self.old.state object how.now }
         requires sound { IsSound (B.calc bench.old) self.old.state }
         ensures same { B.calc bench.new ≡ B.calc bench.old }
         ensures steps { OnOk result (Carries (B.calc bench.old) (act.Price name object how.now) self.old self.new
@@ -45,7 +45,7 @@ impl Session {
         how: &How,
         bench: &mut B,
     ) -> Result<Asked, AllocError>
-        requires may { MayPrice self.old object how.now }
+        requires may { MayPrice self.old.state object how.now }
         requires sound { IsSound (B.calc bench.old) self.old.state }
         ensures same { B.calc bench.new ≡ B.calc bench.old }
         ensures prices { IfOk result (λ answer. Prices (pricing_of (B.calc bench.old) object self.old.state how.now)

@@ -1,35 +1,30 @@
 // A session: its objects, their names and its actions. A clause sees it as a standing of the definition.
-ghost use Rattle.std.specs.Prelude.{◌≡◌, ◌<◌, ◌==◌, ◌||◌, ◌++◌, true, false, length, codes, None, Some, Ok, Err, is_none, is_ok, is_err, IfOk, OnOk, OnErr, replicate, option_copied, slice_get, [], ◌∷◌, IfSome, IfNone, ◌≤◌, ◌+◌, ◌^◌, slice_index_or, unsigned_abs};
+ghost use Rattle.std.specs.Prelude.{◌≡◌, ◌<◌, ◌==◌, ◌||◌, ◌++◌, true, false, length, codes, None, Some, Ok, Err, is_none, is_ok, is_err, IfOk, OnOk, OnErr, replicate, option_copied, slice_get, [], ◌∷◌, IfSome, IfNone, ◌≤◌, ◌+◌, ◌^◌, slice_index_or};
 ghost use Rattle.desk_names.specs.Names.{has_text};
 ghost use Rattle.desk_terms.specs.Reading.{Calc, AreInRange};
-ghost use Rattle.desk_terms.specs.declared.kind.Kind.TheVariants as kind;
-ghost use Rattle.desk_terms.specs.declared.kind.Wanted.TheVariants as wanted;
 ghost use Rattle.desk_model.specs.Market.{slot_at, is_given, is_watcher, kind_at, least_user};
 ghost use Rattle.desk_model.specs.Uses.{input_at};
-ghost use Rattle.desk_model.specs.Links.{AreOfKind, IsWhole, serves_as, is_lazy_at};
+ghost use Rattle.desk_model.specs.Links.{AreOfKind, IsWhole, is_lazy_at};
 ghost use Rattle.desk_model.specs.Sound.{IsSound, KeepsCurrent};
 ghost use Rattle.desk_terms.specs.Asked.{Shows};
 ghost use Rattle.desk_terms.specs.Reading.{Outcome};
 ghost use Rattle.ask_walk.specs.Asks.{held_answer};
 ghost use Rattle.desk_model.specs.State.{kept_at, least_source};
 ghost use Rattle.desk_model.specs.Told.{is_registered, is_watching};
-ghost use Rattle.desk_model.specs.Effect.{quote_set, relinked, engine_set, member_set, today_set, fixing_added, frozen_set, thawed, forward_set, deferred, resumed, dropped, registered_with, unregistered};
 ghost use Rattle.session_commands.specs.Parts.{command_word};
 ghost use Rattle.price_report.specs.Line.{refusal_line};
 ghost use Rattle.session_model.specs.Standing.{start_of, name_of, object_named, is_full};
-ghost use Rattle.session_model.specs.declared.place.Place.TheVariants as place;
-ghost use Rattle.session_model.specs.Place.{takes_found};
-ghost use Rattle.session_model.specs.Resolve.{closes, joins, rate_at};
+ghost use Rattle.session_model.specs.Resolve.{closes, rate_at};
 ghost use Rattle.session_model.specs.Pricing.{asking, recalculating, discount_in, priced_line};
-ghost use Rattle.session_core.specs.Allowed.{MayPair, MayRegister, MayRelink, MayEngage, MayFix, MayRecalc};
+ghost use Rattle.session_core.specs.Allowed.{MayPair, MayRecalc};
 ghost use Rattle.session_core.specs.Pricing.{Prices, StopsShort};
 ghost use Rattle.session_core.specs.Watchers.{AreWatchers};
-ghost use Rattle.session_core.specs.Steps.{with_object, with_watcher, with_state};
+ghost use Rattle.session_core.specs.Steps.{with_object, with_watcher};
 
 use day_number::Day;
 use desk_model::Entry;
 use desk_names::{NameId, NameList, Names, ObjId};
-use desk_terms::{Asked, Bench, Cause, FixFault, Kind, Terms, Value, discount_of};
+use desk_terms::{Asked, Bench, Cause, Kind, Terms, Value, discount_of};
 use fixed_amount::{Discount, Rate};
 use lazy_objects::{Desk, Recalced};
 use price_report::{Namer, asked_line, df_line, refusal_line};
@@ -40,15 +35,15 @@ use std::marker::Model;
 
 /// A session: its objects with their names, the values that are stored, and the actions of its script.
 pub struct Session {
-    desk: Desk,
+    pub(crate) desk: Desk,
     pub(crate) names: Names,
-    of_object: NameList,
+    pub(crate) of_object: NameList,
     pub(crate) actions: Actions,
     // The action of the watcher that has or had a name, by the name's number.
     pub(crate) watching: Vec<Option<ActionId>>,
     // The live object of each name, by the name's number.
     pub(crate) of_name: Vec<Option<ObjId>>,
-    live: usize,
+    pub(crate) live: usize,
     stopped: bool,
     alloc: Global,
 }
@@ -370,119 +365,10 @@ impl Session {
 
     // Whether a watcher is registered with an object.
     pub(crate) fn is_registered(&self, watcher: ObjId, object: ObjId) -> bool
-        requires pair { MayPair self.now watcher object }
+        requires pair { MayPair self.now.state watcher object }
         ensures { result ≡ is_registered self.now.state watcher object }
     {
         self.desk.is_registered(watcher, object)
-    }
-
-    // Registers a watcher with an object.
-    pub(crate) fn register(&mut self, watcher: ObjId, object: ObjId) -> Result<(), AllocError>
-        requires may { MayRegister self.old watcher object }
-        ensures set { OnOk result (self.new ≡ with_state (registered_with watcher object self.old.state) self.old) }
-        ensures err { OnErr result (self.new ≡ self.old) }
-        ensures sound { (calc : Calc) → IsSound calc self.old.state → IsSound calc self.new.state }
-    {
-        match self.desk.register(watcher, object) {
-            Ok(_) => Ok(()),
-            Err(fault) => Err(fault),
-        }
-    }
-
-    // Registers a watcher with an object no more.
-    pub(crate) fn unregister(&mut self, watcher: ObjId, object: ObjId)
-        requires pair { MayPair self.old watcher object }
-        ensures set { self.new ≡ with_state (unregistered watcher object self.old.state) self.old }
-        ensures keeps { KeepsCurrent self.old.state self.new.state }
-        ensures sound { (calc : Calc) → IsSound calc self.old.state → IsSound calc self.new.state }
-    {
-        self.desk.unregister(watcher, object);
-    }
-
-    // Gives a quote a value, or takes it away.
-    pub(crate) fn set(&mut self, quote: ObjId, value: Option<Rate>)
-        requires quote { kind_at self.old.state.market quote ≡ Some kind.Quote }
-        ensures set { self.new ≡ with_state (quote_set quote value self.old.state) self.old }
-        ensures keeps { KeepsCurrent self.old.state self.new.state }
-        ensures sound { (calc : Calc) → IsSound calc self.old.state → IsSound calc self.new.state }
-    {
-        self.desk.set_quote(quote, value);
-    }
-
-    // Gives a member a weight in a composite.
-    pub(crate) fn weigh(
-        &mut self,
-        composite: ObjId,
-        member: ObjId,
-        weight: i64,
-    ) -> Result<(), AllocError>
-        requires composite { kind_at self.old.state.market composite ≡ Some kind.Composite }
-        requires member { serves_as (kind_at self.old.state.market member) wanted.Member ≡ true }
-        requires open { joins weight self.old.state.market composite member ≡ false }
-        requires limit { unsigned_abs weight ≤ 1_000_000 }
-        ensures set { OnOk result (self.new ≡ with_state (member_set composite member weight self.old.state) self.old) }
-        ensures err { OnErr result (self.new ≡ self.old) }
-        ensures sound { (calc : Calc) → IsSound calc self.old.state → IsSound calc self.new.state }
-    {
-        self.desk.shape();
-        self.desk.set_member(composite, member, weight)
-    }
-
-    // Gives a handle a target, or takes it away.
-    pub(crate) fn link(&mut self, handle: ObjId, target: Option<ObjId>)
-        requires may { MayRelink self.old handle target }
-        ensures set { self.new ≡ with_state (relinked handle target self.old.state) self.old }
-        ensures keeps { KeepsCurrent self.old.state self.new.state }
-        ensures sound { (calc : Calc) → IsSound calc self.old.state → IsSound calc self.new.state }
-    {
-        self.desk.relink(handle, target);
-    }
-
-    // Gives an instrument an engine, or takes it away.
-    pub(crate) fn engage(&mut self, instrument: ObjId, engine: Option<ObjId>)
-        requires may { MayEngage self.old instrument engine }
-        ensures set { self.new ≡ with_state (engine_set instrument engine self.old.state) self.old }
-        ensures keeps { KeepsCurrent self.old.state self.new.state }
-        ensures sound { (calc : Calc) → IsSound calc self.old.state → IsSound calc self.new.state }
-    {
-        self.desk.set_engine(instrument, engine);
-    }
-
-    // Moves the evaluation date.
-    pub(crate) fn move_today(&mut self, day: Day)
-        ensures set { self.new ≡ with_state (today_set day self.old.state) self.old }
-        ensures keeps { KeepsCurrent self.old.state self.new.state }
-        ensures sound { (calc : Calc) → IsSound calc self.old.state → IsSound calc self.new.state }
-    {
-        self.desk.set_today(day);
-    }
-
-    // Stores a rate of an index for a day that has none.
-    pub(crate) fn fix(&mut self, index: ObjId, day: Day, rate: Rate) -> Result<(), AllocError>
-        requires may { MayFix self.old index day rate }
-        ensures set { OnOk result (self.new ≡ with_state (fixing_added index day rate self.old.state) self.old) }
-        ensures err { OnErr result (self.new ≡ self.old) }
-        ensures sound { (calc : Calc) → IsSound calc self.old.state → IsSound calc self.new.state }
-    {
-        match self.desk.add_fixing(index, day, rate) {
-            Ok(()) => Ok(()),
-            Err(FixFault::Exists(_)) => unreachable!(),
-            Err(FixFault::NoMemory) => Err(AllocError),
-        }
-    }
-
-    // Takes an object out, whose name is free then.
-    pub(crate) fn remove(&mut self, object: ObjId)
-        requires taken { takes_found place.Droppable (kind_at self.old.state.market object) ≡ true }
-        requires unused { least_user self.old.state.market object ≡ None }
-        ensures dropped { self.new ≡ with_state (dropped object self.old.state) self.old }
-        ensures keeps { KeepsCurrent self.old.state self.new.state }
-        ensures sound { (calc : Calc) → IsSound calc self.old.state → IsSound calc self.new.state }
-    {
-        let name = self.of_object.items()[object.place()];
-        self.of_name[name.place()] = None;
-        self.live -= 1;
-        self.desk.remove(object);
     }
 
     /// The least deferred source that makes a lazy object late, if any does.
@@ -501,54 +387,6 @@ impl Session {
         ensures same { self.new ≡ self.old }
     {
         self.desk.ask_held(object)
-    }
-
-    // Freezes a lazy object.
-    pub(crate) fn freeze(&mut self, object: ObjId)
-        requires lazy { is_lazy_at self.old.state.market object ≡ true }
-        ensures set { self.new ≡ with_state (frozen_set object self.old.state) self.old }
-        ensures keeps { KeepsCurrent self.old.state self.new.state }
-        ensures sound { (calc : Calc) → IsSound calc self.old.state → IsSound calc self.new.state }
-    {
-        self.desk.freeze(object);
-    }
-
-    // Freezes a lazy object no more.
-    pub(crate) fn thaw(&mut self, object: ObjId)
-        requires lazy { is_lazy_at self.old.state.market object ≡ true }
-        ensures set { self.new ≡ with_state (thawed object self.old.state) self.old }
-        ensures keeps { KeepsCurrent self.old.state self.new.state }
-        ensures sound { (calc : Calc) → IsSound calc self.old.state → IsSound calc self.new.state }
-    {
-        self.desk.thaw(object);
-    }
-
-    // Lets a lazy object pass each notice on, or not.
-    pub(crate) fn forward(&mut self, object: ObjId, is_on: bool)
-        requires lazy { is_lazy_at self.old.state.market object ≡ true }
-        ensures set { self.new ≡ with_state (forward_set object is_on self.old.state) self.old }
-        ensures keeps { KeepsCurrent self.old.state self.new.state }
-        ensures sound { (calc : Calc) → IsSound calc self.old.state → IsSound calc self.new.state }
-    {
-        self.desk.forward(object, is_on);
-    }
-
-    // Holds notices back.
-    pub(crate) fn defer(&mut self)
-        ensures set { self.new ≡ with_state (deferred self.old.state) self.old }
-        ensures keeps { KeepsCurrent self.old.state self.new.state }
-        ensures sound { (calc : Calc) → IsSound calc self.old.state → IsSound calc self.new.state }
-    {
-        self.desk.defer();
-    }
-
-    // Gives the notices that are held back.
-    pub(crate) fn resume(&mut self)
-        ensures set { self.new ≡ with_state (resumed self.old.state) self.old }
-        ensures keeps { KeepsCurrent self.old.state self.new.state }
-        ensures sound { (calc : Calc) → IsSound calc self.old.state → IsSound calc self.new.state }
-    {
-        self.desk.resume();
     }
 
     /// Asks a lazy object. It computes only what it uses and has no current value.
@@ -573,7 +411,7 @@ impl Session {
         object: ObjId,
         bench: &mut B,
     ) -> Result<Asked, AllocError>
-        requires may { MayRecalc self.old object }
+        requires may { MayRecalc self.old.state object }
         requires sound { IsSound (B.calc bench.old) self.old.state }
         ensures same { B.calc bench.new ≡ B.calc bench.old }
         ensures prices { IfOk result (λ answer. Prices (recalculating (B.calc bench.old) object self.old.state)

@@ -1,29 +1,22 @@
-use Rattle.std.proofs.Common.{ℤ, ◌≤◌, sym, ◌∙◌, ap, subst, arith, FitsSigned, w64}
-use Rattle.std.specs.Prelude.{unsigned_abs}
-use Rattle.std.proofs.lemmas.Int.{to_z-of_z, fits_signed_from_abs}
-use Rattle.desk_model.specs.Effect.{member_set}
-use Rattle.session_model.specs.Change.{grown}
-use Rattle.session_core.specs.Allowed.{MayWeigh, MayGrow}
-use Rattle.session_core.specs.Steps.{with_state}
-use Rattle.session_core.proofs.Turns.{on_ok}
+use Rattle.std.proofs.Common.{sym, subst, arith}
+use Rattle.session_model.specs.Standing.{Standing}
+use Rattle.session_core.specs.Allowed.{MayGrow}
+use Rattle.session_core.proofs.Naming.{names_alike}
+use Rattle.session_core.proofs.Alike.{growth_alike, sound_as}
 use Rattle.session_core.proofs.session.Session.grow.Goals as goal
 
-pub weigh-requires-clause-limit : goal.weigh-requires-clause-limit
-weigh-requires-clause-limit c =
-    let may : MayWeigh c.args.self.now c.in-Member.composite c.in-Member.member c.in-Member.weight =
-    subst (MayGrow c.args.self.now) c.in-Member.is c.requires.may in
-    let fits : FitsSigned w64 c.in-Member.weight =
-    fits_signed_from_abs w64 c.in-Member.weight (let limit = may.limit in omega (arith, limit)) in
-    subst (λ (w : ℤ). unsigned_abs w ≤ 1_000_000) (sym (to_z-of_z w64 c.in-Member.weight fits)) may.limit
+pub grow_desk-requires-clause-may : goal.grow_desk-requires-clause-may
+grow_desk-requires-clause-may c = subst (λ (p : Standing). MayGrow p.state c.args.growth) (sym c.self.view_is) c.requires.may
 
-pub returns-in-Member-clause-set : goal.returns-in-Member-clause-set
-unfolding grown
-returns-in-Member-clause-set c =
-    let may : MayWeigh c.args.self.now c.in-Member.composite c.in-Member.member c.in-Member.weight =
-    subst (MayGrow c.args.self.now) c.in-Member.is c.requires.may in
-    let fits : FitsSigned w64 c.in-Member.weight =
-    fits_signed_from_abs w64 c.in-Member.weight (let limit = may.limit in omega (arith, limit)) in
-    on_ok c.weigh.result (λ is. rw c.in-Member.is
-    (is ∙ ap (λ (w : ℤ). with_state
-    (member_set c.in-Member.composite c.in-Member.member w c.args.self.now.state) c.args.self.now)
-    (to_z-of_z w64 c.in-Member.weight fits))) c.weigh.ensures.set
+pub grow_desk-requires-clause-few : goal.grow_desk-requires-clause-few
+grow_desk-requires-clause-few c = let living = c.self.invariant.living in let most = c.self.invariant.few in omega (arith, living, most)
+
+pub invariant_of-self : goal.invariant_of-self
+invariant_of-self c =
+    names_alike _ c.self.inside.of_name.items c.self.inside.live c.grow_desk.new.desk c.self.inside.stopped
+    (growth_alike c.self.inside.desk c.grow_desk.new.desk c.args.growth c.grow_desk.result
+    (subst (λ (p : Standing). MayGrow p.state c.args.growth) (sym c.self.view_is) c.requires.may)
+    c.grow_desk.ensures.set c.grow_desk.ensures.same) c.self.invariant
+
+pub returns-clause-sound : goal.returns-clause-sound
+returns-clause-sound c = sound_as _ c.args.self.now c.grow_desk.new.desk c.self.view_is c.grow_desk.ensures.sound

@@ -13,7 +13,7 @@ use Rattle.session_core.proofs.session.Session.recalc.Goals as goal
 pub unreachable-requires : goal.unreachable-requires
 unreachable-requires g c =
     let calc : Calc = g.B.Bench.calc c.args.bench.now in
-    let may = subst (λ (p : Standing). MayRecalc p c.args.object) (sym c.self.view_is) c.requires.may in
+    let may = subst (λ (p : Standing). MayRecalc p.state c.args.object) (sym c.self.view_is) c.requires.may in
     recalc_early calc c.args.object c.self.inside.desk c.recalc.new.self (g.B.Bench.count c.args.bench.now)
     (g.B.Bench.count c.recalc.new.bench) (g.B.Bench.log c.args.bench.now) (g.B.Bench.log c.recalc.new.bench)
     c.in_ok-asked.field-0 c.in-Deferred.field-0 c.in-Deferred.is may.early c.in_ok-asked.ensures.ends

@@ -13,7 +13,7 @@ use crate::{MakeFault, Session};
 use desk_names::{NameId, ObjId};
 use desk_terms::{Bench, Terms};
 use session_commands::{Command, Refusal};
-use session_model::Act;
+use session_model::{Act, Change, How};
 use std::alloc::AllocError;
 
 impl Session {
@@ -94,11 +94,23 @@ impl Session {
         ensures ends { is_without_memory (resolve self.old command.now) ≡ true → is_ok result ≡ true }
         ensures sound { IsSound (B.calc bench.old) self.new.state }
     {
+        if let Command::Set(quote, value) = command
+            && let Some(object) = self.quote_named(*quote)
+        {
+            let act = Act::Quiet(Change::Set(object, Some(*value)));
+            return self.carry_out(act, bench, lines);
+        }
+        if let Command::Ask(name) = command
+            && let Some(object) = self.priced_named(*name)
+        {
+            return self.carry_out(Act::Price(*name, object, How::Ask), bench, lines);
+        }
         let found = self.resolve(command);
         self.carry(command, found, bench, lines)
     }
 
     // Does what a command was found to be, or writes why it is refused.
+    #[inline(never)]
     fn carry<B: Bench>(
         &mut self,
         command: &Command,
@@ -126,6 +138,7 @@ impl Session {
     }
 
     // Does what a command resolved to.
+    #[inline(always)]
     fn carry_out<B: Bench>(
         &mut self,
         act: Act,

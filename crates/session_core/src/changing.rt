@@ -63,6 +63,7 @@ impl Session {
     }
 
     // Makes a change, by itself or in a turn. What is dropped leaves its name free.
+    #[inline(always)]
     pub(crate) fn apply(&mut self, change: Change)
         requires may { MayChange self.old.state change }
         ensures set { self.new ≡ with_state (changed change self.old.state) self.old }
@@ -89,6 +90,7 @@ impl Session {
 }
 
 // Makes a change of the objects.
+#[inline(always)]
 #[tactic(auto, unfolding(session_model::specs::Change::changed))]
 fn change_desk(desk: &mut Desk, change: &Change)
     requires may { MayChange desk.old change.now }

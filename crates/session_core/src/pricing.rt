@@ -15,6 +15,7 @@ use std::alloc::AllocError;
 
 impl Session {
     // Prices a lazy object, and writes its line.
+    #[inline(always)]
     pub(crate) fn price<B: Bench>(
         &mut self,
         name: NameId,

@@ -1,5 +1,5 @@
 // What a command is once its names are looked up, or why it is refused.
-ghost use Rattle.std.specs.Prelude.{◌≡◌, [], None, Some, Ok, Err, is_some, not, if◌then◌else◌};
+ghost use Rattle.std.specs.Prelude.{◌≡◌, [], None, Some, Ok, Err, is_some, not, if◌then◌else◌, IfSome};
 ghost use Rattle.session_commands.specs.declared.refusal.Refusal.TheVariants.{Taken, TooMany, AlreadyRegistered, NotRegistered};
 ghost use Rattle.desk_terms.specs.declared.terms.Terms.TheVariants as terms;
 ghost use Rattle.desk_terms.specs.declared.kind.Wanted.TheVariants as wanted;
@@ -9,7 +9,8 @@ ghost use Rattle.session_model.specs.declared.act.Act.TheVariants as act;
 ghost use Rattle.session_model.specs.declared.act.Change.TheVariants as change;
 ghost use Rattle.session_model.specs.declared.act.Growth.TheVariants as growth;
 ghost use Rattle.session_model.specs.declared.act.How.TheVariants as how;
-ghost use Rattle.session_model.specs.Place.{takes_found};
+ghost use Rattle.desk_terms.specs.Terms.{kind_of};
+ghost use Rattle.session_model.specs.Place.{takes, takes_found};
 ghost use Rattle.session_model.specs.Standing.{object_named, is_full};
 ghost use Rattle.session_model.specs.Resolve.{find, with_found, making, unless, unless_used, unless_kept, unless_late, unless_taken, closes, joins, rate_at, target_of, handle_kind, engaging, combining, watching, pairing, quote_input, curve, resolve};
 ghost use Rattle.desk_model.specs.Market.{least_user};
@@ -28,6 +29,7 @@ use session_model::{Act, Change, Growth, How, Place};
 impl Session {
     // The command with its objects found, or the first reason for which it is refused.
     #[tactic(auto, unfolding(session_model::specs::Resolve::resolve))]
+    #[inline(never)]
     pub(crate) fn resolve(&mut self, command: &Command) -> Result<Act, Refusal>
         ensures act { result ≡ resolve self.old command.now }
         ensures same { self.new ≡ self.old }
@@ -73,6 +75,30 @@ impl Session {
             Some(object) if self.takes(place, object) => Ok(object),
             Some(_) => Err(Refusal::Kind(name)),
             None => Err(Refusal::Unknown(name)),
+        }
+    }
+
+    // The quote that a name stands for, if it stands for one: `find`, by the object's terms at one look.
+    pub(crate) fn quote_named(&self, name: NameId) -> Option<ObjId>
+        ensures { IfSome result (λ object. find place.Quote self.now name ≡ Ok object) }
+    {
+        let object = self.named(name)?;
+        if is_quote(self.desk.terms(object)?) {
+            Some(object)
+        } else {
+            None
+        }
+    }
+
+    // The same of a lazy object.
+    pub(crate) fn priced_named(&self, name: NameId) -> Option<ObjId>
+        ensures { IfSome result (λ object. find place.Priced self.now name ≡ Ok object) }
+    {
+        let object = self.named(name)?;
+        if is_priced(self.desk.terms(object)?) {
+            Some(object)
+        } else {
+            None
         }
     }
 
@@ -371,5 +397,30 @@ fn handle_kind(is_curve: bool) -> HandleKind
         HandleKind::Curve
     } else {
         HandleKind::Quote
+    }
+}
+
+// Whether these are the terms of a quote.
+fn is_quote(terms: &Terms) -> bool
+    ensures { result ≡ takes place.Quote (kind_of terms.now) }
+{
+    matches!(terms, Terms::Quote(_))
+}
+
+// Whether an object of these terms is priced.
+fn is_priced(terms: &Terms) -> bool
+    ensures { result ≡ takes place.Priced (kind_of terms.now) }
+{
+    match terms {
+        Terms::Quote(_)
+        | Terms::Derived { .. }
+        | Terms::Handle { .. }
+        | Terms::Index(..)
+        | Terms::Engine { .. } => false,
+        Terms::Curve(_)
+        | Terms::Implied { .. }
+        | Terms::Stock { .. }
+        | Terms::Composite(_)
+        | Terms::Flows(..) => true,
     }
 }

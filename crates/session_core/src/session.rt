@@ -458,6 +458,7 @@ impl Session {
     }
 
     // Writes the line of a refused command.
+    #[inline(never)]
     pub(crate) fn refuse(
         &self,
         command: &Command,

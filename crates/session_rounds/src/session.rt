@@ -128,6 +128,7 @@ impl<P: Picker> WatchedSession<P> {
     }
 
     // One round: the command, and the runs of the watchers that are due.
+    #[inline(always)]
     fn round<B: Bench>(
         &mut self,
         command: &Command,

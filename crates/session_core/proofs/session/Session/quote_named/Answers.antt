@@ -1,0 +1,16 @@
+use Rattle.std.proofs.Common.{◌∙◌, ap, sym}
+use Rattle.std.specs.Option.{option_copied}
+use Rattle.desk_model.specs.Market.{terms_at}
+use Rattle.object_store.specs.Objects.{bare}
+use Rattle.session_model.specs.declared.place.Place.TheVariants as place
+use Rattle.session_model.specs.Standing.{Standing}
+use Rattle.session_core.proofs.Resolved.{found_by_terms}
+use Rattle.session_core.proofs.session.Session.quote_named.Goals as goal
+
+pub returns-then-is_quote : goal.returns-then-is_quote
+returns-then-is_quote c =
+    found_by_terms place.Quote c.args.self.now c.args.name c.in_ok-object.object c.in_ok-terms.field-0.now
+    (sym c.named.ensures ∙ c.in_ok-object.was)
+    (ap (λ (p : Standing). bare (terms_at p.state.market c.in_ok-object.object)) (sym c.self.view_is) ∙ sym c.terms.ensures
+    ∙ ap option_copied c.in_ok-terms.was)
+    (sym c.is_quote.ensures ∙ c.if-is_quote.true)

@@ -1,5 +1,5 @@
 //! The program `desk_risk`: it moves each quote beneath an instrument of a market file by a size up and down, and then all quotes of
-//! each curve beneath it together, and writes deltas and gammas as CSV.
+//! each curve beneath it together, and today to the next business day, and writes deltas, gammas and thetas as CSV.
 //!
 //! `desk_risk MARKET SIZE NAME..`. What it does is `risk_run::run_risk`.
 #![tactic(auto)]

@@ -1,4 +1,10 @@
+pub mod Chaining
 pub mod Curving
-pub mod Shifts
-pub mod Rungs
+pub mod Days
+pub mod Giving
 pub mod Naming
+pub mod Paying
+pub mod Rungs
+pub mod Shifts
+pub mod Summing
+pub mod Telling

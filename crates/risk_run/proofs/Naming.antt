@@ -5,19 +5,12 @@ use Rattle.desk_terms.specs.declared.kind.Wanted.TheVariants.{Member}
 use Rattle.desk_terms.specs.Reading.{Calc}
 use Rattle.desk_model.specs.Market.{Market}
 use Rattle.desk_model.specs.State.{State}
-use Rattle.bump_model.specs.Asking.{Asking, Asks, MadeFront, none, then_ask}
-use Rattle.bump_model.proofs.Calls.{front_all}
+use Rattle.bump_model.specs.Asking.{MadeFront, none, then_ask}
 use Rattle.bump_ladder.proofs.Answered.{Log, Did}
 use Rattle.market_desk.specs.declared.named.Unnamed.{Unnamed}
 use Rattle.market_desk.specs.Standing.{object_named}
 use Rattle.risk_run.specs.Asking.{asking_for, name_asking, names_asking}
 use Rattle.risk_run.specs.Lines.{text_for, name_text, names_text}
-
--- whatever comes behind asks that were answered
-pub asks_any : {A E : Type 0} (asking : Asking) (result : Result A E) (t : State) (count now : ℕ) (log log_now : Log)
-    → Did asking t count now log log_now → Asks asking result t count now log log_now
-asks_any asking (Ok x) t count now log log_now did = did
-asks_any asking (Err e) t count now log log_now did = front_all asking.calls count now log log_now did.1
 
 module _ (calc : Calc) (size : ℤ) (names : List (List ℕ)) where
   pub asking_step : (all rest : List (List ℕ)) (name : List ℕ) → all ≡ name ∷ rest → (s : State)

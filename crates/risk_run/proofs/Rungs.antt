@@ -2,6 +2,7 @@
 use Rattle.std.proofs.Common.{◌≡◌, ℕ, ℤ, List, [], ◌∷◌, ◌++◌, Option, None, Some, Result, refl, sym, ◌∙◌, ap, subst, codes}
 use Rattle.std.specs.Prelude.{map}
 use Rattle.std.specs.List.{All}
+use Rattle.std.proofs.lemmas.List.{append_assoc}
 use Rattle.std.proofs.lemmas.List.Elements.{All-head, All-tail, All-map, All-filter, All-append}
 use Rattle.walks.specs.Walk.{Among}
 use Rattle.desk_terms.specs.declared.cause.Cause.{Cause}
@@ -15,7 +16,7 @@ use Rattle.bump_model.specs.declared.ladder.Rung.{Rung}
 use Rattle.bump_model.specs.Moves.{value_at}
 use Rattle.bump_model.specs.Quotes.{stands_on, beneath}
 use Rattle.bump_model.specs.Sides.{worth, rung_for, bump_rung, rungs_of}
-use Rattle.bump_model.specs.Asking.{IsLadder, IsRefused, ladder_asking}
+use Rattle.bump_model.specs.Asking.{Asking, IsLadder, IsRefused, none, then_ask, ladder_asking}
 use Rattle.risk_model.specs.declared.figures.Figure.{Figure}
 use Rattle.risk_model.specs.Figures.{delta_of, gamma_of, delta_in, gamma_in}
 use Rattle.risk_model.proofs.Prices.{rung_delta, rung_gamma}
@@ -23,8 +24,9 @@ use Rattle.risk_model.specs.Sums.{sum_of, beyond, sum_at}
 use Rattle.risk_model.proofs.Summing.{all_among, rungs_sum}
 use Rattle.risk_run.proofs.Shifts.{All-of}
 use Rattle.risk_run.specs.Curves.{curves_in}
-use Rattle.risk_run.specs.Asking.{quotes_of, shift_of, bumps_in}
-use Rattle.risk_run.specs.Lines.{label_of, figure_row, rung_rows, sum_rows, sum_rows_at, rungs_rows, shift_rows, bump_rows, bumps_rows, worth_row, ladder_rows, refused_row, text_by}
+use Rattle.risk_run.specs.Asking.{quotes_of, shift_of, bumps_in, theta_behind, instrument_asking}
+use Rattle.risk_run.specs.Lines.{label_of, figure_row, rung_rows, sum_rows, sum_rows_at, rungs_rows, shift_rows, bump_rows, bumps_rows, worth_row, ladder_rows, theta_row, refused_row, text_by}
+use Rattle.risk_run.specs.Theta.{theta_of, theta_asking}
 
 -- the sum by these rungs is that of the prices
 abbrev IsSummed : Calc → ℤ → Market → ℕ → List Rung → Bump → Type 0
@@ -106,21 +108,47 @@ module _ (calc : Calc) (size : ℤ) (names : List (List ℕ)) (of_object : List 
       ap (λ (u : State). ladder_asking calc size o bumps u) same
       ∙ ap (λ (b : List Bump). ladder_asking calc size o b s) are
 
-  pub ladder_text : (answer : Ladder) → IsLadder calc size o bumps t answer
-      → ladder_rows names of_object o answer.base bumps answer.rungs
-      ≡ text_by calc size s.market names of_object o (worth calc s.market o)
+  pub ladder_text : (answer : Ladder) → IsLadder calc size o bumps t answer → (k : Calc) → k ≡ calc → (n : Market) → n ≡ s.market
+      → (old rows new : List ℕ) → rows ≡ old ++ ladder_rows names of_object o answer.base bumps answer.rungs
+      → new ≡ rows ++ theta_row names of_object o (theta_of k n o answer.base)
+      → new ≡ old ++ text_by calc size s.market names of_object o (worth calc s.market o)
   unfolding ladder_rows
-  ladder_text answer is =
-      ap (λ (l : List Bump). worth_row names of_object o answer.base ++ rungs_rows names of_object o answer.rungs l answer.rungs) are
-      ∙ ap (λ (l : List Rung). worth_row names of_object o answer.base ++ rungs_rows names of_object o l (bumps_in s.market o) l)
-      (here.rungs ∙ ap (λ (b : List Bump). rungs_of calc size s.market o answer.base b) are)
-      ∙ ap (λ (l : List ℕ). worth_row names of_object o answer.base ++ l)
-      (all_rungs calc size s.market names of_object o answer.base (rungs_of calc size s.market o answer.base (bumps_in s.market o)) (bumps_in s.market o)
-      (all_summed calc size s.market names of_object o answer.base))
-      ∙ ap (λ (r : Result ℤ Cause). text_by calc size s.market names of_object o r) (sym here.base)
+  ladder_text answer is k kept n stays old rows new first behind =
+      let theta = theta_row names of_object o (theta_of calc s.market o answer.base) in
+      behind
+      ∙ ap (λ (h : Calc). rows ++ theta_row names of_object o (theta_of h n o answer.base)) kept
+      ∙ ap (λ (m : Market). rows ++ theta_row names of_object o (theta_of calc m o answer.base)) stays
+      ∙ ap (λ (l : List ℕ). l ++ theta) (first ∙ ap (λ (l : List ℕ). old ++ l) figures)
+      ∙ append_assoc old (worth_row names of_object o answer.base ++ bumps_rows calc size s.market names of_object o answer.base (bumps_in s.market o)) theta
+      ∙ ap (λ (r : Result ℤ Cause). old ++ text_by calc size s.market names of_object o r) (sym here.base)
     where
       here : IsLadder calc size o bumps s answer
       here = subst (λ (u : State). IsLadder calc size o bumps u answer) same is
+
+      figures : ladder_rows names of_object o answer.base bumps answer.rungs
+          ≡ worth_row names of_object o answer.base ++ bumps_rows calc size s.market names of_object o answer.base (bumps_in s.market o)
+      figures =
+          ap (λ (l : List Bump). worth_row names of_object o answer.base ++ rungs_rows names of_object o answer.rungs l answer.rungs) are
+          ∙ ap (λ (l : List Rung). worth_row names of_object o answer.base ++ rungs_rows names of_object o l (bumps_in s.market o) l)
+          (here.rungs ∙ ap (λ (b : List Bump). rungs_of calc size s.market o answer.base b) are)
+          ∙ ap (λ (l : List ℕ). worth_row names of_object o answer.base ++ l)
+          (all_rungs calc size s.market names of_object o answer.base (rungs_of calc size s.market o answer.base (bumps_in s.market o)) (bumps_in s.market o)
+          (all_summed calc size s.market names of_object o answer.base))
+
+  -- the asks behind the ladder's: those for a theta, and none where the instrument is worth nothing
+  pub asking_worth : (answer : Ladder) → IsLadder calc size o bumps t answer
+      → instrument_asking calc size o s ≡ then_ask (ladder_asking calc size o (bumps_in s.market o) s) (theta_asking calc size o)
+  unfolding instrument_asking
+  asking_worth answer is =
+      ap (λ (r : Result ℤ Cause). then_ask (ladder_asking calc size o (bumps_in s.market o) s) (theta_behind calc size o r))
+      (ap (λ (u : State). worth calc u.market o) (sym same) ∙ is.base)
+
+  pub asking_refused : (cause : Cause) (runs : ℕ) → IsRefused calc size o bumps t cause runs
+      → instrument_asking calc size o s ≡ then_ask (ladder_asking calc size o (bumps_in s.market o) s) none
+  unfolding instrument_asking
+  asking_refused cause runs is =
+      ap (λ (r : Result ℤ Cause). then_ask (ladder_asking calc size o (bumps_in s.market o) s) (theta_behind calc size o r))
+      (ap (λ (u : State). worth calc u.market o) (sym same) ∙ is.base)
 
   pub refused_text : (cause : Cause) (runs : ℕ) → IsRefused calc size o bumps t cause runs
       → refused_row names of_object o cause ≡ text_by calc size s.market names of_object o (worth calc s.market o)

@@ -1,6 +1,7 @@
 -- What is moved for an instrument, and what is computed for names.
 use Rattle.std.specs.Prelude.{◌≤◌, ◌^◌, length, ℕ, ℤ, List, [], ◌∷◌, ◌++◌, map, Some, Result, Ok, Err}
 use Rattle.std.specs.List.{All}
+use Rattle.desk_terms.specs.declared.cause.Cause.{Cause}
 use Rattle.desk_terms.specs.declared.kind.Wanted.TheVariants.{Member}
 use Rattle.desk_terms.specs.Reading.{Outcome, Calc}
 use Rattle.desk_model.specs.Market.{Market}
@@ -9,9 +10,11 @@ use Rattle.bump_model.specs.declared.ladder.Bump.{Bump}
 use Rattle.bump_model.specs.declared.ladder.Bump.TheVariants.{One, Together}
 use Rattle.bump_model.specs.Quotes.{quotes_in, beneath}
 use Rattle.bump_model.specs.Asking.{Asking, none, then_ask, ladder_asking}
+use Rattle.bump_model.specs.Sides.{worth}
 use Rattle.market_desk.specs.declared.named.Unnamed.{Unnamed}
 use Rattle.market_desk.specs.Standing.{Standing, object_named}
 use Rattle.risk_run.specs.Curves.{curves_in}
+use Rattle.risk_run.specs.Theta.{theta_asking}
 
 -- the quotes beneath an instrument, in order of creation
 abbrev pub quotes_of : Market → ℕ → List ℕ
@@ -33,9 +36,19 @@ IsFew (Together label quotes) = length quotes ≤ 2 ^ 16
 abbrev pub AreFew : List Bump → Type 0
 AreFew bumps = All IsFew bumps
 
--- the asks for a name: those of its ladder, where it is an instrument's
+-- those for a theta, where the instrument is worth something
+abbrev pub theta_behind : Calc → ℤ → ℕ → Result ℤ Cause → State → Asking
+theta_behind calc size o (Ok base) s = theta_asking calc size o s
+theta_behind calc size o (Err cause) s = none s
+
+-- the asks for an instrument: those of its ladder, and then of its theta
+unfoldable pub instrument_asking : Calc → ℤ → ℕ → State → Asking
+instrument_asking calc size o s =
+    then_ask (ladder_asking calc size o (bumps_in s.market o) s) (theta_behind calc size o (worth calc s.market o))
+
+-- the asks for a name
 abbrev pub asking_for : Calc → ℤ → Result ℕ Unnamed → State → Asking
-asking_for calc size (Ok o) s = ladder_asking calc size o (bumps_in s.market o) s
+asking_for calc size (Ok o) s = instrument_asking calc size o s
 asking_for calc size (Err why) s = none s
 
 abbrev pub name_asking : Calc → ℤ → List (List ℕ) → List ℕ → State → Asking

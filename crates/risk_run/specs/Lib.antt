@@ -1,6 +1,10 @@
 pub mod Asking
 pub mod Curves
+pub mod Dues
+pub mod Given
 pub mod Lines
 pub mod Rows
+pub mod Theta
+pub mod Tomorrow
 pub mod Verdict
 pub mod Words

@@ -21,7 +21,13 @@ use Rattle.risk_model.specs.declared.figures.Figure.{Figure}
 use Rattle.risk_model.specs.declared.figures.Figure.TheVariants.{Is, Unset, Up, Down}
 use Rattle.risk_model.specs.Figures.{delta_of, gamma_of, delta_in, gamma_in}
 use Rattle.risk_model.specs.Sums.{sum_of, beyond, sum_at}
+use Rattle.day_number.specs.Day.{day_text}
+use Rattle.risk_run.specs.declared.theta.Gain.{Gain}
+use Rattle.risk_run.specs.declared.theta.Gain.TheVariants as gain
+use Rattle.risk_run.specs.declared.theta.Theta.{Theta}
+use Rattle.risk_run.specs.declared.theta.Theta.TheVariants as theta
 use Rattle.risk_run.specs.Asking.{bumps_in}
+use Rattle.risk_run.specs.Theta.{theta_of}
 
 -- `NAME,MEASURE,LABEL,`
 abbrev pub head : List ℕ → List ℕ → List ℕ → List ℕ
@@ -78,6 +84,26 @@ rungs_rows names of_object o all (bump ∷ bumps) [] = []
 rungs_rows names of_object o all (bump ∷ bumps) (rung ∷ rungs) =
     (rung_rows names of_object o rung ++ sum_rows_at names of_object o all bump rung) ++ rungs_rows names of_object o all bumps rungs
 
+-- an amount with six places, or why there is none
+abbrev pub gain_text : List (List ℕ) → List ℕ → Gain → List ℕ
+gain_text names of_object (gain.Is units) = decimal_text units 6
+gain_text names of_object (gain.Tomorrow cause) = codes "tomorrow " ++ missing_text names of_object (Refused cause)
+gain_text names of_object (gain.Paid cause) = codes "paid " ++ missing_text names of_object (Refused cause)
+
+-- the next business day
+abbrev pub theta_label : Theta → List ℕ
+theta_label (theta.On day gain) = day_text day
+theta_label theta.Limit = []
+
+abbrev pub theta_text : List (List ℕ) → List ℕ → Theta → List ℕ
+theta_text names of_object (theta.On day gain) = gain_text names of_object gain
+theta_text names of_object theta.Limit = codes "limit"
+
+-- `NAME,theta,DAY,GAIN`
+unfoldable pub theta_row : List (List ℕ) → List ℕ → ℕ → Theta → List ℕ
+theta_row names of_object o theta =
+    row (object_text names of_object o) (codes "theta") (theta_label theta) (theta_text names of_object theta)
+
 -- `NAME,value,,AMOUNT`
 abbrev pub worth_row : List (List ℕ) → List ℕ → ℕ → ℤ → List ℕ
 worth_row names of_object o base = row (object_text names of_object o) (codes "value") [] (decimal_text base 6)
@@ -124,7 +150,8 @@ bumps_rows calc size market names of_object o base (bump ∷ bumps) =
 -- THE ROWS of an instrument in a market, by what it is worth
 abbrev pub text_by : Calc → ℤ → Market → List (List ℕ) → List ℕ → ℕ → Result ℤ Cause → List ℕ
 text_by calc size market names of_object o (Ok base) =
-    worth_row names of_object o base ++ bumps_rows calc size market names of_object o base (bumps_in market o)
+    (worth_row names of_object o base ++ bumps_rows calc size market names of_object o base (bumps_in market o))
+    ++ theta_row names of_object o (theta_of calc market o base)
 text_by calc size market names of_object o (Err cause) = refused_row names of_object o cause
 
 -- the same of a name that may be no instrument's

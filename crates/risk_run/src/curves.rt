@@ -37,7 +37,11 @@ fn is_beneath(desk: &mut Desk, object: ObjId, curve: ObjId) -> bool
 }
 
 // Appends an object where it passes.
-fn push_where(found: &mut Items<ObjId>, object: ObjId, passes: bool) -> Result<(), AllocError>
+pub(crate) fn push_where(
+    found: &mut Items<ObjId>,
+    object: ObjId,
+    passes: bool,
+) -> Result<(), AllocError>
     ensures { OnOk result (found.new ≡ found.old ++ where_so passes object) }
 {
     if passes {

@@ -1,14 +1,19 @@
-//! What the program `desk_risk` does: from words and a market with its tables to the rows of deltas and gammas and a status,
+//! What the program `desk_risk` does: from words and a market with its tables to the rows of deltas, gammas and thetas and a status,
 //! for every shelf of files, sink of bytes and bench of prices.
 //!
 //! `run_risk`, `NAME`, `RiskStatus`.
 #![tactic(auto)]
 
 mod curves;
+mod dues;
+mod given;
 mod lines;
 mod names;
 mod rows;
 mod running;
+mod sums;
+mod theta;
+mod tomorrow;
 mod words;
 
 pub use running::run_risk;

@@ -1,9 +1,11 @@
 // The rows of an instrument.
-ghost use Rattle.std.specs.Prelude.{◌≡◌, ◌++◌, length, OnOk};
+ghost use Rattle.std.specs.Prelude.{◌≡◌, ◌++◌, length, IfOk, OnOk};
 ghost use Rattle.risk_run.specs.Asking.{IsFew, AreFew};
-ghost use Rattle.risk_run.specs.Lines.{head, missing_text, figure_text, label_text, figure_row, rung_rows, sum_rows_at, rungs_rows, unnamed_row, refused_row, ladder_rows};
+ghost use Rattle.risk_run.specs.Lines.{head, missing_text, figure_text, label_text, figure_row, rung_rows, sum_rows_at, rungs_rows, unnamed_row, refused_row, ladder_rows, gain_text, theta_label, theta_text, theta_row};
 
+use crate::theta::{Gain, Theta};
 use bump_ladder::{Bump, Ladder, Rung};
+use day_number::print_day;
 use desk_names::ObjId;
 use desk_terms::Cause;
 use fixed_amount::print_decimal;
@@ -63,6 +65,75 @@ pub(crate) fn ladder_rows(
     print_decimal(alloc, ladder.base.units(), MONEY_PLACES, lines)?;
     lines.extend_from_slice(b"\n")?;
     push_rungs(alloc, object, bumps, ladder.rungs.items(), namer, lines)
+}
+
+// Appends the row of a theta.
+#[tactic(auto, unfolding(crate::specs::Lines::theta_row))]
+pub(crate) fn theta_row(
+    alloc: Global,
+    object: ObjId,
+    theta: &Theta,
+    namer: &Namer<'_>,
+    lines: &mut Vec<u8>,
+) -> Result<(), AllocError>
+    ensures { OnOk result (lines.new.items
+        ≡ lines.old.items ++ theta_row namer.now.names.now namer.now.of_object.now object theta.now) }
+{
+    let label = theta_label(alloc, theta)?;
+    push_head(namer.object(object), b"theta", &label, lines)?;
+    push_theta(alloc, theta, namer, lines)?;
+    lines.extend_from_slice(b"\n")
+}
+
+// The text of the next business day.
+fn theta_label(alloc: Global, theta: &Theta) -> Result<Vec<u8>, AllocError>
+    ensures { IfOk result (λ label. label.items ≡ theta_label theta.now) }
+{
+    let mut label = Vec::new(alloc);
+    match theta {
+        Theta::On { day, .. } => print_day(alloc, *day, &mut label)?,
+        Theta::Limit => {}
+    }
+    Ok(label)
+}
+
+// Appends a theta: what is gained, or that there is no such day.
+fn push_theta(
+    alloc: Global,
+    theta: &Theta,
+    namer: &Namer<'_>,
+    lines: &mut Vec<u8>,
+) -> Result<(), AllocError>
+    ensures { OnOk result (lines.new.items
+        ≡ lines.old.items ++ theta_text namer.now.names.now namer.now.of_object.now theta.now) }
+{
+    match theta {
+        Theta::On { gain, .. } => push_gain(alloc, gain, namer, lines),
+        Theta::Limit => lines.extend_from_slice(b"limit"),
+    }
+}
+
+// Appends a gain: an amount with six places, or why there is none.
+fn push_gain(
+    alloc: Global,
+    gain: &Gain,
+    namer: &Namer<'_>,
+    lines: &mut Vec<u8>,
+) -> Result<(), AllocError>
+    ensures { OnOk result (lines.new.items
+        ≡ lines.old.items ++ gain_text namer.now.names.now namer.now.of_object.now gain.now) }
+{
+    match gain {
+        Gain::Is(units) => print_decimal(alloc, *units, MONEY_PLACES, lines),
+        Gain::Tomorrow(cause) => {
+            lines.extend_from_slice(b"tomorrow ")?;
+            push_missing(alloc, &Missing::Refused(*cause), namer, lines)
+        }
+        Gain::Paid(cause) => {
+            lines.extend_from_slice(b"paid ")?;
+            push_missing(alloc, &Missing::Refused(*cause), namer, lines)
+        }
+    }
 }
 
 // Appends the rows of each rung, by its bump.

@@ -6,7 +6,7 @@
     benchmarks/lab/trace.py --calls [..]        also each call, as a tree
 
 It builds the lab without optimization (rust/trace/debug/desk_lab; half a minute at first) and runs it in gdb, some five seconds a
-script. It needs python3, cargo and gdb, and nothing from a network.
+script. It needs python3, cargo, nm and gdb, and nothing from a network.
 
 A breakpoint stands on the first instruction of each function of the repository's crates. What is traced is the command's `step`. Std,
 the kit's crates and the lab's own program are left out, and so is what a derive writes. A closure belongs to the function that it stands in.

@@ -1,9 +1,11 @@
 // A graph whose notices may be held back.
-ghost use Rattle.std.specs.Prelude.{◌≡◌, true, false};
+ghost use Rattle.std.specs.Prelude.{◌≡◌, ◌↔◌, true, false, IsTrue};
+ghost use Rattle.std.specs.Borrow.{sem};
 ghost use Rattle.observer_graph.specs.GraphView.{IsLive};
 ghost use Rattle.observer_graph.specs.Notice.{IsLeast, Tells};
-ghost use Rattle.observer_graph.specs.Late.{IsLateOf};
-ghost use Rattle.observer_graph.specs.Change.{with_source};
+ghost use Rattle.observer_graph.specs.Late.{IsClear, IsLateOf};
+ghost use Rattle.observer_graph.specs.Change.{with_source, without_source};
+ghost use Rattle.deferred_sources.specs.Lending.{LendsGraph};
 
 use desk_names::ObjId;
 use observer_graph::Graph;
@@ -31,6 +33,14 @@ impl Deferral {
         ensures { result ≡ self.now.on }
     {
         self.on
+    }
+
+    /// The graph. What is written through it is written to the graph of this deferral.
+    pub fn graph(&mut self) -> &mut Graph
+        ensures* writes_back { sem 𝓛 (LendsGraph self.entry result) }
+        ensures value { result.now ≡ self.old.graph }
+    {
+        &mut self.graph
     }
 
     /// Notices are held back from now on.
@@ -77,5 +87,24 @@ impl Deferral {
         ensures same { self.new ≡ self.old }
     {
         self.graph.least_source(node)
+    }
+
+    /// Whether neither a node nor any node beneath it is frozen or a source. Takes no memory, and time in proportion
+    /// to what lies beneath; where no node is frozen or a source, none.
+    pub fn clear(&mut self, node: ObjId) -> bool
+        requires { IsLive self.old.graph node }
+        ensures answer { IsTrue result ↔ IsClear self.old.graph node }
+        ensures same { self.new ≡ self.old }
+    {
+        self.graph.all_clear(node)
+    }
+
+    /// A node holds no notice back. Takes no memory, and time in proportion to the sources.
+    pub fn forget(&mut self, node: ObjId)
+        requires { IsLive self.old.graph node }
+        ensures on { self.new.on ≡ self.old.on }
+        ensures graph { self.new.graph ≡ without_source node self.old.graph }
+    {
+        self.graph.unmark(node);
     }
 }

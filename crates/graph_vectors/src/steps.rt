@@ -67,7 +67,7 @@ fn step_agrees(held: &mut Deferral, step: &str) -> Option<bool> {
             held.resume();
             Some(!held.is_on())
         }
-        "told" => Some(held.graph.next_told() == node_or_none(first)?),
+        "told" => Some(held.graph().next_told() == node_or_none(first)?),
         "link" | "unlink" | "pair" | "reaches" => {
             pair_agrees(held, verb, node_of(first)?, node_of(second)?, third)
         }
@@ -86,7 +86,7 @@ fn pair_agrees(
     second: ObjId,
     answer: &str,
 ) -> Option<bool> {
-    let graph = &mut held.graph;
+    let graph = held.graph();
     if !graph.is_live(first) || !graph.is_live(second) {
         return None;
     }
@@ -119,7 +119,7 @@ fn answer_agrees(held: &mut Deferral, verb: &str, node: ObjId, answer: &str) -> 
         "watching" => Some(held.graph.has_subject(node) == is_yes(answer)?),
         "user" => Some(held.graph.least_observer(node) == node_or_none(answer)?),
         "late" => Some(held.late(node) == node_or_none(answer)?),
-        "clear" => Some(held.graph.all_clear(node) == is_yes(answer)?),
+        "clear" => Some(held.clear(node) == is_yes(answer)?),
         _ => Some(held.graph.is_current(node) == is_yes(answer)?),
     }
 }
@@ -131,11 +131,11 @@ fn change(held: &mut Deferral, verb: &str, node: ObjId) -> Option<bool> {
     }
     match verb {
         "change" => held.changed(node),
-        "forget" => held.graph.unmark(node),
-        "drop" => held.graph.remove(node),
+        "forget" => held.forget(node),
+        "drop" => held.graph().remove(node),
         _ => {
             let flags = flags_by(verb, held.graph.flags(node))?;
-            set(&mut held.graph, node, flags)?;
+            set(held.graph(), node, flags)?;
         }
     }
     Some(true)

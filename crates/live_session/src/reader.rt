@@ -13,7 +13,7 @@ use session_lang::{Met, ScriptKind, Statement, lacks, read_line};
 use std::alloc::{AllocError, Global};
 
 // Names that lines are read over: copies of those of a session and of those of its actions. A line may leave more than
-// those of the session, and is known to have no fault only then.
+// those of the session, and is known to have no fault only then. Beside them the names that lines named lately.
 #[derive(Drop)]
 pub(crate) struct Reader {
     pub(crate) names: Names,

@@ -39,6 +39,7 @@ abbrev pub theta_on : Calc → Market → ℕ → ℤ → Option ℤ → Theta
 theta_on calc market o base None = Limit
 theta_on calc market o base (Some day) = On day (gain_by calc market o base day)
 
+-- THE THETA of an instrument that is worth so much today
 abbrev pub theta_of : Calc → Market → ℕ → ℤ → Theta
 theta_of calc market o base = theta_on calc market o base (tomorrow_of market o)
 
@@ -48,6 +49,7 @@ theta_of calc market o base = theta_on calc market o base (tomorrow_of market o)
 abbrev pub later_asking : Calc → ℤ → ℕ → List ℕ → State → Asking
 later_asking calc size o names s = then_ask (ladder_asking calc size o [] s) (curves_asking calc names)
 
+-- those of another day, for the instrument and the curves of these engines and indexes; today is set back
 unfoldable pub day_asking : Calc → ℤ → ℕ → List ℕ → ℤ → State → Asking
 day_asking calc size o names day s = record {
   calls = (later_asking calc size o names (today_set day s)).calls;
@@ -59,5 +61,6 @@ asking_on calc size o None s = none s
 asking_on calc size o (Some day) s =
     then_ask (curves_asking calc (naming_in s.market o) s) (day_asking calc size o (naming_in s.market o) day)
 
+-- ALL THAT A THETA ASKS: nothing where there is no next business day
 unfoldable pub theta_asking : Calc → ℤ → ℕ → State → Asking
 theta_asking calc size o s = asking_on calc size o (tomorrow_of s.market o) s

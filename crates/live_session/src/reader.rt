@@ -78,6 +78,7 @@ fn is_lacking(names: &Names, begun: &Names, statement: &Statement) -> bool
 }
 
 // Makes a copy of names theirs, where it is not: it is, where it is as long.
+#[inline(always)]
 fn copy_of(alloc: Global, copy: &mut Names, names: &Names) -> Result<(), AllocError>
     requires kept { IsCopy copy.old names.now }
     ensures ok { OnOk result (copy.new ≡ names.now) }

@@ -1,10 +1,11 @@
-// Deltas, gammas and parallel shifts in QuantLib, of the markets that benchmarks/risk_quantlib.py writes: it reads a plan of one market, and
+// Deltas, gammas, parallel shifts and thetas in QuantLib, of the markets that benchmarks/risk_quantlib.py writes: it reads a plan of one market, and
 // writes what desk_risk writes of each instrument, with nine places.
 //
 //   g++ -O2 -std=c++17 -o /tmp/risk_quantlib benchmarks/risk_quantlib.cpp -lQuantLib     # Debian's libquantlib0-dev, QuantLib 1.29
 //
 // The curve is built by its bootstrap of discount factors with straight lines between them; the floating legs of its swaps are at par, and the
-// coupons of instruments are forecast over the index's own period, as here. Each quote is moved by the size up and down and set back, and then all quotes of the curve together.
+// coupons of instruments are forecast over the index's own period, as here. Each quote is moved by the size up and down and set back, and then all quotes of the curve together;
+// at last the evaluation date is moved to the next business day. What is paid in between are the flows behind the curve's reference date of today, up to that of then.
 #include <fstream>
 #include <functional>
 #include <iomanip>
@@ -39,6 +40,8 @@ int main(int count, char** words) {
         made[name] = instrument;
         order.push_back(name);
     };
+    // The flows of an instrument, or of the parts of the book, each with its sign or weight.
+    std::map<std::string, std::vector<std::pair<Leg, Real>>> flows;
     while (std::getline(plan, line)) {
         std::istringstream in(line);
         Integer d, m, y;
@@ -77,6 +80,7 @@ int main(int count, char** words) {
             auto bond = ext::make_shared<FixedRateBond>(2, notional, schedule(start, end, 1 * Years, Unadjusted), std::vector<Rate>(1, rate),
                                                         ActualActual(ActualActual::ISDA));
             bond->setPricingEngine(bonds);
+            flows[name] = {{bond->cashflows(), 1.0}};
             add(name, bond);
         } else if (word == "floater") {
             in >> name >> notional;
@@ -85,6 +89,7 @@ int main(int count, char** words) {
             auto bond = ext::make_shared<FloatingRateBond>(2, notional, schedule(start, end, 6 * Months, ModifiedFollowing), index, Actual360(),
                                                            Following, 2, std::vector<Real>(1, 1.0), std::vector<Spread>(1, rate));
             bond->setPricingEngine(bonds);
+            flows[name] = {{bond->cashflows(), 1.0}};
             add(name, bond);
         } else if (word == "swap") {
             in >> name >> notional >> side;
@@ -94,6 +99,8 @@ int main(int count, char** words) {
                                                       schedule(start, end, 1 * Years, ModifiedFollowing), rate, Thirty360(Thirty360::BondBasis),
                                                       schedule(start, end, 6 * Months, ModifiedFollowing), index, 0.0, Actual360());
             swap->setPricingEngine(swaps);
+            for (Size leg = 0; leg < 2; ++leg)
+                flows[name].push_back({swap->leg(leg), swap->payer(leg) ? -1.0 : 1.0});
             add(name, swap);
         } else if (word == "fra") {
             in >> name >> notional >> side;
@@ -108,6 +115,8 @@ int main(int count, char** words) {
         } else if (word == "part") {
             in >> name >> rate;
             book->add(made[name], rate);
+            for (auto& [leg, weight] : flows[name])
+                flows["book"].push_back({leg, weight * rate});
         }
     }
     add("book", book);
@@ -137,6 +146,16 @@ int main(int count, char** words) {
             moved({it}, it);
         Real shift = moved(of_curve, "c");
         std::cout << of << ",sum,c," << total << "\n" << of << ",cross,c," << shift - total << "\n";
+        Date today = Settings::instance().evaluationDate(), next = target.advance(today, 1, Days), now = handle->referenceDate();
+        Settings::instance().evaluationDate() = next;
+        Date then = handle->referenceDate();
+        Real later = instrument->NPV(), paid = 0;
+        Settings::instance().evaluationDate() = today;
+        for (auto& [leg, weight] : flows[of])
+            for (auto& flow : leg)
+                if (flow->date() > now && flow->date() <= then)
+                    paid += weight * flow->amount();
+        std::cout << of << ",theta," << io::iso_date(next) << "," << later - base + paid << "\n";
     }
     return 0;
 }

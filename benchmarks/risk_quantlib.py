@@ -1,6 +1,6 @@
 #!/usr/bin/env python3
-"""What desk_risk writes beside QuantLib 1.29: values, deltas, gammas and parallel shifts of a bond, a floater, a swap, an agreement, a
-share and the book of them, in five markets, by 0.0001 and by 0.001 each.
+"""What desk_risk writes beside QuantLib 1.29: values, deltas, gammas, parallel shifts and thetas of a bond, a floater, a swap, an agreement, a
+share and the book of them, in six markets, by 0.0001 and by 0.001 each.
 
     (cd crates/desk_risk && rt run -- data/market.toml 0.0001 b)     # builds desk_risk
     g++ -O2 -std=c++17 -o /tmp/risk_quantlib benchmarks/risk_quantlib.cpp -lQuantLib     # Debian's libquantlib0-dev
@@ -31,6 +31,9 @@ MARKETS = [
      ("2023-12-01", "2030-12-02", "0.0015", "pay"), ("2024-02-12", "0.0005"), ["2023-08-17"]),
     ("2026-02-10", [f"{0.031 + 0.0004 * (k % 3):.4f}" for k in range(14)], ("2020-05-20", "2044-05-20", "0.0325"), ("2025-12-17", "2035-12-17"),
      ("2026-02-18", "2041-02-18", "0.0310", "receive"), ("2026-04-07", "0.0300"), ["2025-12-15"]),
+    # By the next business day the coupon of 15 February has left the price.
+    ("2024-02-12", DESK, ("2021-02-15", "2031-02-15", "0.025"), ("2023-07-04", "2026-07-04"), ("2023-10-16", "2028-10-16", "0.0265", "pay"),
+     ("2024-05-15", "0.0355"), ["2023-06-30", "2023-10-12", "2024-01-02"]),
 ]
 PARTS = [("state", 3), ("floater", 2), ("payer", 1), ("spring", -1), ("share", 10000)]
 

@@ -1,28 +1,32 @@
 -- Asks that are answered at once, and what makes a walk an ask: its mark.
-use Rattle.std.proofs.Common.{◌≡◌, ℕ, suc, Bool, true, false, List, [], length, Option, Some, None, refl, sym, ◌∙◌, ap, subst}
+use Rattle.std.proofs.Common.{◌≡◌, ◌⊎◌, inl, inr, ℕ, suc, Bool, true, false, List, [], length, Option, Some, None, refl, sym, ◌∙◌, ap, subst}
 use Rattle.std.specs.Prelude.{◌||◌, is_some, IfSome, if◌then◌else◌}
 use Rattle.std.proofs.lemmas.List.{append-nil}
-use Rattle.std.proofs.lemmas.Bool.{or_left, or_right, or_parts}
+use Rattle.std.proofs.lemmas.Bool.{or_left, or_right, or_parts, false≢true}
 use Rattle.desk_terms.specs.declared.value.Value.{Value}
 use Rattle.desk_terms.specs.declared.asked.Asked.{Asked}
 use Rattle.desk_terms.specs.declared.cause.Cause.{Cause}
 use Rattle.desk_terms.specs.declared.asked.Mark.{Mark}
-use Rattle.desk_terms.specs.declared.asked.Mark.TheVariants.{Fresh, Frozen, Late, Held}
+use Rattle.desk_terms.specs.declared.asked.Mark.TheVariants.{Fresh, Frozen, Late, Held, Recalc}
 use Rattle.desk_terms.specs.Asked.{Shows}
 use Rattle.desk_terms.specs.Reading.{Outcome, Calc}
 use Rattle.desk_terms.specs.Bench.{counted, logged}
 use Rattle.desk_model.specs.declared.kept.Kept.{Kept}
 use Rattle.desk_model.specs.State.{State, kept_at, last_of, last_answer, held_outcome, seen_outcome, is_frozen, is_late, is_clear, mark_of}
-use Rattle.desk_model.specs.Links.{IsLinked}
+use Rattle.desk_model.specs.Links.{IsLinked, IsWhole}
 use Rattle.desk_model.specs.Visit.{Visit, log_of, is_idle, stored, runs, asked}
 use Rattle.desk_model.proofs.Shown.{free_held, seen_held, shows_last}
 use Rattle.desk_model.proofs.Steps.{idle_visit}
 use Rattle.desk_model.proofs.Clear.{shows_seen}
 use Rattle.object_store.specs.declared.market.Market as parts
-use Rattle.object_store.specs.Market.{state_in, state_after}
+use Rattle.object_store.specs.Market.{market_in, state_in, state_after}
+use Rattle.object_store.specs.Shape.{IsJoined}
+use Rattle.object_store.specs.Late.{IsLateOf, IsMarkOf}
+use Rattle.object_store.proofs.Lateness.{late_there, clear_is}
+use Rattle.observer_graph.specs.Notice.{IsLeast}
 use Rattle.object_store.specs.Slots.{Registry, state_of}
 use Rattle.object_store.specs.Store.{StoreView, registry_of}
-use Rattle.ask_walk.specs.Asks.{Asks, Walks, MayAsk, lacking, walk_mark, held_answer, AnswersIdly}
+use Rattle.ask_walk.specs.Asks.{Asks, Walks, MayAsk, lacking, held_answer, AnswersIdly}
 use Rattle.ask_walk.proofs.Loop.{each_id, fit_of, current_last}
 
 -- the marks
@@ -37,12 +41,11 @@ module _ (s : State) (o : ℕ) where
       ap (λ (b : Bool). if b then Frozen else if is_late s o then Late else if is_clear s o then Fresh else Held) thawed
       ∙ ap (λ (b : Bool). if b then Late else if is_clear s o then Fresh else Held) late
 
-  pub free_mark : (kept_at s o).frozen ≡ false → is_late s o ≡ false → (clear : Bool) → clear ≡ is_clear s o → walk_mark clear ≡ mark_of s o
+  free_mark : (kept_at s o).frozen ≡ false → is_late s o ≡ false → mark_of s o ≡ (if is_clear s o then Fresh else Held)
   unfolding mark_of is_frozen
-  free_mark thawed early clear is =
-      ap walk_mark is
-      ∙ sym (ap (λ (b : Bool). if b then Frozen else if is_late s o then Late else if is_clear s o then Fresh else Held) thawed
-      ∙ ap (λ (b : Bool). if b then Late else if is_clear s o then Fresh else Held) early)
+  free_mark thawed early =
+      ap (λ (b : Bool). if b then Frozen else if is_late s o then Late else if is_clear s o then Fresh else Held) thawed
+      ∙ ap (λ (b : Bool). if b then Late else if is_clear s o then Fresh else Held) early
 
   pub not_held : (kept_at s o).frozen ≡ false → is_late s o ≡ false → held_outcome s o ≡ None
   unfolding is_frozen
@@ -51,6 +54,26 @@ module _ (s : State) (o : ℕ) where
   held_last : (is_frozen s o || is_late s o) ≡ true → held_outcome s o ≡ Some (last_answer s o)
   unfolding held_outcome
   held_last is = ap (λ (b : Bool). if b then Some (last_answer s o) else None) is
+
+-- what the store tells of a mark is what the state says
+pub mark_is : (market : parts.Market) (store : StoreView) (o : ℕ) (mark : Mark) → IsWhole (state_in market store)
+    → IsJoined (market_in market) store.shape → IsMarkOf store o mark → mark ≡ mark_of (state_in market store) o
+mark_is market store o mark whole joined is = by mark is
+  where
+    s : State
+    s = state_in market store
+
+    early : IsLeast (IsLateOf store o) None → is_late s o ≡ false
+    early none = late_there s whole store refl joined o None none
+
+    by : (mark : Mark) → IsMarkOf store o mark → mark ≡ mark_of s o
+    by Frozen is = sym (frozen_mark s o is)
+    by Late is = sym (late_mark s o is.0 (late_there s whole store refl joined o (Some is.1.0) is.1.1))
+    by Held is = ap (λ (b : Bool). if b then Fresh else Held) (clear_is s whole store refl joined o false
+        (λ e. absurd (false≢true e), λ clear. absurd (is.1.1 clear))) ∙ sym (free_mark s o is.0 (early is.1.0))
+    by Fresh is = ap (λ (b : Bool). if b then Fresh else Held) (clear_is s whole store refl joined o true
+        (λ e. is.1.1, λ clear. refl)) ∙ sym (free_mark s o is.0 (early is.1.0))
+    by Recalc is = absurd is
 
 module _ (calc : Calc) (s : State) (o : ℕ) (count0 : ℕ) (log0 : Option (List (ℕ × Bool))) where
   log_none : (log : Option (List (ℕ × Bool))) → log ≡ logged log []
@@ -86,15 +109,6 @@ module _ (calc : Calc) (s : State) (o : ℕ) (count0 : ℕ) (log0 : Option (List
       (subst (Shows (lacking o (kept_at s o).last) (kept_at s o).last) (sym (seen_held calc s may.whole.links o (last_answer s o) last)) (lacks (kept_at s o).last)))
       (ap (λ (a : Asked). a.mark) said ∙ sym marks) (ap (λ (a : Asked). a.runs) said)
 
-  pub frozen_asks : MayAsk calc s o → (kept_at s o).frozen ≡ true → (answer : Asked)
-      → answer ≡ record { cause = lacking o (kept_at s o).last; mark = Frozen; runs = 0 } → Asks calc o s s answer count0 count0 log0 log0
-  unfolding is_frozen
-  frozen_asks may frozen = held_asks may (or_left (is_frozen s o) (is_late s o) frozen) Frozen (frozen_mark s o frozen)
-
-  pub late_asks : MayAsk calc s o → (kept_at s o).frozen ≡ false → is_late s o ≡ true → (answer : Asked)
-      → answer ≡ record { cause = lacking o (kept_at s o).last; mark = Late; runs = 0 } → Asks calc o s s answer count0 count0 log0 log0
-  late_asks may thawed late = held_asks may (or_right (is_frozen s o) (is_late s o) late) Late (late_mark s o thawed late)
-
   -- so does a current one that is neither
   pub current_asks : MayAsk calc s o → held_outcome s o ≡ None → (kept_at s o).current ≡ true → (mark : Mark) → mark ≡ mark_of s o → (answer : Asked)
       → answer ≡ record { cause = None; mark = mark; runs = 0 } → Asks calc o s s answer count0 count0 log0 log0
@@ -121,26 +135,56 @@ module _ (s : State) (o : ℕ) where
   unfolding held_answer is_frozen
   held_as frozen late current f l c = λ i. answered_by (f i) (l i) (c i)
 
-  pub answers_frozen : (kept_at s o).frozen ≡ true → (answer : Asked)
-      → answer ≡ record { cause = lacking o (kept_at s o).last; mark = Frozen; runs = 0 } → Some answer ≡ held_answer s o
-  answers_frozen frozen answer said =
-      ap Some (said ∙ ap (λ (m : Mark). let a : Asked = record { cause = lacking o (kept_at s o).last; mark = m; runs = 0 } in a) (sym (frozen_mark s o frozen)))
-      ∙ sym (held_as true (is_late s o) (kept_at s o).current frozen refl refl)
+  -- the same by the mark
+  abbrev pub answer_as : Mark → Option Asked
+  answer_as Frozen = Some (record { cause = lacking o (kept_at s o).last; mark = Frozen; runs = 0 })
+  answer_as Late = Some (record { cause = lacking o (kept_at s o).last; mark = Late; runs = 0 })
+  answer_as Held = if (kept_at s o).current then Some (record { cause = None; mark = Held; runs = 0 }) else None
+  answer_as Fresh = if (kept_at s o).current then Some (record { cause = None; mark = Fresh; runs = 0 }) else None
+  answer_as Recalc = None
 
-  pub answers_late : (kept_at s o).frozen ≡ false → is_late s o ≡ true → (answer : Asked)
-      → answer ≡ record { cause = lacking o (kept_at s o).last; mark = Late; runs = 0 } → Some answer ≡ held_answer s o
-  answers_late thawed late answer said =
-      ap Some (said ∙ ap (λ (m : Mark). let a : Asked = record { cause = lacking o (kept_at s o).last; mark = m; runs = 0 } in a) (sym (late_mark s o thawed late)))
-      ∙ sym (held_as false true (kept_at s o).current thawed late refl)
+  pub held_by_mark : (mark : Mark) → mark ≡ mark_of s o → held_answer s o ≡ answer_as mark
+  unfolding held_answer mark_of
+  held_by_mark mark is = by (is_frozen s o) (is_late s o) (is_clear s o) ∙ ap answer_as (sym is)
+    where
+      marked : Bool → Bool → Bool → Mark
+      marked frozen late clear = if frozen then Frozen else if late then Late else if clear then Fresh else Held
 
-  pub answers_current : (kept_at s o).frozen ≡ false → is_late s o ≡ false → (kept_at s o).current ≡ true → (mark : Mark) → mark ≡ mark_of s o
-      → (answer : Asked) → answer ≡ record { cause = None; mark = mark; runs = 0 } → Some answer ≡ held_answer s o
-  answers_current thawed early current mark marks answer said =
-      ap Some (said ∙ ap (λ (m : Mark). let a : Asked = record { cause = None; mark = m; runs = 0 } in a) marks)
-      ∙ sym (held_as false false true thawed early current)
+      by : (frozen late clear : Bool) → (if frozen || late
+          then Some (record { cause = lacking o (kept_at s o).last; mark = marked frozen late clear; runs = 0 })
+          else if (kept_at s o).current then Some (record { cause = None; mark = marked frozen late clear; runs = 0 }) else None)
+          ≡ answer_as (marked frozen late clear)
+      by true late clear = refl
+      by false true clear = refl
+      by false false true = refl
+      by false false false = refl
 
-  pub answers_none : (kept_at s o).frozen ≡ false → is_late s o ≡ false → (kept_at s o).current ≡ false → None ≡ held_answer s o
-  answers_none thawed early stale = sym (held_as false false false thawed early stale)
+  abbrev said_with : Option Cause → Mark → Asked
+  said_with cause mark = record { cause = cause; mark = mark; runs = 0 }
+
+  pub answers_held : (mark : Mark) → mark ≡ mark_of s o → (mark ≡ Frozen) ⊎ (mark ≡ Late) → (answer : Asked)
+      → answer ≡ record { cause = lacking o (kept_at s o).last; mark = mark; runs = 0 } → held_answer s o ≡ Some answer
+  answers_held mark is (inl e) answer said = held_by_mark mark is ∙ ap answer_as e
+      ∙ sym (ap Some (said ∙ ap (said_with (lacking o (kept_at s o).last)) e))
+  answers_held mark is (inr e) answer said = held_by_mark mark is ∙ ap answer_as e
+      ∙ sym (ap Some (said ∙ ap (said_with (lacking o (kept_at s o).last)) e))
+
+  by_current : (mark : Mark) → mark ≡ mark_of s o → (mark ≡ Fresh) ⊎ (mark ≡ Held) → (current : Bool) → (kept_at s o).current ≡ current
+      → held_answer s o ≡ (if current then Some (said_with None mark) else None)
+  by_current mark is free current c = held_by_mark mark is ∙ elim free [
+    | inl e ↦ ap answer_as e ∙ ap (λ (b : Bool). if b then Some (said_with None Fresh) else None) c
+        ∙ ap (λ (m : Mark). if current then Some (said_with None m) else None) (sym e)
+    | inr e ↦ ap answer_as e ∙ ap (λ (b : Bool). if b then Some (said_with None Held) else None) c
+        ∙ ap (λ (m : Mark). if current then Some (said_with None m) else None) (sym e)
+  ]
+
+  pub answers_current : (mark : Mark) → mark ≡ mark_of s o → (mark ≡ Fresh) ⊎ (mark ≡ Held) → (kept_at s o).current ≡ true
+      → (answer : Asked) → answer ≡ record { cause = None; mark = mark; runs = 0 } → held_answer s o ≡ Some answer
+  answers_current mark is free current answer said = by_current mark is free true current ∙ sym (ap Some said)
+
+  pub answers_none : (mark : Mark) → mark ≡ mark_of s o → (mark ≡ Fresh) ⊎ (mark ≡ Held) → (kept_at s o).current ≡ false
+      → held_answer s o ≡ None
+  answers_none mark is free stale = by_current mark is free false stale
 
   -- nothing is answered exactly of an object that is neither frozen nor late nor current
   pub answers_where : is_some (held_answer s o) ≡ (is_frozen s o || (is_late s o || (kept_at s o).current))

@@ -6,7 +6,6 @@ use Rattle.desk_terms.specs.declared.value.Input as input
 use Rattle.desk_terms.specs.declared.cause.Cause.{Cause}
 use Rattle.desk_terms.specs.declared.cause.Cause.TheVariants.{Unpriced}
 use Rattle.desk_terms.specs.declared.asked.Mark.{Mark}
-use Rattle.desk_terms.specs.declared.asked.Mark.TheVariants.{Fresh, Held}
 use Rattle.desk_terms.specs.declared.asked.Asked.{Asked}
 use Rattle.desk_terms.specs.Reading.{Outcome, Reading, Calc, IsFitting}
 use Rattle.desk_terms.specs.Asked.{Shows}
@@ -18,6 +17,8 @@ use Rattle.desk_model.specs.State.{State, kept_at, unpriced, seen_outcome, shows
 use Rattle.desk_model.specs.Visit.{log_of, with_value, runs, stored, asked}
 use Rattle.desk_model.specs.Links.{IsWhole, IsKinded, AreRanged, is_lazy_at}
 use Rattle.desk_model.specs.Sound.{IsSound}
+use Rattle.ask_walk.specs.declared.asking.AtOnce.{AtOnce}
+use Rattle.ask_walk.specs.declared.asking.AtOnce.TheVariants as once
 
 -- an ask that was answered: it shows what the definition shows, with its mark and number, makes exactly its calls of the
 -- bench, and leaves its state
@@ -43,10 +44,6 @@ abbrev pub lacking : ℕ → Option Value → Option Cause
 lacking o (Some value) = None
 lacking o None = Some (Unpriced o)
 
--- the mark of an object that is neither frozen nor late
-abbrev pub walk_mark : Bool → Mark
-walk_mark clear = if clear then Fresh else Held
-
 -- WHAT IS ANSWERED WITHOUT A COMPUTATION: an object that is frozen or late shows its last value or that it has none, any
 -- other that is current its last value, each with its mark; nothing is answered of an object that is none of these
 -- (QuantLib's `LazyObject::calculate`, which does nothing where the object is calculated or frozen)
@@ -57,6 +54,11 @@ held_answer s o =
     else if (kept_at s o).current
     then Some (record { cause = None; mark = mark_of s o; runs = 0 })
     else None
+
+-- what an ask comes to before anything is computed: this answer, or that none is given yet and the mark that it will have
+abbrev pub ComesTo : State → ℕ → AtOnce → Type 0
+ComesTo s o (once.Answers answer) = held_answer s o ≡ Some answer
+ComesTo s o (once.Walks mark) = (held_answer s o ≡ None) × (mark ≡ mark_of s o)
 
 -- it is what an ask answers, which leaves the state as it is and makes no call of the bench, whatever that has counted and
 -- told before

@@ -19,7 +19,7 @@ ghost use Rattle.object_store.specs.Shape.{IsJoined, role_at};
 ghost use Rattle.observer_graph.specs.declared.node.Role.TheVariants as role;
 ghost use Rattle.ask_walk.specs.Reads.{Remembers};
 ghost use Rattle.ask_walk.specs.Begun.{Keeps};
-ghost use Rattle.ask_walk.specs.Asks.{Asks, Walks, Stops, MayAsk, Stays, Computes, IsComputed, lacking, walk_mark, held_answer};
+ghost use Rattle.ask_walk.specs.Asks.{Asks, Walks, Stops, MayAsk, Stays, Computes, IsComputed, ComesTo, lacking, held_answer};
 
 use crate::books::Books;
 use crate::reader::read;
@@ -32,6 +32,15 @@ use desk_terms::{Asked, Bench, Cause, InputList, Job, Mark};
 use object_store::{Market, Store};
 use std::alloc::{AllocError, Global};
 use std::mem;
+
+/// What an ask comes to before anything is computed.
+#[derive(Clone, Copy)]
+pub enum AtOnce {
+    /// This is its answer.
+    Answers(Asked),
+    /// The object is to be computed; the answer has this mark.
+    Walks(Mark),
+}
 
 impl Books {
     /// Asks a lazy object. It computes only what it uses and has no current value, and works each derived quote out at most
@@ -57,13 +66,14 @@ impl Books {
         ensures shape { self.new.store.shape ≡ self.old.store.shape }
         ensures registry { registry_of self.new.store ≡ registry_of self.old.store }
     {
-        if let Some(answer) = self.ask_held(object) {
-            return Ok(answer);
+        match self.at_once(object) {
+            AtOnce::Answers(answer) => Ok(answer),
+            AtOnce::Walks(mark) => {
+                let answer = self.walk(market, object, mark, bench);
+                self.clear();
+                answer
+            }
         }
-        let mark = walk_mark(self.store.clear(object));
-        let answer = self.walk(market, object, mark, bench);
-        self.clear();
-        answer
     }
 
     /// What an ask answers of an object without a computation. None exactly where the object is neither frozen nor late nor
@@ -75,17 +85,33 @@ impl Books {
             → result ≡ held_answer (state_in market self.old.store) object }
         ensures same { self.new ≡ self.old }
     {
-        if self.store.is_frozen(object) {
-            return Some(last_answer(&self.store, object, Mark::Frozen));
+        match self.at_once(object) {
+            AtOnce::Answers(answer) => Some(answer),
+            AtOnce::Walks(_) => None,
         }
-        if self.store.late(object).is_some() {
-            return Some(last_answer(&self.store, object, Mark::Late));
+    }
+
+    // What an ask of an object comes to without a computation.
+    #[inline(always)]
+    fn at_once(&mut self, object: ObjId) -> AtOnce
+        requires there { is_some (role_at self.old.store.shape object) ≡ true }
+        ensures comes { (market : Market) → IsWhole (state_in market self.old.store)
+            → IsJoined (market_in market) self.old.store.shape
+            → ComesTo (state_in market self.old.store) object result }
+        ensures same { self.new ≡ self.old }
+    {
+        let mark = self.store.mark(object);
+        match mark {
+            Mark::Frozen | Mark::Late => AtOnce::Answers(last_answer(&self.store, object, mark)),
+            Mark::Fresh | Mark::Held => {
+                if self.store.is_current(object) {
+                    AtOnce::Answers(answered(None, mark, 0))
+                } else {
+                    AtOnce::Walks(mark)
+                }
+            }
+            Mark::Recalc => unreachable!(),
         }
-        if self.store.is_current(object) {
-            let clear = self.store.clear(object);
-            return Some(answered(None, walk_mark(clear), 0));
-        }
-        None
     }
 
     /// What an object gives where another names it: a quote its rate, a handle what its target gives, a lazy object itself.
@@ -160,13 +186,6 @@ impl Books {
             }
         }
     }
-}
-
-// The mark of an object that is neither frozen nor late.
-fn walk_mark(clear: bool) -> Mark
-    ensures { result ≡ walk_mark clear }
-{
-    if clear { Mark::Fresh } else { Mark::Held }
 }
 
 // An answer without a computation: the last value of the object, or that it has none.

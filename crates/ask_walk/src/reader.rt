@@ -95,6 +95,7 @@ fn read_through(market: &Market, scratch: &mut Scratch, object: ObjId) -> Result
 }
 
 // What an object gives over what is remembered, or the first object that has to be read before.
+#[inline(always)]
 fn look_at(objects: &Objects, scratch: &Scratch, object: ObjId) -> Look
     ensures { result ≡ given_by (recalled scratch.now.entries) object (terms_in (slice_index_or objects.now object Free)) }
 {

@@ -144,6 +144,7 @@ fn sum_of(sum: i128, product: i128) -> i128
 }
 
 // What an ask does next where a price takes these entries.
+#[inline(always)]
 fn next_entries(
     alloc: Global,
     store: &Store,

@@ -14,8 +14,19 @@ use Rattle.observer_graph.proofs.Exactly.{below_there}
 use Rattle.observer_graph.specs.Late as graphs
 use Rattle.object_store.specs.Shape.{kept_of, shape_of, role_in, edges_from, edges_at}
 use Rattle.object_store.specs.Store.{StoreView, stored_at}
-use Rattle.object_store.specs.Late.{IsLateOf, holds_back, IsClear}
+use Rattle.desk_terms.specs.declared.asked.Mark.{Mark}
+use Rattle.desk_terms.specs.declared.asked.Mark.TheVariants.{Fresh, Frozen, Late, Held}
+use Rattle.observer_graph.specs.declared.node.Standing.{Standing}
+use Rattle.observer_graph.specs.declared.node.Standing.TheVariants as stands
+use Rattle.object_store.specs.Late.{IsLateOf, holds_back, IsClear, IsMarkOf}
 use Rattle.object_store.proofs.Kept.{Fits, kept_at_node, role_at_node}
+
+-- the mark of an answer by how its node stands
+abbrev pub mark_as : Standing → Mark
+mark_as stands.Frozen = Frozen
+mark_as stands.Late = Late
+mark_as stands.Held = Held
+mark_as stands.Clear = Fresh
 
 least_same : (P Q : ℕ → Type 0) → ((x : ℕ) → P x ↔ Q x) → (least : Option ℕ) → IsLeast P least → IsLeast Q least
 least_same P Q same None none = λ x q. none x ((same x).1 q)
@@ -117,3 +128,16 @@ module _ (graph : GraphView) (lasts : List (Option Value)) (on : Bool) (fits : F
           | inr below ↦ inr (path_back (λ y. y == x) (λ y. true) (λ y. true) (λ y. refl) o below)
         ],
       )
+
+  -- how a node stands in the graph is the mark of the object's answers
+  pub mark_node : (o : ℕ) (standing : Standing) → graphs.StandsAs graph o standing → IsMarkOf view o (mark_as standing)
+  mark_node o stands.Frozen is = frozen_node o ∙ is
+  mark_node o stands.Late is = (frozen_node o ∙ is.0, (is.1.0, least_late o (Some is.1.0) is.1.1))
+  mark_node o stands.Held is = (
+    frozen_node o ∙ is.0,
+    (least_late o None is.1.0, λ clear. false≢true ((clear_node o false (λ e. absurd (false≢true e), λ there. absurd (is.1.1 there))).1 clear)),
+  )
+  mark_node o stands.Clear is = (
+    frozen_node o ∙ is.0,
+    (least_late o None is.1.0, (clear_node o true (λ e. is.1.1, λ there. refl)).0 refl),
+  )

@@ -10,15 +10,15 @@ ghost use Rattle.desk_terms.specs.declared.value.Value.TheVariants.{Money};
 ghost use Rattle.desk_model.specs.State.{unpriced};
 ghost use Rattle.desk_model.specs.Visit.{with_value};
 ghost use Rattle.object_store.specs.Slots.{is_now, is_at_hand};
-ghost use Rattle.object_store.specs.Late.{IsLateOf, IsClear};
+ghost use Rattle.object_store.specs.Late.{IsLateOf, IsMarkOf};
 ghost use Rattle.object_store.specs.Shape.{role_at, observed_by, edges_at};
 ghost use Rattle.object_store.specs.Store.{AddsObject, TakesObject, Joins, Leaves, Notices, stored_at, marked, stored_as};
 
 use deferred_sources::Deferral;
 use desk_names::ObjId;
-use desk_terms::Value;
+use desk_terms::{Mark, Value};
 use fixed_amount::Amount;
-use observer_graph::{Flags, Graph, Role};
+use observer_graph::{Flags, Graph, Role, Standing};
 use std::alloc::{AllocError, Global};
 use std::marker::Model;
 
@@ -320,14 +320,20 @@ impl Store {
         self.deferral.late(object)
     }
 
-    /// Whether neither an object nor any beneath it is frozen or holds its notice back. It costs what lies beneath;
-    /// nothing where no object does either.
-    pub fn clear(&mut self, object: ObjId) -> bool
+    /// How an answer of an object stands: frozen, late, held or fresh. It costs what lies beneath; nothing where no object
+    /// is frozen or holds its notice back.
+    #[inline(always)]
+    pub fn mark(&mut self, object: ObjId) -> Mark
         requires { is_some (role_at self.old.shape object) ≡ true }
-        ensures answer { IsTrue result ↔ IsClear self.old object }
+        ensures answer { IsMarkOf self.old object result }
         ensures same { self.new ≡ self.old }
     {
-        self.deferral.graph.all_clear(object)
+        match self.deferral.graph.standing(object) {
+            Standing::Frozen => Mark::Frozen,
+            Standing::Late => Mark::Late,
+            Standing::Held => Mark::Held,
+            Standing::Clear => Mark::Fresh,
+        }
     }
 }
 

@@ -3,15 +3,15 @@ ghost use Rattle.std.specs.Prelude.{◌≡◌, ◌↔◌, ◌<◌, ◌≤◌, �
 ghost use Rattle.walks.specs.Walk.{Among};
 ghost use Rattle.observer_graph.specs.GraphView.{IsLive, IsLazy, IsPair, IsWhole, node_at, flags_of, flags_at, is_source};
 ghost use Rattle.observer_graph.specs.Notice.{IsLeast, IsUser, Reaches, Tells, with_stale};
-ghost use Rattle.observer_graph.specs.Late.{IsClear, IsLateOf};
+ghost use Rattle.observer_graph.specs.Late.{IsClear, IsLateOf, StandsAs};
 ghost use Rattle.observer_graph.specs.Noticed.{IsRising};
 ghost use Rattle.observer_graph.specs.Change.{AddsNode, AddsPair, TakesPair, TakesNode, flagged, with_node, with_flags, with_source, without_source};
 
 use crate::beneath::{is_frozen, recounted};
-use crate::node::{Flags, Node, Role, takes_flags};
+use crate::node::{Flags, Node, Role, Standing, takes_flags};
 use crate::node_set::NodeSet;
 use crate::pairs::Pairs;
-use crate::rising::{first_out, reserve_for, take_out};
+use crate::rising::{reserve_for, take_out};
 use crate::walk::unsettle_one;
 use desk_names::ObjId;
 use std::alloc::{AllocError, Global};
@@ -200,7 +200,7 @@ impl Graph {
         ensures some { IfSome result (λ w. (self.old.noticed ≡ w ∷ self.new.noticed)
             × (self.new ≡ record self.old { noticed = self.new.noticed })) }
     {
-        first_out(&mut self.noticed)
+        self.noticed.pop_front()
     }
 
     /// Whether a subject and an observer are a pair. Takes no memory, and time in proportion to the fewer of the
@@ -351,6 +351,40 @@ impl Graph {
             return true;
         }
         self.pairs.is_clear(&self.nodes, &self.sources, node)
+    }
+
+    /// How a node stands to who asks for it. Takes no memory, and time in proportion to what lies beneath; where no node is
+    /// frozen or marked, none.
+    #[inline(always)]
+    pub fn standing(&mut self, node: ObjId) -> Standing
+        requires { IsLive self.old node }
+        ensures standing { StandsAs self.old node result }
+        ensures same { self.new ≡ self.old }
+    {
+        if self.frozen == 0 && self.sources.len() == 0 {
+            return Standing::Clear;
+        }
+        self.standing_beneath(node)
+    }
+
+    // The same by what lies beneath the node.
+    #[inline(never)]
+    fn standing_beneath(&mut self, node: ObjId) -> Standing
+        requires { IsLive self.old node }
+        ensures standing { StandsAs self.old node result }
+        ensures same { self.new ≡ self.old }
+    {
+        if self.flags(node).frozen {
+            return Standing::Frozen;
+        }
+        if let Some(_) = self.least_source(node) {
+            return Standing::Late;
+        }
+        if self.all_clear(node) {
+            Standing::Clear
+        } else {
+            Standing::Held
+        }
     }
 
     /// A notice from all marked sources together: whom it reaches is no longer current, each watcher among them is

@@ -1,7 +1,7 @@
 //! Who observes whom, and whom a notice reaches: the graph of observers (QuantLib's `Observable` and `LazyObject`).
 //! Nodes are numbered from 0 in order of creation. A subject and one of its observers are a pair, each pair there once.
 //!
-//! `Graph`, `Role`, `Flags`. Words of `specs/`: `GraphView`, `IsPair`, `IsTold`, `Reaches`, `IsLateOf`, `IsClear`.
+//! `Graph`, `Role`, `Flags`, `Standing`. Words of `specs/`: `GraphView`, `IsPair`, `IsTold`, `Reaches`, `IsLateOf`, `IsClear`.
 #![tactic(auto)]
 
 mod beneath;
@@ -16,4 +16,4 @@ mod rising;
 mod walk;
 
 pub use graph::Graph;
-pub use node::{Flags, Role};
+pub use node::{Flags, Role, Standing};

@@ -33,6 +33,19 @@ pub struct Node {
     pub flags: Flags,
 }
 
+/// How a node stands to who asks for it.
+#[derive(Clone, Copy)]
+pub enum Standing {
+    /// It is frozen.
+    Frozen,
+    /// It is not frozen, and a marked source makes it late.
+    Late,
+    /// It is neither, and some node beneath it is frozen or a marked source.
+    Held,
+    /// Neither it nor any node beneath it is frozen or a marked source.
+    Clear,
+}
+
 /// Whether a node is a watcher; no node is that does not live.
 pub fn is_watcher(node: &Option<Node>) -> bool
     ensures { IsTrue result ↔ IsWatcher node.now }

@@ -1,6 +1,6 @@
 // Rising lists of nodes. Both ends are near: the first is taken out, and a node that was made before all others is put in,
 // without a search and without a move of the others.
-ghost use Rattle.std.specs.Prelude.{◌≡◌, ◌↔◌, ◌<◌, ◌≤◌, ℕ, [], ◌∷◌, true, length, IsTrue, IfSome, IfNone, OnOk};
+ghost use Rattle.std.specs.Prelude.{◌≡◌, ◌↔◌, ◌<◌, ◌≤◌, ℕ, [], ◌∷◌, true, length, IsTrue, OnOk};
 ghost use Rattle.std.specs.VecDeque.{deque_len, deque_capacity};
 ghost use Rattle.observer_graph.specs.Noticed.{IsRising, IsPlace, with_number, without, is_at};
 
@@ -89,14 +89,4 @@ pub fn reserve_for(nodes: &mut VecDeque<ObjId>, room: usize) -> Result<(), Alloc
     ensures room { OnOk result (room ≤ deque_capacity nodes.new) }
 {
     nodes.reserve(room.saturating_sub(nodes.len()))
-}
-
-/// Takes the first node out, if there is one.
-pub fn first_out(nodes: &mut VecDeque<ObjId>) -> Option<ObjId>
-    ensures none { IfNone result (nodes.old.items ≡ []) }
-    ensures some { IfSome result (λ w. nodes.old.items ≡ w ∷ nodes.new.items) }
-    ensures same { IfNone result (nodes.new.items ≡ nodes.old.items) }
-    ensures room { deque_capacity nodes.new ≡ deque_capacity nodes.old }
-{
-    nodes.pop_front()
 }

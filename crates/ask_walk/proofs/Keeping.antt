@@ -15,7 +15,7 @@ use Rattle.desk_model.specs.Visit.{with_value}
 use Rattle.desk_model.specs.Market.{Market, terms_at}
 use Rattle.desk_model.specs.Links.{is_lazy_at}
 use Rattle.object_store.specs.Slots.{is_at_hand}
-use Rattle.ask_walk.specs.declared.waiting.Begun.{Begun}
+use Rattle.ask_walk.specs.declared.turning.Begun.{Begun}
 use Rattle.ask_walk.specs.Asks.{Computes}
 use Rattle.ask_walk.specs.Begun.{AreRead, HasRead, IsBegun, AreBegun, Keeps, objects_of}
 use Rattle.ask_walk.proofs.Loop.{lazy_terms}

@@ -9,7 +9,7 @@ use Rattle.desk_model.specs.declared.kept.Kept.{Kept}
 use Rattle.desk_model.specs.Fresh.{input_of}
 use Rattle.desk_model.specs.Market.{Market, terms_at}
 use Rattle.object_store.specs.Slots.{answer_of, is_at_hand}
-use Rattle.ask_walk.specs.declared.waiting.Begun.{Begun}
+use Rattle.ask_walk.specs.declared.turning.Begun.{Begun}
 
 -- x is at hand, and the input is its value
 abbrev pub IsReadOf : List Kept → ℕ → input.Input → Type 0

@@ -5,33 +5,40 @@ ghost use Rattle.desk_terms.specs.Bench.{counted, logged};
 ghost use Rattle.desk_terms.specs.Sums.{summed, composite_reading};
 ghost use Rattle.desk_terms.specs.declared.terms.Part.{Part};
 ghost use Rattle.desk_terms.specs.declared.value.Input.{Input};
-ghost use Rattle.desk_terms.specs.Reading.{IsWellFormed};
+ghost use Rattle.desk_terms.specs.Reading.{IsWellFormed, index_reading, named_index};
 ghost use Rattle.desk_model.specs.Market.{terms_at};
 ghost use Rattle.desk_model.specs.Links.{is_lazy_at, IsLinked, IsWhole};
-ghost use Rattle.desk_model.specs.Uses.{input_at, reading_at};
+ghost use Rattle.desk_model.specs.Uses.{input_at, index_at, reading_at};
 ghost use Rattle.desk_model.specs.State.{unpriced, held_outcome};
 ghost use Rattle.object_store.specs.declared.market.Market.{Market};
 ghost use Rattle.object_store.specs.Market.{market_in, state_in, state_after};
 ghost use Rattle.object_store.specs.Slots.{is_now};
 ghost use Rattle.object_store.specs.Store.{registry_of};
-ghost use Rattle.object_store.specs.Scratch.{IsEmpty};
+ghost use Rattle.object_store.specs.Scratch.{IsEmpty, AreClear};
 ghost use Rattle.object_store.specs.Shape.{IsJoined, role_at};
 ghost use Rattle.observer_graph.specs.declared.node.Role.TheVariants as role;
 ghost use Rattle.ask_walk.specs.Reads.{Remembers};
 ghost use Rattle.ask_walk.specs.Begun.{Keeps};
 ghost use Rattle.ask_walk.specs.Asks.{Asks, Walks, Stops, MayAsk, Stays, Computes, IsComputed, ComesTo, lacking, held_answer};
 
-use crate::books::Books;
 use crate::reader::read;
-use crate::turning::Turn;
-use crate::uses::index_named;
-use crate::waiting::{begin, left};
+use crate::turning::{Begun, Turn, begin, left};
 use desk_model::Entry;
 use desk_names::ObjId;
-use desk_terms::{Asked, Bench, Cause, InputList, Job, Mark};
-use object_store::{Market, Store};
+use desk_terms::{Asked, Bench, Cause, IndexUse, InputList, Job, Mark, Terms};
+use object_store::{Market, Scratch, Store, index_of};
 use std::alloc::{AllocError, Global};
 use std::mem;
+
+/// What is kept of the objects of a market: what is stored of each, and what an ask works with: what it remembers, room for
+/// the inputs of a price, and room for those that wait.
+#[derive(Drop)]
+pub struct Books {
+    pub store: Store,
+    pub scratch: Scratch,
+    pub inputs: InputList,
+    pub waiting: Vec<Begun>,
+}
 
 /// What an ask comes to before anything is computed.
 #[derive(Clone, Copy)]
@@ -186,6 +193,15 @@ impl Books {
             }
         }
     }
+
+    /// Nothing is remembered of any object, and the inputs of the last price are let go.
+    pub(crate) fn clear(&mut self)
+        ensures scratch { AreClear self.old.scratch self.new.scratch }
+        ensures store { self.new.store ≡ self.old.store }
+    {
+        self.scratch.clear();
+        self.inputs.truncate(0);
+    }
 }
 
 // An answer without a computation: the last value of the object, or that it has none.
@@ -235,6 +251,27 @@ pub fn compute<'a, B: Bench>(
             Some(cause) => Ok(Some(cause)),
             None => Err(AllocError),
         },
+    }
+}
+
+// The index that terms name, as their price sees it.
+fn index_named<'a>(market: &'a Market, terms: &Terms) -> Option<IndexUse<'a>>
+    ensures { index_reading result ≡ index_at (market_in market.now) (named_index terms.now) }
+{
+    match terms {
+        Terms::Flows(flows, _) => match flows.index {
+            None => None,
+            Some(index) => index_of(&market.objects, index),
+        },
+        Terms::Quote(_)
+        | Terms::Derived { .. }
+        | Terms::Handle { .. }
+        | Terms::Index(..)
+        | Terms::Engine { .. }
+        | Terms::Curve(_)
+        | Terms::Implied { .. }
+        | Terms::Stock { .. }
+        | Terms::Composite(_) => None,
     }
 }
 

@@ -5,14 +5,12 @@
 #![tactic(auto)]
 
 mod asking;
-mod books;
 mod reader;
 mod recalced;
 mod recalculating;
 mod steps;
 mod turning;
 mod uses;
-mod waiting;
 
-pub use books::Books;
+pub use asking::Books;
 pub use recalced::Recalced;

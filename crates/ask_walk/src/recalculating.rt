@@ -9,11 +9,9 @@ ghost use Rattle.object_store.specs.Store.{registry_of};
 ghost use Rattle.ask_walk.specs.Asks.{MayAsk, Stays};
 ghost use Rattle.ask_walk.specs.Recalcs.{Recalcs, RecalcEnds, RecalcStops, Reprices, refused_as};
 
-use crate::asking::answered;
-use crate::books::Books;
+use crate::asking::{Books, answered};
 use crate::recalced::Recalced;
-use crate::turning::Turn;
-use crate::waiting::begin;
+use crate::turning::{Turn, begin};
 use desk_names::ObjId;
 use desk_terms::{Asked, Bench, Mark};
 use object_store::{Market, Store};

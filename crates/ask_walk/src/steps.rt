@@ -18,8 +18,8 @@ ghost use Rattle.object_store.specs.Market.{market_in};
 ghost use Rattle.object_store.specs.Slots.{answer_of, answered, answered_of, is_at_hand};
 
 use crate::reader::read;
+use crate::turning::Begun;
 use crate::uses::{flow_entries, helper_entries, only_entry};
-use crate::waiting::Begun;
 use curve_points::copy_curve;
 use desk_model::Entry;
 use desk_names::ObjId;

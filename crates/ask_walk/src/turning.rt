@@ -1,5 +1,5 @@
-// One turn of an ask at an object.
-ghost use Rattle.std.specs.Prelude.{◌≡◌, ◌≢◌, List, true, Some, IfOk, OnErr};
+// One turn of an ask at an object, and the object at which it stands.
+ghost use Rattle.std.specs.Prelude.{◌≡◌, ◌≢◌, List, true, Some, IfOk, OnErr, pos};
 ghost use Rattle.desk_terms.specs.declared.terms.Terms.TheVariants.{Composite};
 ghost use Rattle.desk_terms.specs.declared.terms.Part.{Part};
 ghost use Rattle.desk_model.specs.Market.{terms_at};
@@ -12,14 +12,45 @@ ghost use Rattle.ask_walk.specs.Reads.{Remembers};
 ghost use Rattle.ask_walk.specs.Begun.{IsBegun};
 ghost use Rattle.ask_walk.specs.Turns.{MayRun, Turns, Fails};
 
-use crate::asking::{compute, total};
-use crate::books::Books;
+use crate::asking::{Books, compute, total};
 use crate::steps::{Step, next, next_member};
-use crate::waiting::Begun;
 use desk_names::ObjId;
 use desk_terms::{Bench, Cause, Terms};
 use object_store::Market;
 use std::alloc::AllocError;
+
+/// An object at which an ask stands or that waits for another: how many of its members were read, if it is a composite, and
+/// the sum of their values times their weights, in units of 10^-6. Of any other object all is read at once.
+#[derive(Clone, Copy)]
+pub struct Begun {
+    pub object: ObjId,
+    pub read: usize,
+    pub sum: i128,
+}
+
+// An object of which nothing was read.
+#[inline(always)]
+pub fn begin(object: ObjId) -> Begun
+    ensures { result ≡ record { object = object; read = 0; sum = pos 0 } }
+{
+    Begun {
+        object,
+        read: 0,
+        sum: 0,
+    }
+}
+
+// What waits, member by member: a copy of the whole takes the gap between its members along.
+#[inline(always)]
+pub fn left(begun: &Begun) -> Begun
+    ensures { result ≡ begun.now }
+{
+    Begun {
+        object: begun.object,
+        read: begun.read,
+        sum: begun.sum,
+    }
+}
 
 /// What one turn of an ask did at an object.
 #[derive(Clone, Copy)]

@@ -1,21 +1,20 @@
 // What the prices of curves and of flows take, in order.
 ghost use Rattle.std.specs.Prelude.{◌≡◌, ◌<◌, ℕ, length, [], ◌∷◌, Some, IfSome, IfOk, slice_index_or};
 ghost use Rattle.walks.specs.Walk.{Among};
-ghost use Rattle.desk_terms.specs.Reading.{index_reading, named_index};
 ghost use Rattle.desk_terms.specs.Terms.{helper_references, optional_reference};
 ghost use Rattle.desk_terms.specs.declared.terms.Terms.TheVariants.{Flows};
 ghost use Rattle.desk_terms.specs.declared.kind.Wanted.TheVariants.{Index};
 ghost use Rattle.desk_model.specs.Market.{named, terms_in, terms_at};
 ghost use Rattle.desk_model.specs.declared.slot.Slot.TheVariants.{Free};
 ghost use Rattle.desk_model.specs.Links.{IsLinked, AreOfKind, Serve};
-ghost use Rattle.desk_model.specs.Uses.{input_at, helper_entries, index_in, index_at, uses};
+ghost use Rattle.desk_model.specs.Uses.{input_at, helper_entries, index_in, uses};
 ghost use Rattle.object_store.specs.Market.{market_in};
 ghost use Rattle.ask_walk.specs.Reads.{Remembers, forecast_index};
 
 use crate::reader::read;
 use desk_model::Entry;
 use desk_names::ObjId;
-use desk_terms::{Cause, FlowTerms, Helper, IndexUse, Terms, expired, needs_forecast};
+use desk_terms::{Cause, FlowTerms, Helper, expired, needs_forecast};
 use object_store::{Market, Scratch, index_of};
 use std::alloc::AllocError;
 
@@ -122,26 +121,5 @@ fn forecast_index(market: &Market, flows: &FlowTerms) -> Option<ObjId>
                 }
             }
         },
-    }
-}
-
-/// The index that terms name, as their price sees it.
-pub fn index_named<'a>(market: &'a Market, terms: &Terms) -> Option<IndexUse<'a>>
-    ensures { index_reading result ≡ index_at (market_in market.now) (named_index terms.now) }
-{
-    match terms {
-        Terms::Flows(flows, _) => match flows.index {
-            None => None,
-            Some(index) => index_of(&market.objects, index),
-        },
-        Terms::Quote(_)
-        | Terms::Derived { .. }
-        | Terms::Handle { .. }
-        | Terms::Index(..)
-        | Terms::Engine { .. }
-        | Terms::Curve(_)
-        | Terms::Implied { .. }
-        | Terms::Stock { .. }
-        | Terms::Composite(_) => None,
     }
 }

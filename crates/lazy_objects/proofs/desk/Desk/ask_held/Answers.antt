@@ -3,7 +3,7 @@ use Rattle.std.specs.Prelude.{is_some, IfSome}
 use Rattle.desk_model.specs.State.{State}
 use Rattle.desk_model.specs.Sound.{IsSound}
 use Rattle.desk_model.specs.Links.{is_lazy_at}
-use Rattle.ask_walk.specs.declared.books.Books.{Books}
+use Rattle.ask_walk.specs.declared.asking.Books.{Books}
 use Rattle.ask_walk.specs.Asks.{held_answer, AnswersIdly}
 use Rattle.object_store.specs.Market.{market_in, state_in}
 use Rattle.object_store.specs.Shape.{IsJoined}

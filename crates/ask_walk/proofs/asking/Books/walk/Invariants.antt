@@ -4,7 +4,7 @@ use Rattle.object_store.specs.Store.{registry_of}
 use Rattle.ask_walk.specs.Reads.{Remembers}
 use Rattle.ask_walk.specs.Begun.{IsBegun, AreBegun, Keeps, objects_of}
 use Rattle.ask_walk.proofs.Loop.{Asking, open_of}
-use Rattle.ask_walk.proofs.books.Books.walk.Given as goal
+use Rattle.ask_walk.proofs.asking.Books.walk.Given as goal
 
 abbrev pub invariant-loop-waiting : goal.invariant-loop-waiting
 invariant-loop-waiting g l = (g.B.Bench.calc l.bench ≡ g.B.Bench.calc l.initial.bench)

@@ -10,7 +10,7 @@ use Rattle.object_store.specs.Slots.{Registry, state_of}
 use Rattle.object_store.specs.Store.{registry_of}
 use Rattle.object_store.proofs.Joined.{lazy_there}
 use Rattle.ask_walk.specs.Asks.{Walks, Stops, MayAsk}
-use Rattle.ask_walk.specs.declared.waiting.Begun.{Begun}
+use Rattle.ask_walk.specs.declared.turning.Begun.{Begun}
 use Rattle.ask_walk.specs.Begun.{IsBegun}
 use Rattle.ask_walk.specs.Turns.{MayRun}
 use Rattle.ask_walk.proofs.Fronted.{on_err}
@@ -18,7 +18,7 @@ use Rattle.ask_walk.proofs.Loop.{open_of}
 use Rattle.ask_walk.proofs.Keeping.{still_begun, unread_begun}
 use Rattle.ask_walk.proofs.Settling.{settling, settled_few, needed_may, needed_free, needed_stale, stopped_within, settling_refused, settling_on}
 use Rattle.ask_walk.proofs.Repriced.{turns_of, fails_of, settled_run, reprice_stops, reprice_waits, reprice_ran, reprice_fails, fails_stay}
-use Rattle.ask_walk.proofs.books.Books.reprice.Goals as goal
+use Rattle.ask_walk.proofs.asking.Books.reprice.Goals as goal
 
 pub loop-cause-init : goal.loop-cause-init
 loop-cause-init g c = (

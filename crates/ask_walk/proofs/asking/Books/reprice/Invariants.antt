@@ -5,7 +5,7 @@ use Rattle.ask_walk.specs.Reads.{Remembers}
 use Rattle.ask_walk.specs.Begun.{IsBegun}
 use Rattle.ask_walk.proofs.Loop.{open_of}
 use Rattle.ask_walk.proofs.Settling.{Settling}
-use Rattle.ask_walk.proofs.books.Books.reprice.Given as goal
+use Rattle.ask_walk.proofs.asking.Books.reprice.Given as goal
 
 abbrev pub invariant-loop-cause : goal.invariant-loop-cause
 invariant-loop-cause g l = (g.B.Bench.calc l.bench ≡ g.B.Bench.calc l.initial.bench)

@@ -7,7 +7,7 @@ use Rattle.object_store.specs.Slots.{is_now}
 use Rattle.object_store.specs.Store.{StoreView}
 use Rattle.ask_walk.specs.Asks.{lacking}
 use Rattle.ask_walk.proofs.Answered.{mark_is, answers_held, answers_current, answers_none}
-use Rattle.ask_walk.proofs.books.Books.at_once.Goals as goal
+use Rattle.ask_walk.proofs.asking.Books.at_once.Goals as goal
 
 pub returns-in-Frozen-clause-comes : goal.returns-in-Frozen-clause-comes
 returns-in-Frozen-clause-comes c = λ market whole joined.

@@ -1,7 +1,7 @@
 use Rattle.std.proofs.Common.{Bool, ◌∙◌, ap}
 use Rattle.ask_walk.specs.Recalcs.{refused_as}
 use Rattle.ask_walk.proofs.Announced.{is_done}
-use Rattle.ask_walk.proofs.books.Books.rerun.Goals as goal
+use Rattle.ask_walk.proofs.asking.Books.rerun.Goals as goal
 
 pub returns-clause-recalcs : goal.returns-clause-recalcs
 returns-clause-recalcs g c = (is_done (g.B.Bench.calc c.args.bench.now) c.args.market.now.today c.args.market.now.objects c.args.self.now.store c.reprice.new.self.store c.outdate_refused.new.store c.changed.new.self c.args.object c.in_ok-answer.answer

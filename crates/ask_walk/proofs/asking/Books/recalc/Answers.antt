@@ -5,7 +5,7 @@ use Rattle.object_store.specs.Market.{state_in}
 use Rattle.object_store.specs.Store.{StoreView}
 use Rattle.ask_walk.specs.Recalcs.{Recalcs}
 use Rattle.object_store.proofs.Lateness.{late_there, least_is}
-use Rattle.ask_walk.proofs.books.Books.recalc.Goals as goal
+use Rattle.ask_walk.proofs.asking.Books.recalc.Goals as goal
 
 pub rerun-answer-requires-clause-early : goal.rerun-answer-requires-clause-early
 rerun-answer-requires-clause-early g c =

@@ -7,9 +7,9 @@ use Rattle.desk_model.specs.State.{State, held_outcome}
 use Rattle.object_store.specs.Market.{state_in}
 use Rattle.object_store.specs.Slots.{is_now}
 use Rattle.ask_walk.specs.Asks.{Asks, Walks}
-use Rattle.ask_walk.specs.declared.books.Books.{Books}
+use Rattle.ask_walk.specs.declared.asking.Books.{Books}
 use Rattle.ask_walk.proofs.Answered.{not_held, held_is_asked, asked_thawed, asked_early, asked_stale, walks_ask, state_left, held_idle}
-use Rattle.ask_walk.proofs.books.Books.ask.Goals as goal
+use Rattle.ask_walk.proofs.asking.Books.ask.Goals as goal
 
 pub walk-answer-requires-clause-free : goal.walk-answer-requires-clause-free
 walk-answer-requires-clause-free g c =

@@ -1,7 +1,7 @@
 use Rattle.std.proofs.Common.{refl, ◌∙◌, to_z-of_z}
 use Rattle.object_store.specs.Market.{market_in}
 use Rattle.ask_walk.proofs.Totals.{items_ranged, items_read, sum_fits, totalled}
-use Rattle.ask_walk.proofs.books.Books.turn.Goals as goal
+use Rattle.ask_walk.proofs.asking.Books.turn.Goals as goal
 
 pub next_member-requires-clause-range : goal.next_member-requires-clause-range
 next_member-requires-clause-range g c = items_ranged (market_in c.args.market.now) c.args.self.now.store.kept c.args.begun.now.object c.own_terms.result.now c.in-Composite.parts c.items.result.now c.own_terms.ensures c.in-Composite.is c.items.ensures c.requires.ranged

@@ -4,14 +4,14 @@ use Rattle.desk_model.specs.declared.kept.Kept.{Kept}
 use Rattle.object_store.specs.Market.{market_in, state_in}
 use Rattle.object_store.specs.Shape.{Shape, role_at}
 use Rattle.object_store.proofs.Joined.{lazy_there}
-use Rattle.ask_walk.specs.declared.waiting.Begun.{Begun}
+use Rattle.ask_walk.specs.declared.turning.Begun.{Begun}
 use Rattle.ask_walk.specs.Begun.{AreBegun, objects_of}
 use Rattle.ask_walk.proofs.Loop.{left, top_lazy, open_of, begins, ends, stack_bound, few}
 use Rattle.ask_walk.proofs.Stacks.{measure_more, measure_value}
 use Rattle.ask_walk.proofs.Fronted.{on_err, stopped}
 use Rattle.ask_walk.proofs.Keeping.{keeps_same, keeps_on, all_still, unread_begun, objects_length, pushed_length, pushed_stack, popped_stack, begun_waits, begun_pop}
 use Rattle.ask_walk.proofs.Turned.{asking_on, turns_with, may_run, turn_stops, turn_stopped, turn_waits, turn_faulted, turn_refused, turn_valued, turn_keeps, turn_fails, fails_stays, fails_keeps}
-use Rattle.ask_walk.proofs.books.Books.walk.Goals as goal
+use Rattle.ask_walk.proofs.asking.Books.walk.Goals as goal
 
 pub loop-waiting-init : goal.loop-waiting-init
 loop-waiting-init g c = (

@@ -1,13 +1,12 @@
 // What the prices of curves and of flows take, in order.
-ghost use Rattle.std.specs.Prelude.{◌≡◌, ◌<◌, ℕ, length, [], ◌∷◌, Some, IfSome, IfOk, slice_index_or};
+ghost use Rattle.std.specs.Prelude.{◌≡◌, ◌<◌, ℕ, length, [], ◌∷◌, Some, IfSome, IfOk};
 ghost use Rattle.walks.specs.Walk.{Among};
 ghost use Rattle.desk_terms.specs.Terms.{helper_references, optional_reference};
 ghost use Rattle.desk_terms.specs.declared.terms.Terms.TheVariants.{Flows};
 ghost use Rattle.desk_terms.specs.declared.kind.Wanted.TheVariants.{Index};
-ghost use Rattle.desk_model.specs.Market.{named, terms_in, terms_at};
-ghost use Rattle.desk_model.specs.declared.slot.Slot.TheVariants.{Free};
+ghost use Rattle.desk_model.specs.Market.{named, terms_at};
 ghost use Rattle.desk_model.specs.Links.{IsLinked, AreOfKind, Serve};
-ghost use Rattle.desk_model.specs.Uses.{input_at, helper_entries, index_in, uses};
+ghost use Rattle.desk_model.specs.Uses.{input_at, helper_entries, uses};
 ghost use Rattle.object_store.specs.Market.{market_in};
 ghost use Rattle.ask_walk.specs.Reads.{Remembers, forecast_index};
 

@@ -1,46 +1,28 @@
 // The objects of a session. A clause sees the desk as its state.
-ghost use Rattle.std.specs.Prelude.{◌≡◌, ◌≢◌, ◌↔◌, ℕ, ℤ, List, Option, Err, ◌⊎◌, ◌<◌, ◌^◌, ◌==◌, ◌||◌, [], ◌∷◌, not, if◌then◌else◌, true, false, pos, Some, None, length, IsOk, IfOk, is_some, IfSome, IfNone, OnOk, OnErr, ◌≤◌, unsigned_abs};
+ghost use Rattle.std.specs.Prelude.{◌≡◌, ◌≢◌, Option, ◌⊎◌, ◌<◌, ◌^◌, ◌==◌, ◌||◌, [], ◌∷◌, true, false, Some, None, length, IsOk, IfOk, is_some, IfSome, IfNone, OnErr, ◌≤◌};
 ghost use Rattle.std.specs.Option.{option_copied};
-ghost use Rattle.desk_terms.specs.Reading.{Calc, AreInRange, IsFitting};
-ghost use Rattle.desk_model.specs.Market.{kind_at, terms_at, slot_at, is_given, is_watcher, is_observable, least_user};
+ghost use Rattle.desk_terms.specs.Reading.{Calc, IsFitting};
+ghost use Rattle.desk_model.specs.Market.{kind_at, terms_at, slot_at, is_watcher, is_observable, least_user};
 ghost use Rattle.desk_model.specs.Told.{is_registered, is_watching};
 ghost use Rattle.desk_model.specs.Uses.{index_at, fixings_in, input_at};
 ghost use Rattle.desk_model.specs.State.{kept_at, held_outcome, is_frozen, is_late, least_source};
 ghost use Rattle.desk_model.specs.Sound.{IsSound, KeepsCurrent};
-ghost use Rattle.desk_model.specs.Links.{AreOfKind, AreRanged, IsKinded, IsValued, IsWhole, Serve, is_lazy_at, reaches, serves_as};
-ghost use Rattle.desk_model.specs.Effect.{start, made, quote_set, relinked, engine_set, member_set, fixing_added, today_set, dropped, watching, registered_with, unregistered, handed_out, frozen_set, thawed, forward_set, deferred, resumed};
-ghost use Rattle.desk_terms.specs.declared.kind.Kind.TheVariants.{Quote, Index, Composite, Flows};
-ghost use Rattle.desk_terms.specs.declared.kind.Wanted.TheVariants.{Member, Engine};
-ghost use Rattle.desk_terms.specs.Terms.{optional_reference};
-ghost use Rattle.flow_terms.specs.Fixings.{IsRate, fixing_on};
-ghost use Rattle.flow_terms.specs.declared.fixings.FixFault.TheVariants.{Exists};
+ghost use Rattle.desk_model.specs.Links.{AreRanged, IsKinded, IsValued, IsWhole, is_lazy_at, reaches};
+ghost use Rattle.desk_model.specs.Effect.{start, watching, handed_out};
+ghost use Rattle.flow_terms.specs.Fixings.{fixing_on};
 ghost use Rattle.desk_terms.specs.declared.value.Value as priced;
-ghost use Rattle.desk_terms.specs.declared.terms.HandleKind.{HandleKind};
-ghost use Rattle.desk_terms.specs.declared.terms.Terms.TheVariants.{Handle};
-ghost use Rattle.desk_terms.specs.declared.terms.Terms.TheVariants as terms_of;
-ghost use Rattle.desk_terms.specs.declared.terms.Part.{Part};
-ghost use Rattle.desk_model.specs.Laws.{MayLink};
-ghost use Rattle.object_store.specs.Slots.{is_handle};
 ghost use Rattle.object_store.specs.Objects.{bare};
-ghost use Rattle.object_store.specs.Parts.{parts_in};
-ghost use Rattle.desk_model.specs.Changeable.{weight_of, has_member, with_member};
 ghost use Rattle.ask_walk.specs.Asks.{Asks, Stops, AnswersIdly, held_answer};
-ghost use Rattle.ask_walk.specs.Recalcs.{RecalcEnds, RecalcStops};
-ghost use Rattle.lazy_objects.specs.Untold.{TellsNobody};
+ghost use Rattle.desk_terms.specs.declared.kind.Kind.TheVariants as kind;
+ghost use Rattle.desk_terms.specs.declared.terms.Terms.TheVariants as terms;
 
-use crate::changes::{revise, tell_changed};
-use crate::links::{link_of, watch_instead};
-use crate::room::make_room;
-use crate::weights::{has_weight, place_of, weigh};
-use ask_walk::{Books, Recalced};
+use ask_walk::Books;
 use day_number::Day;
 use desk_model::Entry;
 use desk_names::ObjId;
-use desk_terms::{Asked, Bench, FixFault, InputList, Kind, Terms, Value};
+use desk_terms::{Asked, Bench, InputList, Kind, Terms, Value};
 use fixed_amount::Rate;
-use object_store::{
-    Market, Objects, Scratch, Store, TODAY, engine_of, index_of, parts_of, watched,
-};
+use object_store::{Market, Objects, Scratch, Store, index_of};
 use observer_graph::Role;
 use std::alloc::{AllocError, Global};
 use std::marker::Model;
@@ -50,7 +32,7 @@ use std::marker::Model;
 /// that was told is remembered until `next_told` hands it out.
 pub struct Desk {
     pub(crate) market: Market,
-    books: Books,
+    pub(crate) books: Books,
 }
 
 // Who lets a desk go calls this at each exit, and does not let its parts go one by one.
@@ -99,228 +81,6 @@ impl Desk {
         })
     }
 
-    /// Makes an object with these terms, and answers its number: how many were given before. Its inputs are live and of
-    /// the kinds that are wanted, and the terms of a curve, an index or flows are within their limits. Where memory is
-    /// wanting, nothing is changed.
-    pub fn add(&mut self, terms: Terms) -> Result<ObjId, AllocError>
-        requires ranged { AreInRange terms }
-        requires kinds { AreOfKind self.old.market (Some terms) }
-        requires room { length self.old.market.objects < 2 ^ 16 }
-        ensures number { IfOk result (λ object. object ≡ length self.old.market.objects) }
-        ensures added { OnOk result (self.new ≡ made terms self.old) }
-        ensures same { OnErr result (self.new ≡ self.old) }
-        ensures keeps { KeepsCurrent self.old self.new }
-        ensures sound { (calc : Calc) → IsSound calc self.old → IsSound calc self.new }
-    {
-        let object = ObjId(self.market.objects.len() as u32);
-        let watched = watched(self.books.scratch.alloc(), &terms)?;
-        self.books.scratch.reserve()?;
-        make_room(&mut self.books.store, &terms, self.market.objects.len())?;
-        self.market
-            .objects
-            .add(terms, &mut self.books.store, &watched)?;
-        self.books.scratch.grow();
-        Ok(object)
-    }
-
-    /// Sets or unsets a quote. Where its value changes, its observers are told.
-    pub fn set_quote(&mut self, quote: ObjId, value: Option<Rate>)
-        requires { kind_at self.old.market quote ≡ Some Quote }
-        ensures set { self.new ≡ quote_set quote value self.old }
-        ensures keeps { KeepsCurrent self.old self.new }
-        ensures sound { (calc : Calc) → IsSound calc self.old → IsSound calc self.new }
-    {
-        if self.market.objects.set(quote, value) {
-            tell_changed(&self.market, &mut self.books.store, quote);
-        }
-    }
-
-    /// A handle stands for another target, or for none (QuantLib's `RelinkableHandle::linkTo`). The target is live, is what
-    /// the handle stands for, and does not lie above the handle. Where it is the one held, nothing is told. It takes no
-    /// memory, and costs what it tells.
-    pub fn relink(&mut self, handle: ObjId, target: Option<ObjId>)
-        requires handle { is_handle (terms_at self.old.market handle) ≡ true }
-        requires kinds { (kind : HandleKind) (held : Option ℕ) → terms_at self.old.market handle ≡ Some (Handle kind held) → AreOfKind self.old.market (Some (Handle kind target)) }
-        requires open { MayLink self.old.market handle target }
-        ensures set { self.new ≡ relinked handle target self.old }
-        ensures keeps { KeepsCurrent self.old self.new }
-        ensures sound { (calc : Calc) → IsSound calc self.old → IsSound calc self.new }
-    {
-        let link = link_of(&self.market.objects, handle);
-        if link.target == target {
-            return;
-        }
-        watch_instead(&mut self.books.store, &link.target, &target, handle);
-        revise(
-            &mut self.market,
-            &mut self.books.store,
-            handle,
-            Terms::Handle {
-                target_kind: link.kind,
-                target,
-            },
-        );
-    }
-
-    /// An instrument is priced by another engine, or by none (QuantLib's `Instrument::setPricingEngine`). It is not current
-    /// and its observers are told, also where the engine is the one held. It takes no memory, and costs what it tells.
-    pub fn set_engine(&mut self, instrument: ObjId, engine: Option<ObjId>)
-        requires instrument { kind_at self.old.market instrument ≡ Some Flows }
-        requires engine { Serve self.old.market (optional_reference Engine engine) }
-        ensures set { self.new ≡ engine_set instrument engine self.old }
-        ensures keeps { KeepsCurrent self.old self.new }
-        ensures sound { (calc : Calc) → IsSound calc self.old → IsSound calc self.new }
-    {
-        let held = engine_of(&self.market.objects, instrument);
-        watch_instead(&mut self.books.store, &held, &engine, instrument);
-        self.market.objects.set_engine(instrument, engine);
-        tell_changed(&self.market, &mut self.books.store, instrument);
-    }
-
-    /// Stores the rate of an index for a day that has none, and tells its observers (QuantLib's `Index::addFixing`). The
-    /// rate is at most 10 either way. Where the day has a rate, the refusal names it, and where memory is wanting or the
-    /// day has a rate nothing is changed.
-    pub fn add_fixing(&mut self, index: ObjId, day: Day, rate: Rate) -> Result<(), FixFault>
-        requires index { kind_at self.old.market index ≡ Some Index }
-        requires rate { IsRate rate }
-        ensures exists { (kept : ℤ) → (result ≡ Err (Exists kept)) ↔ (fixing_on (fixings_in (index_at self.old.market (Some index))) day ≡ Some kept) }
-        ensures added { OnOk result (self.new ≡ fixing_added index day rate self.old) }
-        ensures same { OnErr result (self.new ≡ self.old) }
-        ensures keeps { KeepsCurrent self.old self.new }
-        ensures sound { (calc : Calc) → IsSound calc self.old → IsSound calc self.new }
-    {
-        self.market.objects.store_fixing(index, day, rate)?;
-        tell_changed(&self.market, &mut self.books.store, index);
-        Ok(())
-    }
-
-    /// Another evaluation date. Where it is another day, all that observes it is told.
-    pub fn set_today(&mut self, day: Day)
-        ensures set { self.new ≡ today_set day self.old }
-        ensures keeps { KeepsCurrent self.old self.new }
-        ensures sound { (calc : Calc) → IsSound calc self.old → IsSound calc self.new }
-    {
-        if self.market.today == day {
-            return;
-        }
-        self.market.today = day;
-        self.books.store.changed(TODAY);
-    }
-
-    /// Gives an instrument a weight in a composite: one that is no member joins at the end, a member keeps its place,
-    /// and weight 0 takes a member out (QuantLib's `CompositeInstrument::add`). What joins must not lie above the
-    /// composite. The weight is at most 1,000,000 either way, and the composite has at most 4,096 parts then. Where the
-    /// weight is the one held, nothing is told. Where memory is wanting, nothing is changed.
-    pub fn set_member(
-        &mut self,
-        composite: ObjId,
-        member: ObjId,
-        weight: i64,
-    ) -> Result<(), AllocError>
-        requires composite { kind_at self.old.market composite ≡ Some Composite }
-        requires member { serves_as (kind_at self.old.market member) Member ≡ true }
-        requires open { (weight ≡ pos 0) ⊎ ((member ≢ composite) × (reaches self.old.market member composite ≡ false)) }
-        requires limit { unsigned_abs weight ≤ 1_000_000 }
-        requires count { (parts : List Part) → terms_at self.old.market composite ≡ Some (terms_of.Composite parts) → length (with_member parts member weight) ≤ 4096 }
-        ensures set { OnOk result (self.new ≡ member_set composite member weight self.old) }
-        ensures same { OnErr result (self.new ≡ self.old) }
-        // No memory is wanted for the weight held, nor for another one of a member that stays.
-        ensures ready { weight_of (parts_in (slot_at self.old.market composite)) member ≡ weight → IsOk result }
-        ensures stays { has_member (parts_in (slot_at self.old.market composite)) member ≡ true → weight ≢ pos 0 → IsOk result }
-        ensures keeps { KeepsCurrent self.old self.new }
-        ensures sound { (calc : Calc) → IsSound calc self.old → IsSound calc self.new }
-    {
-        let is_member = self.is_member(composite, member);
-        let parts = parts_of(&self.market.objects, composite);
-        let place = place_of(parts, is_member, member);
-        if has_weight(parts, member, place, weight) {
-            return Ok(());
-        }
-        weigh(
-            self.books.scratch.alloc(),
-            &mut self.market.objects,
-            &mut self.books.store,
-            composite,
-            member,
-            weight,
-            place,
-        )?;
-        tell_changed(&self.market, &mut self.books.store, composite);
-        Ok(())
-    }
-
-    // Whether an object is a member of a composite, which observes its members and nothing else.
-    fn is_member(&self, composite: ObjId, member: ObjId) -> bool
-        requires composite { kind_at self.now.market composite ≡ Some Composite }
-        requires member { serves_as (kind_at self.now.market member) Member ≡ true }
-        ensures { result ≡ has_member (parts_in (slot_at self.now.market composite)) member }
-    {
-        self.books.store.has_pair(member, composite)
-    }
-
-    /// Takes out an object that no object observes, or a watcher, and what is stored of it. Its registrations go with it,
-    /// as a watcher and as what is watched, and it is told no more. Its number is not given again.
-    pub fn remove(&mut self, object: ObjId)
-        requires live { is_given (slot_at self.old.market object) ≡ true }
-        requires apart { object ≢ 0 }
-        requires unused { least_user self.old.market object ≡ None }
-        ensures removed { self.new ≡ dropped object self.old }
-        ensures keeps { KeepsCurrent self.old self.new }
-        ensures sound { (calc : Calc) → IsSound calc self.old → IsSound calc self.new }
-    {
-        self.market.objects.remove(object);
-        self.books.store.forget(object);
-    }
-
-    /// Makes a watcher, which is registered with nothing, and answers its number: how many were given before. Where
-    /// memory is wanting, nothing is changed.
-    pub fn add_watcher(&mut self) -> Result<ObjId, AllocError>
-        requires room { length self.old.market.objects < 2 ^ 16 }
-        ensures number { IfOk result (λ watcher. watcher ≡ length self.old.market.objects) }
-        ensures added { OnOk result (self.new ≡ watching self.old) }
-        ensures same { OnErr result (self.new ≡ self.old) }
-        ensures keeps { KeepsCurrent self.old self.new }
-        ensures sound { (calc : Calc) → IsSound calc self.old → IsSound calc self.new }
-    {
-        let watcher = ObjId(self.market.objects.len() as u32);
-        self.books.scratch.reserve()?;
-        self.market.objects.add_watcher(&mut self.books.store)?;
-        self.books.scratch.grow();
-        Ok(watcher)
-    }
-
-    /// Registers a watcher with an object that is no watcher (QuantLib's `Observer::registerWith`). False exactly where it
-    /// was registered with it before: then, and where memory is wanting, nothing is changed. A registration counts neither
-    /// as a use nor as an edge of a cycle. It costs what the watcher is registered with.
-    pub fn register(&mut self, watcher: ObjId, object: ObjId) -> Result<bool, AllocError>
-        requires watcher { is_watcher (slot_at self.old.market watcher) ≡ true }
-        requires subject { is_observable (slot_at self.old.market object) ≡ true }
-        ensures was { IfOk result (λ is_new. is_new ≡ not (is_registered self.old watcher object)) }
-        ensures set { IfOk result (λ is_new. self.new ≡ (if is_new then registered_with watcher object self.old else self.old)) }
-        ensures same { OnErr result (self.new ≡ self.old) }
-        ensures keeps { KeepsCurrent self.old self.new }
-        ensures sound { (calc : Calc) → IsSound calc self.old → IsSound calc self.new }
-    {
-        if self.books.store.has_pair(object, watcher) {
-            return Ok(false);
-        }
-        self.books.store.watch(object, watcher)?;
-        Ok(true)
-    }
-
-    /// A watcher is registered with an object no more; whether it was (QuantLib's `Observer::unregisterWith`). No notice
-    /// that is held back is lost. It takes no memory.
-    pub fn unregister(&mut self, watcher: ObjId, object: ObjId) -> bool
-        requires watcher { is_watcher (slot_at self.old.market watcher) ≡ true }
-        requires subject { is_observable (slot_at self.old.market object) ≡ true }
-        ensures was { result ≡ is_registered self.old watcher object }
-        ensures set { self.new ≡ unregistered watcher object self.old }
-        ensures keeps { KeepsCurrent self.old self.new }
-        ensures sound { (calc : Calc) → IsSound calc self.old → IsSound calc self.new }
-    {
-        self.books.store.unwatch(object, watcher)
-    }
-
     /// Whether a watcher is registered with an object. It takes no memory, and costs what the watcher is registered with.
     pub fn is_registered(&self, watcher: ObjId, object: ObjId) -> bool
         requires watcher { is_watcher (slot_at self.now.market watcher) ≡ true }
@@ -367,61 +127,6 @@ impl Desk {
         self.books.store.next_told()
     }
 
-    /// Freezes a lazy object: it answers its last value until it is thawed, and takes notices without passing them on
-    /// (QuantLib's `LazyObject::freeze`). Nobody is told. It takes no memory.
-    pub fn freeze(&mut self, object: ObjId)
-        requires lazy { is_lazy_at self.old.market object ≡ true }
-        ensures set { self.new ≡ frozen_set object self.old }
-        ensures keeps { KeepsCurrent self.old self.new }
-        ensures sound { (calc : Calc) → IsSound calc self.old → IsSound calc self.new }
-    {
-        self.books.store.freeze(object);
-    }
-
-    /// A lazy object is frozen no more, and its observers are told, or it holds its notice back (QuantLib's
-    /// `LazyObject::unfreeze`). Nothing where it is not frozen. It takes no memory, and costs what it tells.
-    pub fn thaw(&mut self, object: ObjId)
-        requires lazy { is_lazy_at self.old.market object ≡ true }
-        ensures set { self.new ≡ thawed object self.old }
-        ensures keeps { KeepsCurrent self.old self.new }
-        ensures sound { (calc : Calc) → IsSound calc self.old → IsSound calc self.new }
-    {
-        if self.books.store.thaw(object) {
-            self.books.store.changed(object);
-        }
-    }
-
-    /// A lazy object passes each notice on, also while it is not current, or does so no more (QuantLib's
-    /// `LazyObject::alwaysForwardNotifications`). Nobody is told. It takes no memory.
-    pub fn forward(&mut self, object: ObjId, on: bool)
-        requires lazy { is_lazy_at self.old.market object ≡ true }
-        ensures set { self.new ≡ forward_set object on self.old }
-        ensures keeps { KeepsCurrent self.old self.new }
-        ensures sound { (calc : Calc) → IsSound calc self.old → IsSound calc self.new }
-    {
-        self.books.store.forward(object, on);
-    }
-
-    /// From now on what changes holds its notice back and is a deferred source (QuantLib's
-    /// `ObservableSettings::disableUpdates`, deferred). It takes no memory.
-    pub fn defer(&mut self)
-        ensures set { self.new ≡ deferred self.old }
-        ensures keeps { KeepsCurrent self.old self.new }
-        ensures sound { (calc : Calc) → IsSound calc self.old → IsSound calc self.new }
-    {
-        self.books.store.defer();
-    }
-
-    /// Notices are held back no more: all deferred sources tell together (QuantLib's
-    /// `ObservableSettings::enableUpdates`). Nothing where deferral is off. It takes no memory, and costs what it tells.
-    pub fn resume(&mut self)
-        ensures set { self.new ≡ resumed self.old }
-        ensures keeps { KeepsCurrent self.old self.new }
-        ensures sound { (calc : Calc) → IsSound calc self.old → IsSound calc self.new }
-    {
-        self.books.store.resume();
-    }
-
     /// Asks a lazy object. It computes only what it uses and has no current value. Where memory is wanting, what was
     /// computed before stays.
     pub fn ask<B: Bench>(&mut self, object: ObjId, bench: &mut B) -> Result<Asked, AllocError>
@@ -462,25 +167,6 @@ impl Desk {
         ensures same { self.new ≡ self.old }
     {
         self.books.store.late(object)
-    }
-
-    /// Recalculates a lazy object: it is priced over its inputs, whatever its flags say, and its observers are told, or it
-    /// holds its notice back. It is refused where a deferred source makes it late. Where memory is wanting, what was
-    /// computed of its inputs stays, and the object is as it was.
-    pub fn recalc<B: Bench>(&mut self, object: ObjId, bench: &mut B) -> Result<Recalced, AllocError>
-        requires lazy { is_lazy_at self.old.market object ≡ true }
-        requires sound { IsSound (B.calc bench.old) self.old }
-        ensures same { B.calc bench.new ≡ B.calc bench.old }
-        ensures ends { IfOk result (λ answer. RecalcEnds (B.calc bench.old) object self.old self.new answer
-            (B.count bench.old) (B.count bench.new) (B.log bench.old) (B.log bench.new)) }
-        ensures stops { OnErr result (RecalcStops (B.calc bench.old) object self.old self.new
-            (B.count bench.old) (B.count bench.new) (B.log bench.old) (B.log bench.new)) }
-        // Where memory was wanting, its flags and its last value are as before, and nobody was told.
-        ensures kept { OnErr result (kept_at self.new object ≡ kept_at self.old object) }
-        ensures untold { OnErr result (TellsNobody self.old self.new) }
-        ensures sound { IsSound (B.calc bench.old) self.new }
-    {
-        self.books.recalc(&self.market, object, bench)
     }
 
     /// Whether an object is another, or lies above it: it names it, or an object above it.
@@ -585,6 +271,14 @@ impl Desk {
         ensures limit { result ≤ 2 ^ 16 }
     {
         self.market.objects.len() as u32
+    }
+
+    /// The value that a quote has; none where it has none. It takes no memory.
+    pub fn quote(&self, quote: ObjId) -> Option<Rate>
+        requires { kind_at self.now.market quote ≡ Some kind.Quote }
+        ensures { terms_at self.now.market quote ≡ Some (terms.Quote result) }
+    {
+        self.market.objects.value(quote)
     }
 
     /// What an object is; none where no live object has the number.

@@ -7,7 +7,6 @@
 mod changes;
 mod desk;
 mod links;
-mod quotes;
 mod room;
 mod weights;
 

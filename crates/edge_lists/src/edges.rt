@@ -6,9 +6,8 @@ ghost use Rattle.edge_lists.specs.Stands.{IsEdge};
 ghost use Rattle.edge_lists.specs.Walks.{GivesAll, GoesOn};
 ghost use Rattle.edge_lists.specs.EdgesView.{IsLive, IsPair, IsWhole, IsThere, AddsPair, TakesPair, TakesNode, HasSubject, HasObserver, no_pairs, with_node, pair_count};
 
-use crate::edge::{Edge, EdgeId, Heads, Side};
+use crate::edge::{Edge, EdgeId, Heads, Side, first_at};
 use crate::pairing::{find, make_room, put_in, take_node, take_pair};
-use crate::slots::first_at;
 use desk_names::ObjId;
 use slab::Slab;
 use std::alloc::{AllocError, Global};

@@ -9,7 +9,6 @@
 mod edge;
 mod edges;
 mod pairing;
-mod slots;
 
 pub use edge::EdgeId;
 pub use edges::{Edges, MOST_NODES};

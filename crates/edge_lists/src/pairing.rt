@@ -6,8 +6,7 @@ ghost use Rattle.edge_lists.specs.Ends.{first_of, heads_at};
 ghost use Rattle.edge_lists.specs.Stands.{Stands, IsEdge, IsPairIn};
 ghost use Rattle.edge_lists.specs.Walks.{end_node};
 
-use crate::edge::{Edge, EdgeId, End, Heads, Side};
-use crate::slots::{first_at, link_in, link_out};
+use crate::edge::{Edge, EdgeId, End, Heads, Side, first_at, link_in, link_out};
 use desk_names::ObjId;
 use slab::Slab;
 use std::alloc::AllocError;

@@ -5,16 +5,13 @@
 //! definitions.
 #![tactic(auto)]
 
-mod composites;
 mod faults;
 mod flow_values;
 mod laws;
 mod money;
 mod prices;
-mod stocks;
 mod worths;
 
-pub use composites::sum_price;
 pub use faults::PriceFault;
 pub use laws::{first_cause_law, worth_of_both_law};
-pub use prices::price;
+pub use prices::{price, sum_price};

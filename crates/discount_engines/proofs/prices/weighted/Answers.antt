@@ -4,7 +4,7 @@ use Rattle.std.specs.Int.RustNames.{unsigned_abs}
 use Rattle.std.proofs.lemmas.Int.{fits_signed_from_abs}
 use Rattle.discount_engines.specs.Composite.{plus, weighted}
 use Rattle.discount_engines.proofs.Sums.{too_few, one_more, plus_on}
-use Rattle.discount_engines.proofs.composites.weighted.Goals as goal
+use Rattle.discount_engines.proofs.prices.weighted.Goals as goal
 
 pub returns-then-inputs-parts : goal.returns-then-inputs-parts
 returns-then-inputs-parts c = sym (too_few c.args.parts.now c.args.inputs.now c.if-inputs-parts.true)

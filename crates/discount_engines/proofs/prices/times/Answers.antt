@@ -1,6 +1,6 @@
 use Rattle.std.proofs.Common.{refl, ap, ◌∙◌, ℤ, ◌*ℤ◌}
 use Rattle.discount_engines.proofs.Products.{amount_bound, times}
-use Rattle.discount_engines.proofs.composites.times.Goals as goal
+use Rattle.discount_engines.proofs.prices.times.Goals as goal
 
 pub overflow_mul-result : goal.overflow_mul-result
 overflow_mul-result c = (times c.args.weight c.amount.inside.0 c.amount.inside.0 c.requires (amount_bound c.amount.inside.0 c.amount.invariant.0 c.amount.invariant.1)).fits

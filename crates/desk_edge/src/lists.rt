@@ -1,6 +1,5 @@
 // Files and numbers of calls for the shelf and the sink in memory.
-ghost use Rattle.std.specs.Prelude.{◌≡◌, ◌==◌, ◌≤◌, length, string_bytes, nat_lt, is_some};
-ghost use Rattle.std.specs.List.{list_any};
+ghost use Rattle.std.specs.Prelude.{◌≡◌, ◌≤◌, length, string_bytes, nat_lt, is_some};
 ghost use Rattle.desk_edge.specs.FileList.{bytes_of};
 ghost use Rattle.desk_edge.specs.Shelf.{file_at, bytes_at};
 
@@ -74,11 +73,4 @@ pub(crate) fn bytes_at(files: &FileList, at: usize) -> &[u8]
         Some(file) => file.bytes(),
         None => &[],
     }
-}
-
-// Whether the call with this number is listed.
-pub(crate) fn has_call(calls: &CallList, call: u64) -> bool
-    ensures { result ≡ list_any (λ number. number == call) calls.now }
-{
-    calls.items().contains(&call)
 }

@@ -3,7 +3,6 @@ ghost use Rattle.std.specs.Prelude.{◌≡◌, ◌≤◌, Some, length, take, If
 ghost use Rattle.desk_edge.specs.MemoryFeed.{most_of, take_answer, after_take};
 
 use crate::count::one_more;
-use crate::lists::has_call;
 use crate::{CallList, Failed, Feed, SizeList};
 use std::marker::Model;
 
@@ -81,7 +80,7 @@ impl MemoryFeed {
         ensures faults { self.old.faults ≤ self.new.faults }
     {
         self.calls = one_more(self.calls);
-        if has_call(&self.fails, self.calls) {
+        if self.fails.items().contains(&self.calls) {
             self.faults = one_more(self.faults);
             return Err(Failed);
         }

@@ -3,7 +3,7 @@ ghost use Rattle.std.specs.Prelude.{◌≡◌, ◌+◌, ◌≤◌, Some, [], len
 ghost use Rattle.desk_edge.specs.MemoryShelf.{find_answer, after_find, take_answer, after_take};
 
 use crate::count::one_more;
-use crate::lists::{bytes_at, has_call, place_of};
+use crate::lists::{bytes_at, place_of};
 use crate::{CallList, Failed, FileList, Shelf};
 use std::marker::Model;
 
@@ -97,7 +97,7 @@ impl MemoryShelf {
         ensures counted { self.new.calls ≤ self.old.calls + 1 }
     {
         self.calls = one_more(self.calls);
-        if has_call(&self.fails, self.calls) {
+        if self.fails.items().contains(&self.calls) {
             self.faults = one_more(self.faults);
             return Err(Failed);
         }
@@ -120,7 +120,7 @@ impl MemoryShelf {
         ensures some { 1 ≤ self.old.most }
     {
         self.calls = one_more(self.calls);
-        if has_call(&self.fails, self.calls) {
+        if self.fails.items().contains(&self.calls) {
             self.faults = one_more(self.faults);
             return Err(Failed);
         }

@@ -3,7 +3,6 @@ ghost use Rattle.std.specs.Prelude.{◌≡◌, ◌≤◌, Some, [], IfOk};
 ghost use Rattle.desk_edge.specs.MemorySink.{put_answer, after_put, flush_answer, after_flush};
 
 use crate::count::one_more;
-use crate::lists::has_call;
 use crate::{CallList, Failed, Sink};
 use std::alloc::{AllocError, Global};
 use std::marker::Model;
@@ -112,7 +111,7 @@ impl MemorySink {
     {
         self.calls = one_more(self.calls);
         let left = self.room - self.bytes.len();
-        if has_call(&self.fails, self.calls) || (!piece.is_empty() && left == 0) {
+        if self.fails.items().contains(&self.calls) || (!piece.is_empty() && left == 0) {
             self.faults = one_more(self.faults);
             return Err(Failed);
         }
@@ -128,7 +127,7 @@ impl MemorySink {
         ensures faults { self.old.faults ≤ self.new.faults }
     {
         self.calls = one_more(self.calls);
-        if has_call(&self.fails, self.calls) {
+        if self.fails.items().contains(&self.calls) {
             self.faults = one_more(self.faults);
             return Err(Failed);
         }

@@ -7,7 +7,6 @@ ghost use Rattle.desk_bench.specs.Examples.{AreWorked};
 
 mod bench;
 mod curves;
-mod pricing;
 
 pub use bench::{DeskBench, ListBench, LogEntry, LogList};
 

@@ -2,7 +2,7 @@
 use Rattle.std.proofs.Common.{◌≡◌, ℕ, zero, suc, ◌-◌, ◌^◌, ◌<◌, ◌≤◌, Bool, true, ◌&&◌, T, eqb, get_or, inl, inr, arith, eq-zero-or-pos, eqb→eq}
 use Rattle.std.proofs.Math.Nat.{one-le-pow, pow-le-pow_right}
 use lib.Ieee.Fits.{and_l, and_r}
-use Rattle.fixed_amount.specs.declared.power.TheConstants.{POWERS}
+use Rattle.fixed_amount.specs.declared.print.TheConstants.{POWERS}
 
 -- the first entries are powers of ten
 abbrev are_powers : ℕ → Bool

@@ -5,8 +5,8 @@ use Rattle.std.proofs.lemmas.Int.{ints}
 use Rattle.std.proofs.lemmas.Nat.{div-add-mod', mod_below, le-div}
 use Rattle.std.proofs.Math.Nat.{le-mul_of_pos_right, mul-le-mul_right, le_of_mul-le-mul_right}
 use Rattle.std.proofs.Math.IntN.{neg_ℤ-neg_ℤ}
-use Rattle.fixed_amount.specs.declared.quotient.Rounding.{Rounding}
-use Rattle.fixed_amount.specs.declared.quotient.Rounding.TheVariants.{Down, Up, Closest}
+use Rattle.fixed_amount.specs.declared.units.Rounding.{Rounding}
+use Rattle.fixed_amount.specs.declared.units.Rounding.TheVariants.{Down, Up, Closest}
 use Rattle.fixed_amount.specs.Rounding.{rounded, with_sign_of, down, up, closest, distance, HasSignOf, IsDown, IsUp, IsClosest}
 
 -- the quotient of a negative numerator mirrors that of its magnitude

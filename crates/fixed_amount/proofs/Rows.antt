@@ -2,7 +2,7 @@
 use Rattle.std.proofs.Common.{◌≡◌, pos, negsuc, neg_ℤ, ◌^◌, ◌-◌, Ok, Err, codes, refl}
 use Rattle.std.specs.Fmt.{digits}
 use Rattle.fixed_amount.specs.declared.decimal.DecimalFault.TheVariants.{Empty, Char, Places, Range}
-use Rattle.fixed_amount.specs.declared.quotient.Rounding.TheVariants.{Down, Up, Closest}
+use Rattle.fixed_amount.specs.declared.units.Rounding.TheVariants.{Down, Up, Closest}
 use Rattle.fixed_amount.specs.Rounding.{rounded}
 use Rattle.fixed_amount.specs.Decimal.{decimal_value, decimal_text}
 

@@ -1,7 +1,7 @@
 -- Rounded quotients of whole numbers.
 use Rattle.std.specs.Prelude.{ℕ, ◌+◌, ◌*◌, ◌/◌, ◌%◌, ◌≤◌, ℤ, pos, negsuc, neg_ℤ, ◌-ℤ◌, ◌*ℤ◌, ◌≤ℤ◌, unsigned_abs, nat_le, ◌==◌, if◌then◌else◌}
-use Rattle.fixed_amount.specs.declared.quotient.Rounding.{Rounding}
-use Rattle.fixed_amount.specs.declared.quotient.Rounding.TheVariants.{Down, Up, Closest}
+use Rattle.fixed_amount.specs.declared.units.Rounding.{Rounding}
+use Rattle.fixed_amount.specs.declared.units.Rounding.TheVariants.{Down, Up, Closest}
 
 -- the number of this magnitude with the sign of n
 abbrev pub with_sign_of : ℤ → ℕ → ℤ

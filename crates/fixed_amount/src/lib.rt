@@ -6,14 +6,11 @@
 #![tactic(auto)]
 
 mod decimal;
-mod power;
 mod print;
-mod quotient;
 mod read;
 mod units;
 
 pub use decimal::DecimalFault;
 pub use print::{exact_decimal_law, print_decimal, round_trip_law};
-pub use quotient::{Rounding, closest_steps_law, div_round, rounding_law};
 pub use read::{read_decimal, reading_law};
-pub use units::{Amount, Discount, Rate};
+pub use units::{Amount, Discount, Rate, Rounding, closest_steps_law, div_round, rounding_law};

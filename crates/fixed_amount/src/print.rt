@@ -2,7 +2,6 @@
 ghost use Rattle.std.specs.Prelude.{◌≡◌, ℕ, ℤ, pos, neg_ℤ, ◌≤ℤ◌, ◌<ℤ◌, Ok, ◌/◌, ◌%◌, ◌^◌, ◌<◌, ◌≤◌, ◌++◌, ◌↔◌, List, drop, decimal, unsigned_abs, OnOk, OnErr};
 ghost use Rattle.fixed_amount.specs.Decimal.{IsExactDecimal, decimal_value, decimal_text, last_digits, point_text};
 
-use crate::power::power_of_ten;
 use itoa::write_digits;
 use std::alloc::{AllocError, Global};
 
@@ -11,6 +10,29 @@ const MOST_BYTES: usize = 59;
 
 // Ten times a number below this, and a digit more, is one of 64 bits.
 const NEAR: u128 = 1_000_000_000_000_000_000;
+
+// The powers of ten, up to the most places of a decimal.
+static POWERS: [u64; 19] = [
+    1,
+    10,
+    100,
+    1_000,
+    10_000,
+    100_000,
+    1_000_000,
+    10_000_000,
+    100_000_000,
+    1_000_000_000,
+    10_000_000_000,
+    100_000_000_000,
+    1_000_000_000_000,
+    10_000_000_000_000,
+    100_000_000_000_000,
+    1_000_000_000_000_000,
+    10_000_000_000_000_000,
+    100_000_000_000_000_000,
+    1_000_000_000_000_000_000,
+];
 
 /// Appends the decimal that writes `value / 10^places`: `-` for a negative value, the whole part without leading
 /// zeros, and, where `places` is above 0, a `.` and exactly that many digits. Any value will do, `i128::MIN` too.
@@ -117,6 +139,16 @@ fn write_whole(number: u128, text: &mut [u8; MOST_BYTES], end: usize) -> usize
         left /= 10;
     }
     write_digits(left as u64, text, at)
+}
+
+/// 10^places, which is positive and at most 10^18.
+pub(crate) fn power_of_ten(places: u8) -> u64
+    requires { places ≤ 18 }
+    ensures value { result ≡ 10 ^ places }
+    ensures positive { 0 < result }
+    ensures bound { result ≤ 10 ^ 18 }
+{
+    POWERS[places as usize]
 }
 
 /// Law: what is printed of a number of 64 bits is read back as that number.

@@ -6,7 +6,7 @@ ghost use Rattle.fixed_amount.specs.Decimal.{WritesUnits, HasManyPlaces, IsOutOf
 ghost use Rattle.fixed_amount.specs.Decimal.{all_digits, digit_count, decimal_value, whole_value, point_value, fraction_value, in_units, in_range, signed};
 
 use crate::decimal::DecimalFault;
-use crate::power::power_of_ten;
+use crate::print::power_of_ten;
 
 // A number below this takes one digit more and stays below `FAR`.
 const NEAR: u64 = 1_000_000_000_000_000_000;

@@ -1,6 +1,6 @@
 use Rattle.std.proofs.Common.{arith}
 use Rattle.fixed_amount.proofs.Powers.{power_at, power_positive, power_bound}
-use Rattle.fixed_amount.proofs.power.power_of_ten.Goals as goal
+use Rattle.fixed_amount.proofs.print.power_of_ten.Goals as goal
 
 pub returns-clause-value : goal.returns-clause-value
 returns-clause-value c = power_at c.args.places (omega (arith, c.requires))

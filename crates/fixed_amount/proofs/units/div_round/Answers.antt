@@ -2,7 +2,7 @@ use Rattle.std.proofs.Common.{◌≡◌, ℕ, ◌≤◌, ◌-◌, ◌^◌, pos, 
 use Rattle.std.proofs.lemmas.Int.{ints, to_z-of_z}
 use Rattle.std.specs.Int.{w128}
 use Rattle.fixed_amount.proofs.Rounded.{rounded_below}
-use Rattle.fixed_amount.proofs.quotient.div_round.Goals as goal
+use Rattle.fixed_amount.proofs.units.div_round.Goals as goal
 
 -- the code's way to the negative number of a size
 minus_size : (size : ℕ) → (size ≡ 0 → ⊥) → size ≤ 2 ^ 127 → to_z w128 (of_z w128 (to_z w128 (of_z w128 (pos 0 -ℤ to_z w128 (size - 1))) -ℤ pos 1)) ≡ neg_ℤ (pos size)

@@ -225,8 +225,20 @@ fn kind_of(slots: &[Slot], object: ObjId) -> Option<Kind>
     ensures { result ≡ kind_in (slice_index_or slots.now object Free) }
 {
     match slots.get(object.place()) {
-        Some(slot) => slot.kind(),
+        Some(slot) => kind_in(slot),
         None => None,
+    }
+}
+
+// What stands in a slot; none where its object was dropped.
+fn kind_in(slot: &Slot) -> Option<Kind>
+    ensures { result ≡ kind_in slot.now }
+{
+    match slot {
+        Slot::Free => None,
+        Slot::Today => Some(Kind::Today),
+        Slot::Watcher => Some(Kind::Watcher),
+        Slot::Live(terms) => Some(terms.kind()),
     }
 }
 

@@ -1,4 +1,4 @@
-// Numbers that stand for objects and for names. A clause sees each as its number.
+// Numbers that stand for objects, for names and for actions. A clause sees each as its number.
 ghost use Rattle.std.specs.Prelude.{◌≡◌};
 
 use std::marker::Model;
@@ -46,6 +46,31 @@ impl Model for NameId {
 
 impl NameId {
     /// The name's place among the names.
+    pub fn place(self) -> usize
+        ensures { result ≡ self }
+    {
+        self.0 as usize
+    }
+}
+
+/// The number of an action: the place of its block among the blocks of a script, from 0.
+#[derive(Clone, Copy, Debug, PartialEq, Eq, PartialOrd, Ord)]
+pub struct ActionId(pub u32);
+
+impl Model for ActionId {
+    ghost use Rattle.std.specs.Prelude.{ℕ, ◌<◌, ◌^◌};
+
+    ghost Value = { ℕ };
+
+    ghost view = { λ a. a.0 };
+
+    ghost invariant = { λ a. a.0 < 2 ^ 32 };
+
+    ghost inverse = { λ number. record { 0 = number } };
+}
+
+impl ActionId {
+    /// The action's place among the actions of its script.
     pub fn place(self) -> usize
         ensures { result ≡ self }
     {

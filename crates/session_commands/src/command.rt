@@ -2,10 +2,9 @@
 ghost use Rattle.std.specs.Prelude.{◌≡◌};
 ghost use Rattle.session_commands.specs.Parts.{command_word};
 
-use crate::ActionId;
 use crate::parts::Parts;
 use day_number::Day;
-use desk_names::NameId;
+use desk_names::{ActionId, NameId};
 use fixed_amount::Rate;
 
 /// A command, one variant for each first word of the language, with its further words as fields, in order.

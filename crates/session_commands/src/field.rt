@@ -2,9 +2,8 @@
 ghost use Rattle.std.specs.Prelude.{◌≡◌};
 ghost use Rattle.session_commands.specs.Field.{name_in, value_in, number_in, day_in, weight_in, engine_in, flag_in, action_in};
 
-use crate::ActionId;
 use day_number::Day;
-use desk_names::NameId;
+use desk_names::{ActionId, NameId};
 use fixed_amount::Rate;
 
 /// What a further word says. An action stands by the number of its name until the whole script is read.

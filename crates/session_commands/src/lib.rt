@@ -4,7 +4,6 @@
 //! print a line `Verb`, `VERBS`, `Kind`, `Field` and `Parts`.
 #![tactic(auto)]
 
-mod action_id;
 mod command;
 mod field;
 mod laws;
@@ -14,8 +13,8 @@ mod script;
 mod script_kind;
 mod table;
 
-pub use action_id::ActionId;
 pub use command::Command;
+pub use desk_names::ActionId;
 pub use field::Field;
 pub use parts::Parts;
 pub use refusal::Refusal;

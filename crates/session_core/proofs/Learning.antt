@@ -1,9 +1,7 @@
 -- What holds of a session's names stays where it learns one.
-use Rattle.std.proofs.Common.{◌≡◌, ℕ, zero, suc, List, [], ◌∷◌, ◌++◌, length, Option, None, refl, sym, ◌∙◌, arith}
-use Rattle.std.specs.Prelude.{slice_index_or, ◌≢◌, Result, Ok, Err, IfErr}
+use Rattle.std.proofs.Common.{◌≡◌, ℕ, zero, suc, List, [], ◌∷◌, ◌++◌, Option, None, refl, sym, ◌∙◌, arith}
+use Rattle.std.specs.Prelude.{slice_index_or}
 use Rattle.std.proofs.lemmas.List.{length-append}
-use Rattle.desk_names.specs.declared.names.NameFault.{NameFault}
-use Rattle.desk_names.specs.declared.names.NameFault.TheVariants.{NoMemory}
 use Rattle.session_model.specs.Standing.{Standing}
 use Rattle.session_core.specs.HasNames.{HasNames}
 
@@ -31,9 +29,3 @@ names_learnt p of_name table watching live text names h named acting found = rw 
   there = λ name o is. h.there name o (sym (with_none of_name name) ∙ is);
   all = λ name o is. with_none of_name name ∙ h.all name o is;
 })
-
--- where memory alone is wanting, no other fault is answered
-pub no_other : {X : Type 0} (result : Result X NameFault) (fault : NameFault) → IfErr result (λ e. e ≡ NoMemory) → fault ≢ NoMemory
-    → result ≡ Err fault → ⊥
-no_other (Ok x) fault memory other is = cc
-no_other (Err e) fault memory other is = let same : e ≡ fault = cc in other (sym same ∙ memory)

@@ -12,7 +12,7 @@ use Rattle.desk_terms.specs.declared.kind.Wanted.{Wanted}
 use Rattle.desk_terms.specs.declared.kind.Wanted.TheVariants as wanted
 use Rattle.desk_model.specs.declared.slot.Slot.{Slot}
 use Rattle.desk_model.specs.declared.slot.Slot.TheVariants.{Free, Today, Watcher, Live}
-use Rattle.desk_model.specs.Market.{slot_at, is_watcher, is_observable, kind_in, kind_at, terms_in, terms_at, role_of, is_lazy, least_user}
+use Rattle.desk_model.specs.Market.{slot_at, is_watcher, is_observable, kind_in, kind_at, terms_in, role_of, is_lazy, least_user}
 use Rattle.desk_model.specs.State.{least_source}
 use Rattle.desk_model.specs.Told.{is_registered}
 use Rattle.desk_terms.specs.Kind.{role}
@@ -20,7 +20,6 @@ use Rattle.desk_terms.specs.Terms.{kind_of}
 use Rattle.flow_terms.specs.Fixings.{IsRate}
 use Rattle.desk_model.specs.Links.{AreOfKind, serves_as, is_lazy_at}
 use Rattle.desk_terms.specs.Reading.{AreInRange}
-use Rattle.object_store.specs.Objects.{bare, with_quote}
 use Rattle.session_commands.specs.declared.command.Command.{Command}
 use Rattle.session_commands.specs.declared.command.Command.TheVariants as command
 use Rattle.session_commands.specs.declared.refusal.Refusal.{Refusal}
@@ -35,7 +34,7 @@ use Rattle.session_model.specs.declared.act.Growth.TheVariants as growth
 use Rattle.session_model.specs.declared.act.How.TheVariants as how
 use Rattle.session_model.specs.declared.place.Place.{Place}
 use Rattle.session_model.specs.declared.place.Place.TheVariants as place
-use Rattle.session_model.specs.Place.{takes, takes_found}
+use Rattle.session_model.specs.Place.{takes_found}
 use Rattle.session_model.specs.Standing.{Standing, object_named, is_full, IsKnown}
 use Rattle.session_model.specs.Resolve.{object_or_refusal, find, with_found, unless, unless_used, unless_kept, unless_late, unless_taken, closes, joins, rate_at, target_of, handle_kind, engaging, making, quote_input, member, curve, index, engine, pairing, resolve}
 use Rattle.session_core.specs.Allowed.{IsAllowed, MayPair}
@@ -280,36 +279,28 @@ module _ (p : Standing) where
   allowed (command.Ask o) known = finds place.Priced o _ (λ x is. taken_lazy (slot_at p.state.market x) is)
   allowed (command.Df c day) known = finds curve c _ (λ x is. taken_curve (slot_at p.state.market x) is)
 
--- An object is found by its terms as by its kind: a quote's value is no part of either.
-kind_of_bare : (t : Terms) → kind_of (with_quote None t) ≡ kind_of t
-kind_of_bare (terms.Quote value) = refl
-kind_of_bare t = refl
-
-kind_in_bare : (slot : Slot) (t : Terms) → bare (terms_in slot) ≡ Some t → kind_in slot ≡ Some (kind_of t)
-kind_in_bare (Live terms) t e = let same : with_quote None terms ≡ t = cc in
-    ap Some (sym (kind_of_bare terms) ∙ ap kind_of same)
-kind_in_bare slot t e = absurd (cc)
-
-pub found_by_terms : (w : Place) (p : Standing) (name o : ℕ) (t : Terms) → object_named p name ≡ Some o
-    → bare (terms_at p.state.market o) ≡ Some t → takes w (kind_of t) ≡ true → find w p name ≡ Ok o
+-- a live object that the place takes is found
+found_named : (w : Place) (p : Standing) (name o : ℕ) → object_named p name ≡ Some o
+    → takes_found w (kind_at p.state.market o) ≡ true → find w p name ≡ Ok o
 unfolding find
-found_by_terms w p name o t named is taken =
+found_named w p name o named taken =
     ap (object_or_refusal w p.state.market name) named
-    ∙ ap (λ (k : Option Kind). if takes_found w k then Ok o else Err (refusal.Kind name)) (kind_in_bare (slot_at p.state.market o) t is)
     ∙ ap (λ (b : Bool). if b then Ok o else Err (refusal.Kind name)) taken
 
 -- what the two commands that are met most resolve to
-pub set_resolves : (p : Standing) (c : Command) (q o : ℕ) (value : ℤ) → c ≡ command.Set q value → find place.Quote p q ≡ Ok o
-    → Ok (act.Quiet (change.Set o (Some value))) ≡ resolve p c
+pub set_resolves : (p : Standing) (c : Command) (q o : ℕ) (value : ℤ) → c ≡ command.Set q value → object_named p q ≡ Some o
+    → takes_found place.Quote (kind_at p.state.market o) ≡ true → Ok (act.Quiet (change.Set o (Some value))) ≡ resolve p c
 unfolding resolve with_found
-set_resolves p c q o value same found =
-    ap (λ (r : Result ℕ Refusal). with_found r (λ x. Ok (act.Quiet (change.Set x (Some value))))) (sym found) ∙ ap (resolve p) (sym same)
+set_resolves p c q o value same named taken =
+    ap (λ (r : Result ℕ Refusal). with_found r (λ x. Ok (act.Quiet (change.Set x (Some value)))))
+    (sym (found_named place.Quote p q o named taken)) ∙ ap (resolve p) (sym same)
 
-pub ask_resolves : (p : Standing) (c : Command) (name o : ℕ) → c ≡ command.Ask name → find place.Priced p name ≡ Ok o
-    → Ok (act.Price name o how.Ask) ≡ resolve p c
+pub ask_resolves : (p : Standing) (c : Command) (name o : ℕ) → c ≡ command.Ask name → object_named p name ≡ Some o
+    → takes_found place.Priced (kind_at p.state.market o) ≡ true → Ok (act.Price name o how.Ask) ≡ resolve p c
 unfolding resolve with_found
-ask_resolves p c name o same found =
-    ap (λ (r : Result ℕ Refusal). with_found r (λ x. Ok (act.Price name x how.Ask))) (sym found) ∙ ap (resolve p) (sym same)
+ask_resolves p c name o same named taken =
+    ap (λ (r : Result ℕ Refusal). with_found r (λ x. Ok (act.Price name x how.Ask)))
+    (sym (found_named place.Priced p name o named taken)) ∙ ap (resolve p) (sym same)
 
 pub resolved_allowed : (p : Standing) (c : Command) (a : Act) → IsKnown p c → Ok a ≡ resolve p c → IsAllowed p a
 resolved_allowed p c a known is = subst (λ (r : Result Act Refusal). IfOk r (IsAllowed p)) (sym is) (allowed p c known)

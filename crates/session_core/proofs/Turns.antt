@@ -29,7 +29,7 @@ use Rattle.session_model.specs.Standing.{Standing}
 use Rattle.session_model.specs.Resolve.{resolve}
 use Rattle.session_model.specs.Turn.{Turn, step, effect_of, done_as, turn}
 use Rattle.session_core.specs.Pricing.{Prices, StopsShort}
-use Rattle.session_core.specs.Steps.{with_object, with_watcher, with_state, Does, Ends, Carries, survivors_of, takes_no_memory}
+use Rattle.session_core.specs.Steps.{with_object, with_watcher, with_state, Does, Ends, Carries, Acts, survivors_of, takes_no_memory}
 
 abbrev Log : Type 0
 Log = Option (List (ℕ × Bool))
@@ -216,6 +216,15 @@ pub change_carries : (calc : Calc) (change : Change) (old new : Standing) (lines
 unfolding effect_of step
 change_carries calc change old new lines count log is =
     quiet_carries calc (act.Quiet change) old new lines count log refl refl is
+
+-- a change that a command resolves to is its turn
+pub change_acts : (calc : Calc) (old new : Standing) (c : Command) (change : Change) (lines : List ℕ) (count : ℕ) (log : Log)
+    → Ok (act.Quiet change) ≡ resolve old c → new ≡ with_state (changed change old.state) old
+    → Acts calc c old new lines lines count count log log
+unfolding turn
+change_acts calc old new c change lines count log is made =
+    subst (λ (r : Result Act Refusal). Does (done_as calc old c r) new lines lines count count log log) is
+    (change_carries calc change old new lines count log made)
 
 pub growth_carries : (calc : Calc) (growth : Growth) (old new : Standing) (lines : List ℕ) (count : ℕ) (log : Log)
     → new ≡ with_state (grown growth old.state) old

@@ -1,12 +1,13 @@
 -- What the table by names says of watchers.
-use Rattle.std.proofs.Common.{◌≡◌, ℕ, ◌<◌, true, List, Option, Some, sym, ◌∙◌, subst, refl}
+use Rattle.std.proofs.Common.{◌≡◌, ℕ, ◌<◌, true, List, Option, None, Some, sym, ◌∙◌, subst, refl}
+use Rattle.std.specs.Prelude.{IfSome}
 use Rattle.std.proofs.lemmas.Bool.{false≢true}
 use Rattle.desk_model.specs.declared.slot.Slot.{Slot}
 use Rattle.desk_model.specs.declared.slot.Slot.TheVariants.{Free, Today, Watcher, Live}
 use Rattle.desk_model.specs.Market.{slot_at, is_given, is_watcher}
 use Rattle.session_model.specs.Standing.{Standing, name_of}
 use Rattle.session_core.specs.HasNames.{IsNamed, HasNames}
-use Rattle.session_core.specs.Watchers.{AreWatchers}
+use Rattle.session_core.specs.Watchers.{IsAWatcher, AreWatchers}
 use Rattle.session_core.proofs.Naming.{given_within, name_within}
 
 watcher_given : (slot : Slot) → is_watcher slot ≡ true → is_given slot ≡ true
@@ -31,3 +32,9 @@ are_watchers p of_name live h w is = record {
 
     named : (o : ℕ) → is_watcher (slot_at p.state.market o) ≡ true → IsNamed p.state.market p.of_object (name_of p o) o
     named o watches = (given o watches, refl)
+
+-- and of a watcher that was told
+pub told_watcher : (p : Standing) (of_name : List (Option ℕ)) (live : ℕ) (told : Option ℕ) → HasNames p of_name live
+    → IfSome told (λ w. is_watcher (slot_at p.state.market w) ≡ true) → IfSome told (IsAWatcher p)
+told_watcher p of_name live None h is = tt
+told_watcher p of_name live (Some w) h is = are_watchers p of_name live h w is

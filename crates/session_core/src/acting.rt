@@ -1,42 +1,24 @@
-// What a command does: its turn, and want of memory in it.
-ghost use Rattle.std.specs.Prelude.{◌≡◌, ◌<◌, true, false, length, Some, is_err, is_ok, IfOk, OnOk, OnErr};
-ghost use Rattle.desk_terms.specs.Reading.{Calc, AreInRange};
-ghost use Rattle.desk_model.specs.Links.{AreOfKind};
-ghost use Rattle.desk_model.specs.Sound.{IsSound, KeepsCurrent};
+// What a command does: its turn, and want of memory in it; and who was told by it.
+ghost use Rattle.std.specs.Prelude.{◌≡◌, ◌++◌, true, false, [], ◌∷◌, is_err, is_ok, IfNone, IfSome, OnOk, OnErr};
+ghost use Rattle.desk_terms.specs.Reading.{Calc};
+ghost use Rattle.desk_model.specs.Sound.{IsSound};
+ghost use Rattle.price_report.specs.Line.{refusal_line};
+ghost use Rattle.session_commands.specs.Parts.{command_word};
 ghost use Rattle.session_model.specs.Standing.{IsKnown};
-ghost use Rattle.session_model.specs.Resolve.{making, unless_taken, resolve};
-ghost use Rattle.session_model.specs.Turn.{done_as};
+ghost use Rattle.session_model.specs.Resolve.{resolve};
 ghost use Rattle.session_core.specs.Allowed.{IsAllowed};
-ghost use Rattle.session_core.specs.Steps.{with_object, AnswersMake, Does, Ends, Carries, BreaksOff, Acts, Halts, survivors_of, takes_no_memory, is_without_memory};
+ghost use Rattle.session_core.specs.Steps.{Acts, Halts, Carries, BreaksOff, takes_no_memory, is_without_memory};
+ghost use Rattle.session_core.specs.Watchers.{IsAWatcher};
 
-use crate::{MakeFault, Session};
-use desk_names::{NameId, ObjId};
-use desk_terms::{Bench, Terms};
+use crate::Session;
+use desk_names::ObjId;
+use desk_terms::Bench;
+use price_report::refusal_line;
 use session_commands::{Command, Refusal};
 use session_model::{Act, Change, How};
 use std::alloc::AllocError;
 
 impl Session {
-    /// Makes an object that has this name and these terms, and answers its number: how many numbers were given before.
-    /// It is refused `Taken` where a live object has the name, then `TooMany` where there is no room. After a refusal
-    /// or want of memory the session is as it was.
-    pub fn make(&mut self, name: NameId, terms: Terms) -> Result<ObjId, MakeFault>
-        requires running { self.old.stopped ≡ false }
-        requires named { name < length self.old.names }
-        requires ranged { AreInRange terms }
-        requires inputs { AreOfKind self.old.state.market (Some terms) }
-        ensures number { IfOk result (λ object. object ≡ length self.old.state.market.objects) }
-        ensures made { OnOk result (self.new ≡ with_object name terms self.old) }
-        ensures answer { AnswersMake (unless_taken self.old name (making self.old name terms)) result }
-        ensures same { OnErr result (self.new ≡ self.old) }
-        ensures keeps { KeepsCurrent self.old.state self.new.state }
-        ensures sound { (calc : Calc) → IsSound calc self.old.state → IsSound calc self.new.state }
-    {
-        self.free(name)?;
-        self.room()?;
-        Ok(self.add(name, terms)?)
-    }
-
     /// Does one command, and appends its line where it writes one: the answer of an ask or of a recalculation, or why the
     /// command is refused. A refused command changes nothing, and a command that writes nothing appends nothing. The
     /// notices that it gives to watchers are kept for `next_told`. After want of memory the session is stopped; what was
@@ -95,43 +77,42 @@ impl Session {
         ensures sound { IsSound (B.calc bench.old) self.new.state }
     {
         if let Command::Set(quote, value) = command
-            && let Some(object) = self.quote_named(*quote)
+            && let Some(object) = self.named(*quote)
+            && self.is_quote(object)
         {
-            let act = Act::Quiet(Change::Set(object, Some(*value)));
-            return self.carry_out(act, bench, lines);
+            self.apply(Change::Set(object, Some(*value)));
+            return Ok(());
         }
         if let Command::Ask(name) = command
-            && let Some(object) = self.priced_named(*name)
+            && let Some(object) = self.named(*name)
+            && self.is_priced(object)
         {
-            return self.carry_out(Act::Price(*name, object, How::Ask), bench, lines);
+            return self.price(*name, object, &How::Ask, bench, lines);
         }
-        let found = self.resolve(command);
-        self.carry(command, found, bench, lines)
+        self.carry(command, bench, lines)
     }
 
-    // Does what a command was found to be, or writes why it is refused.
+    // Does what a command resolves to, or writes why it is refused.
     #[inline(never)]
     fn carry<B: Bench>(
         &mut self,
         command: &Command,
-        found: Result<Act, Refusal>,
         bench: &mut B,
         lines: &mut Vec<u8>,
     ) -> Result<(), AllocError>
-        requires allowed { IfOk found (IsAllowed self.old) }
+        requires known { IsKnown self.old command.now }
         requires sound { IsSound (B.calc bench.old) self.old.state }
         ensures same { B.calc bench.new ≡ B.calc bench.old }
-        ensures does { OnOk result (Does (done_as (B.calc bench.old) self.old command.now found) self.new
+        ensures acts { OnOk result (Acts (B.calc bench.old) command.now self.old self.new
             lines.old.items lines.new.items (B.count bench.old) (B.count bench.new)
             (B.log bench.old) (B.log bench.new)) }
-        ensures breaks { OnErr result (Ends (done_as (B.calc bench.old) self.old command.now found)
-            (survivors_of (B.calc bench.old) self.old.state found) self.old self.new
+        ensures halts { OnErr result (Halts (B.calc bench.old) command.now self.old self.new
             lines.old.items lines.new.items (B.count bench.old) (B.count bench.new)
             (B.log bench.old) (B.log bench.new)) }
-        ensures ends { is_without_memory found ≡ true → is_ok result ≡ true }
+        ensures ends { is_without_memory (resolve self.old command.now) ≡ true → is_ok result ≡ true }
         ensures sound { IsSound (B.calc bench.old) self.new.state }
     {
-        match found {
+        match self.resolve(command) {
             Ok(act) => self.carry_out(act, bench, lines),
             Err(refusal) => self.refuse(command, &refusal, lines),
         }
@@ -170,5 +151,33 @@ impl Session {
             Act::Grow(growth) => self.grow(growth),
             Act::Price(name, object, how) => self.price(name, object, &how, bench, lines),
         }
+    }
+
+    // Writes the line of a refused command.
+    #[inline(never)]
+    fn refuse(
+        &self,
+        command: &Command,
+        refusal: &Refusal,
+        lines: &mut Vec<u8>,
+    ) -> Result<(), AllocError>
+        ensures ok { OnOk result (lines.new.items
+            ≡ lines.old.items
+            ++ refusal_line self.now.names self.now.of_object (command_word command.now) refusal.now) }
+        ensures err { OnErr result (lines.new.items ≡ lines.old.items) }
+    {
+        refusal_line(self.alloc, command.word(), refusal, &self.namer(), lines)
+    }
+
+    /// The first by creation of the watchers that were told and not handed out since; it is forgotten, so that only a
+    /// later change tells it again. It takes no memory.
+    pub fn next_told(&mut self) -> Option<ObjId>
+        ensures none { IfNone result ((self.old.state.noticed ≡ []) × (self.new ≡ self.old)) }
+        ensures some { IfSome result (λ w. (self.old.state.noticed ≡ w ∷ self.new.state.noticed)
+            × (self.new ≡ record self.old { state = record self.old.state { noticed = self.new.state.noticed } })) }
+        ensures watcher { IfSome result (IsAWatcher self.old) }
+        ensures sound { (calc : Calc) → IsSound calc self.old.state → IsSound calc self.new.state }
+    {
+        self.desk.next_told()
     }
 }

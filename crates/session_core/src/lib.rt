@@ -4,6 +4,7 @@
 #![tactic(auto)]
 
 mod acting;
+mod adding;
 mod changing;
 mod fault;
 mod growing;
@@ -11,7 +12,6 @@ mod laws;
 mod pricing;
 mod resolving;
 mod session;
-mod telling;
 mod values;
 
 pub use fault::{ActionFault, MakeFault};

@@ -1,15 +1,23 @@
 // What is priced by name, with its line: an ask, a discount factor, a recalculation.
-ghost use Rattle.std.specs.Prelude.{◌≡◌, IfOk, OnOk, OnErr};
+ghost use Rattle.std.specs.Prelude.{◌≡◌, ◌++◌, true, option_copied, IfOk, OnOk, OnErr};
+ghost use Rattle.desk_terms.specs.Asked.{Shows};
+ghost use Rattle.desk_terms.specs.Reading.{Outcome};
+ghost use Rattle.desk_model.specs.Links.{is_lazy_at};
 ghost use Rattle.desk_model.specs.Sound.{IsSound};
+ghost use Rattle.desk_model.specs.State.{kept_at};
 ghost use Rattle.session_model.specs.declared.act.Act.TheVariants as act;
-ghost use Rattle.session_model.specs.Pricing.{pricing_of};
-ghost use Rattle.session_core.specs.Allowed.{MayPrice};
+ghost use Rattle.session_model.specs.Pricing.{pricing_of, asking, recalculating, discount_in, priced_line};
+ghost use Rattle.session_core.specs.Allowed.{MayPrice, MayRecalc};
 ghost use Rattle.session_core.specs.Pricing.{Prices, StopsShort};
 ghost use Rattle.session_core.specs.Steps.{Carries, BreaksOff};
 
 use crate::Session;
+use day_number::Day;
 use desk_names::{NameId, ObjId};
-use desk_terms::{Asked, Bench};
+use desk_terms::{Asked, Bench, Cause, Value, discount_of};
+use fixed_amount::Discount;
+use lazy_objects::Recalced;
+use price_report::{asked_line, df_line};
 use session_model::How;
 use std::alloc::AllocError;
 
@@ -61,5 +69,90 @@ impl Session {
             How::Ask | How::Df(_) => self.ask(object, bench),
             How::Recalc => self.recalc(object, bench),
         }
+    }
+
+    /// Asks a lazy object. It computes only what it uses and has no current value.
+    pub fn ask<B: Bench>(&mut self, object: ObjId, bench: &mut B) -> Result<Asked, AllocError>
+        requires lazy { is_lazy_at self.old.state.market object ≡ true }
+        requires sound { IsSound (B.calc bench.old) self.old.state }
+        ensures same { B.calc bench.new ≡ B.calc bench.old }
+        ensures prices { IfOk result (λ answer. Prices (asking (B.calc bench.old) object self.old.state)
+            object self.old self.new answer (B.count bench.old) (B.count bench.new)
+            (B.log bench.old) (B.log bench.new)) }
+        ensures stops { OnErr result (StopsShort (asking (B.calc bench.old) object self.old.state)
+            self.old self.new (B.count bench.old) (B.count bench.new)
+            (B.log bench.old) (B.log bench.new)) }
+        ensures sound { IsSound (B.calc bench.old) self.new.state }
+    {
+        self.desk.ask(object, bench)
+    }
+
+    // Prices a lazy object that is not late, whatever its flags say.
+    pub(crate) fn recalc<B: Bench>(
+        &mut self,
+        object: ObjId,
+        bench: &mut B,
+    ) -> Result<Asked, AllocError>
+        requires may { MayRecalc self.old.state object }
+        requires sound { IsSound (B.calc bench.old) self.old.state }
+        ensures same { B.calc bench.new ≡ B.calc bench.old }
+        ensures prices { IfOk result (λ answer. Prices (recalculating (B.calc bench.old) object self.old.state)
+            object self.old self.new answer (B.count bench.old) (B.count bench.new)
+            (B.log bench.old) (B.log bench.new)) }
+        ensures stops { OnErr result (StopsShort (recalculating (B.calc bench.old) object self.old.state)
+            self.old self.new (B.count bench.old) (B.count bench.new)
+            (B.log bench.old) (B.log bench.new)) }
+        ensures sound { IsSound (B.calc bench.old) self.new.state }
+    {
+        match self.desk.recalc(object, bench)? {
+            Recalced::Done(asked) => Ok(asked),
+            Recalced::Deferred(_) => unreachable!(),
+        }
+    }
+
+    // Writes the line of an object that was priced.
+    pub(crate) fn report(
+        &self,
+        name: NameId,
+        object: ObjId,
+        how: &How,
+        asked: &Asked,
+        lines: &mut Vec<u8>,
+    ) -> Result<(), AllocError>
+        requires given { (outcome : Outcome) × Shows asked.now.cause (kept_at self.now.state object).last outcome }
+        ensures ok { (outcome : Outcome) → Shows asked.now.cause (kept_at self.now.state object).last outcome
+            → OnOk result (lines.new.items ≡ lines.old.items
+            ++ priced_line self.now.names self.now.of_object name object how.now outcome asked.now.mark asked.now.runs) }
+        ensures err { OnErr result (lines.new.items ≡ lines.old.items) }
+    {
+        let last = self.desk.last(object);
+        let namer = self.namer();
+        match how {
+            How::Ask | How::Recalc => asked_line(self.alloc, name, asked, last, &namer, lines),
+            How::Df(day) => {
+                let found = discount_in(object, *day, asked, last);
+                df_line(self.alloc, name, *day, &found, asked, &namer, lines)
+            }
+        }
+    }
+}
+
+// The discount factor at a day of what an ask of an object shows, beside the last value of the object.
+#[tactic(auto, unfolding(session_model::specs::Pricing::discount_in))]
+fn discount_in(
+    object: ObjId,
+    day: Day,
+    asked: &Asked,
+    last: Option<&Value>,
+) -> Result<Discount, Cause>
+    requires given { (outcome : Outcome) × Shows asked.now.cause (option_copied last) outcome }
+    ensures { (outcome : Outcome) → Shows asked.now.cause (option_copied last.entry) outcome
+        → result ≡ discount_in object day outcome }
+{
+    match (&asked.cause, last) {
+        (Some(cause), _) => Err(*cause),
+        (None, Some(Value::Curve(curve))) => discount_of(object, curve, day),
+        (None, Some(Value::Money(_))) => Err(Cause::Unpriced(object)),
+        (None, None) => unreachable!(),
     }
 }

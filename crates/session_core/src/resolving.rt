@@ -1,5 +1,5 @@
 // What a command is once its names are looked up, or why it is refused.
-ghost use Rattle.std.specs.Prelude.{◌≡◌, [], None, Some, Ok, Err, is_some, not, if◌then◌else◌, IfSome};
+ghost use Rattle.std.specs.Prelude.{◌≡◌, [], None, Some, Ok, Err, is_some, not, if◌then◌else◌};
 ghost use Rattle.session_commands.specs.declared.refusal.Refusal.TheVariants.{Taken, TooMany, AlreadyRegistered, NotRegistered};
 ghost use Rattle.desk_terms.specs.declared.terms.Terms.TheVariants as terms;
 ghost use Rattle.desk_terms.specs.declared.kind.Wanted.TheVariants as wanted;
@@ -9,8 +9,7 @@ ghost use Rattle.session_model.specs.declared.act.Act.TheVariants as act;
 ghost use Rattle.session_model.specs.declared.act.Change.TheVariants as change;
 ghost use Rattle.session_model.specs.declared.act.Growth.TheVariants as growth;
 ghost use Rattle.session_model.specs.declared.act.How.TheVariants as how;
-ghost use Rattle.desk_terms.specs.Terms.{kind_of};
-ghost use Rattle.session_model.specs.Place.{takes, takes_found};
+ghost use Rattle.session_model.specs.Place.{takes_found};
 ghost use Rattle.session_model.specs.Standing.{object_named, is_full};
 ghost use Rattle.session_model.specs.Resolve.{find, with_found, making, unless, unless_used, unless_kept, unless_late, unless_taken, closes, joins, rate_at, target_of, handle_kind, engaging, combining, watching, pairing, quote_input, curve, resolve};
 ghost use Rattle.desk_model.specs.Market.{least_user};
@@ -24,12 +23,12 @@ use desk_names::{NameId, ObjId};
 use desk_terms::{HandleKind, PartList, Terms, Wanted};
 use fixed_amount::Rate;
 use session_commands::{ActionId, Command, Refusal};
-use session_model::{Act, Change, Growth, How, Place};
+use session_model::{Act, Change, Growth, How, MOST_LIVE, MOST_NUMBERS, Place};
 
 impl Session {
     // The command with its objects found, or the first reason for which it is refused.
     #[tactic(auto, unfolding(session_model::specs::Resolve::resolve))]
-    #[inline(never)]
+    #[inline(always)]
     pub(crate) fn resolve(&mut self, command: &Command) -> Result<Act, Refusal>
         ensures act { result ≡ resolve self.old command.now }
         ensures same { self.new ≡ self.old }
@@ -66,6 +65,16 @@ impl Session {
         }
     }
 
+    // The live object that has the name.
+    pub(crate) fn named(&self, name: NameId) -> Option<ObjId>
+        ensures { result ≡ object_named self.now name }
+    {
+        match self.of_name.get(name.place()) {
+            Some(object) => *object,
+            None => None,
+        }
+    }
+
     // The object that a name stands for, where it is of a kind that the place takes.
     #[tactic(auto, unfolding(session_model::specs::Resolve::find))]
     pub(crate) fn find(&self, place: Place, name: NameId) -> Result<ObjId, Refusal>
@@ -78,27 +87,33 @@ impl Session {
         }
     }
 
-    // The quote that a name stands for, if it stands for one: `find`, by the object's terms at one look.
-    pub(crate) fn quote_named(&self, name: NameId) -> Option<ObjId>
-        ensures { IfSome result (λ object. find place.Quote self.now name ≡ Ok object) }
+    // Whether the object is a quote, by its terms at one look.
+    pub(crate) fn is_quote(&self, object: ObjId) -> bool
+        ensures { result ≡ takes_found place.Quote (kind_at self.now.state.market object) }
     {
-        let object = self.named(name)?;
-        if is_quote(self.desk.terms(object)?) {
-            Some(object)
-        } else {
-            None
-        }
+        matches!(self.desk.terms(object), Some(Terms::Quote(_)))
     }
 
-    // The same of a lazy object.
-    pub(crate) fn priced_named(&self, name: NameId) -> Option<ObjId>
-        ensures { IfSome result (λ object. find place.Priced self.now name ≡ Ok object) }
+    // Whether the object is priced, by its terms at one look.
+    pub(crate) fn is_priced(&self, object: ObjId) -> bool
+        ensures { result ≡ takes_found place.Priced (kind_at self.now.state.market object) }
     {
-        let object = self.named(name)?;
-        if is_priced(self.desk.terms(object)?) {
-            Some(object)
-        } else {
-            None
+        match self.desk.terms(object) {
+            Some(
+                Terms::Curve(_)
+                | Terms::Implied { .. }
+                | Terms::Stock { .. }
+                | Terms::Composite(_)
+                | Terms::Flows(..),
+            ) => true,
+            Some(
+                Terms::Quote(_)
+                | Terms::Derived { .. }
+                | Terms::Handle { .. }
+                | Terms::Index(..)
+                | Terms::Engine { .. },
+            )
+            | None => false,
         }
     }
 
@@ -106,7 +121,7 @@ impl Session {
     fn takes(&self, place: Place, object: ObjId) -> bool
         ensures { result ≡ takes_found place (kind_at self.now.state.market object) }
     {
-        match self.kind(object) {
+        match self.desk.kind(object) {
             Some(kind) => place.takes(kind),
             None => false,
         }
@@ -122,6 +137,14 @@ impl Session {
         }
     }
 
+    // Whether there is no room for one object more.
+    #[tactic(auto, unfolding(session_model::specs::Standing::is_full))]
+    pub(crate) fn is_full(&self) -> bool
+        ensures { result ≡ is_full self.now.state.market }
+    {
+        self.live >= MOST_LIVE || self.desk.len() >= MOST_NUMBERS
+    }
+
     /// A new object needs room.
     pub fn room(&self) -> Result<(), Refusal>
         ensures { result ≡ (if is_full self.now.state.market then Err TooMany else Ok tt) }
@@ -133,24 +156,16 @@ impl Session {
         }
     }
 
-    // An object of these terms, where there is room.
-    #[tactic(auto, unfolding(session_model::specs::Resolve::unless))]
-    fn making(&self, name: NameId, terms: Terms) -> Result<Act, Refusal>
-        ensures { result ≡ making self.now name terms }
-    {
-        self.room()?;
-        Ok(Act::Make(name, terms))
-    }
-
-    #[tactic(auto, unfolding(session_model::specs::Resolve::unless_taken))]
+    #[tactic(auto, unfolding(session_model::specs::Resolve::unless_taken, session_model::specs::Resolve::unless))]
     fn quote(&self, name: NameId, value: Option<Rate>) -> Result<Act, Refusal>
         ensures { result ≡ unless_taken self.now name (making self.now name (terms.Quote value)) }
     {
         self.free(name)?;
-        self.making(name, Terms::Quote(value))
+        self.room()?;
+        Ok(Act::Make(name, Terms::Quote(value)))
     }
 
-    #[tactic(auto, unfolding(session_model::specs::Resolve::unless_taken, session_model::specs::Resolve::with_found))]
+    #[tactic(auto, unfolding(session_model::specs::Resolve::unless_taken, session_model::specs::Resolve::with_found, session_model::specs::Resolve::unless))]
     fn combining(
         &self,
         name: NameId,
@@ -163,46 +178,50 @@ impl Session {
         self.free(name)?;
         let first = self.find(Place::Input(Wanted::QuoteInput), first)?;
         let second = self.find(Place::Input(Wanted::QuoteInput), second)?;
-        self.making(
+        self.room()?;
+        Ok(Act::Make(
             name,
             Terms::Derived {
                 minus,
                 first,
                 second,
             },
-        )
+        ))
     }
 
-    #[tactic(auto, unfolding(session_model::specs::Resolve::unless_taken, session_model::specs::Resolve::with_found))]
+    #[tactic(auto, unfolding(session_model::specs::Resolve::unless_taken, session_model::specs::Resolve::with_found, session_model::specs::Resolve::unless))]
     fn stock(&self, name: NameId, quote: NameId) -> Result<Act, Refusal>
         ensures { result ≡ unless_taken self.now name
             (with_found (find quote_input self.now quote) (λ x. making self.now name (terms.Stock x))) }
     {
         self.free(name)?;
         let quote = self.find(Place::Input(Wanted::QuoteInput), quote)?;
-        self.making(name, Terms::Stock { quote })
+        self.room()?;
+        Ok(Act::Make(name, Terms::Stock { quote }))
     }
 
-    #[tactic(auto, unfolding(session_model::specs::Resolve::unless_taken))]
+    #[tactic(auto, unfolding(session_model::specs::Resolve::unless_taken, session_model::specs::Resolve::unless))]
     fn composite(&self, name: NameId) -> Result<Act, Refusal>
         ensures { result ≡ unless_taken self.now name (making self.now name (terms.Composite [])) }
     {
         self.free(name)?;
-        self.making(name, Terms::Composite(PartList::new(self.allocator())))
+        self.room()?;
+        Ok(Act::Make(name, Terms::Composite(PartList::new(self.alloc))))
     }
 
-    #[tactic(auto, unfolding(session_model::specs::Resolve::unless_taken))]
+    #[tactic(auto, unfolding(session_model::specs::Resolve::unless_taken, session_model::specs::Resolve::unless))]
     fn handle(&self, name: NameId, is_curve: bool) -> Result<Act, Refusal>
         ensures { result ≡ unless_taken self.now name (making self.now name (terms.Handle (handle_kind is_curve) None)) }
     {
         self.free(name)?;
-        self.making(
+        self.room()?;
+        Ok(Act::Make(
             name,
             Terms::Handle {
                 target_kind: handle_kind(is_curve),
                 target: None,
             },
-        )
+        ))
     }
 
     // What a handle may be linked to.
@@ -225,7 +244,7 @@ impl Session {
     {
         let handle = self.find(Place::Handle, handle)?;
         let target = self.find(self.target_of(handle), target)?;
-        if self.closes(handle, target) {
+        if self.desk.reaches(target, handle) {
             return Err(Refusal::Cycle);
         }
         Ok(Act::Quiet(Change::Link(handle, Some(target))))
@@ -259,7 +278,7 @@ impl Session {
             unless_kept (rate_at self.now.state.market y day) (act.Grow (growth.Fixing y day rate))) }
     {
         let index = self.find(Place::Input(Wanted::Index), index)?;
-        match self.rate_at(index, day) {
+        match self.desk.fixing(index, day) {
             Some(kept) => Err(Refusal::FixingExists(kept)),
             None => Ok(Act::Grow(Growth::Fixing(index, day, rate))),
         }
@@ -282,7 +301,7 @@ impl Session {
     {
         let composite = self.find(Place::Composite, composite)?;
         let member = self.find(Place::Input(Wanted::Member), member)?;
-        if weight != 0 && self.closes(composite, member) {
+        if weight != 0 && self.desk.reaches(member, composite) {
             return Err(Refusal::Cycle);
         }
         Ok(Act::Grow(Growth::Member(composite, member, weight)))
@@ -319,7 +338,7 @@ impl Session {
         ensures same { self.new ≡ self.old }
     {
         let object = self.find(Place::Priced, name)?;
-        match self.late(object) {
+        match self.desk.late(object) {
             Some(source) => Err(Refusal::Deferred(source)),
             None => Ok(Act::Price(name, object, How::Recalc)),
         }
@@ -339,7 +358,7 @@ impl Session {
             unless_used (least_user self.now.state.market x) (act.Quiet (change.Drop x))) }
     {
         let object = self.find(Place::Droppable, name)?;
-        match self.user_of(object) {
+        match self.desk.user_of(object) {
             Some(user) => Err(Refusal::InUse(user)),
             None => Ok(Act::Quiet(Change::Drop(object))),
         }
@@ -361,7 +380,7 @@ impl Session {
     {
         let watcher = self.find(Place::Watcher, watcher)?;
         let object = self.find(Place::Observable, object)?;
-        if self.is_registered(watcher, object) {
+        if self.desk.is_registered(watcher, object) {
             return Err(Refusal::AlreadyRegistered);
         }
         Ok(Act::Grow(Growth::Register(watcher, object)))
@@ -374,7 +393,7 @@ impl Session {
     {
         let watcher = self.find(Place::Watcher, watcher)?;
         let object = self.find(Place::Observable, object)?;
-        if !self.is_registered(watcher, object) {
+        if !self.desk.is_registered(watcher, object) {
             return Err(Refusal::NotRegistered);
         }
         Ok(Act::Quiet(Change::Unregister(watcher, object)))
@@ -397,30 +416,5 @@ fn handle_kind(is_curve: bool) -> HandleKind
         HandleKind::Curve
     } else {
         HandleKind::Quote
-    }
-}
-
-// Whether these are the terms of a quote.
-fn is_quote(terms: &Terms) -> bool
-    ensures { result ≡ takes place.Quote (kind_of terms.now) }
-{
-    matches!(terms, Terms::Quote(_))
-}
-
-// Whether an object of these terms is priced.
-fn is_priced(terms: &Terms) -> bool
-    ensures { result ≡ takes place.Priced (kind_of terms.now) }
-{
-    match terms {
-        Terms::Quote(_)
-        | Terms::Derived { .. }
-        | Terms::Handle { .. }
-        | Terms::Index(..)
-        | Terms::Engine { .. } => false,
-        Terms::Curve(_)
-        | Terms::Implied { .. }
-        | Terms::Stock { .. }
-        | Terms::Composite(_)
-        | Terms::Flows(..) => true,
     }
 }

@@ -24,7 +24,7 @@ impl Session {
         ensures { option_copied result ≡ value_of self.now name }
     {
         match self.find(Place::Priced, name) {
-            Ok(object) => self.last(object),
+            Ok(object) => self.desk.last(object),
             Err(_) => None,
         }
     }
@@ -35,7 +35,7 @@ impl Session {
         ensures { result ≡ is_current_of self.now name }
     {
         match self.find(Place::Priced, name) {
-            Ok(object) => self.is_settled(object),
+            Ok(object) => self.desk.is_current(object),
             Err(_) => false,
         }
     }
@@ -43,13 +43,12 @@ impl Session {
     /// What an ask of the live lazy object that has a name answers where the object is frozen, late or current: its last
     /// value, or that it has none. None exactly where it is none of these, or no such object has the name. Nothing is
     /// computed, and it takes no memory.
-    #[tactic(auto, using(crate::proofs::Resolved::found_lazy))]
     pub fn ask_held(&mut self, name: NameId) -> Option<Asked>
         ensures answer { result ≡ held_of self.old name }
         ensures same { self.new ≡ self.old }
     {
         match self.find(Place::Priced, name) {
-            Ok(object) => self.held(object),
+            Ok(object) => self.desk.ask_held(object),
             Err(_) => None,
         }
     }

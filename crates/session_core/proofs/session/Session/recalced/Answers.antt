@@ -1,7 +1,11 @@
-use Rattle.std.proofs.Common.{sym}
+use Rattle.std.proofs.Common.{◌≡◌, true, sym, subst}
+use Rattle.desk_model.specs.Links.{is_lazy_at}
+use Rattle.session_model.specs.Standing.{Standing}
 use Rattle.session_core.proofs.Resolved.{found_lazy}
 use Rattle.session_core.proofs.session.Session.recalced.Goals as goal
 
 pub late-requires : goal.late-requires
-late-requires c =
-    record { lazy = found_lazy c.args.self.now c.args.name c.in_ok-object.object (sym c.in_ok-object.ensures) }
+late-requires c = record {
+  lazy = subst (λ (p : Standing). is_lazy_at p.state.market c.in_ok-object.object ≡ true) (sym c.self.view_is)
+      (found_lazy c.args.self.now c.args.name c.in_ok-object.object (sym c.in_ok-object.ensures));
+}

@@ -14,9 +14,9 @@ use Rattle.watch_rounds.proofs.Stays.{nobody_ran, notice_long, notice_all, ran_l
 use Rattle.desk_model.specs.Market.{Market, slot_at, is_watcher}
 use Rattle.desk_model.specs.State.{State}
 use Rattle.session_model.specs.Standing.{Standing, name_of}
-use Rattle.session_model.specs.Course.{Running, running, notice, over_lines}
-use Rattle.session_core.specs.Watchers.{IsAWatcher, AreWatchers}
-use Rattle.session_rounds.specs.Fits.{Fits, IsDueOf, AreKnown}
+use Rattle.session_model.specs.Course.{Running, notice, over_lines}
+use Rattle.session_core.specs.Watchers.{IsAWatcher}
+use Rattle.session_rounds.specs.Fits.{Fits, IsLive, IsDueOf, AreKnown}
 use Rattle.session_rounds.specs.Goes.{Output, with_more, Does, HasEnded}
 use Rattle.session_rounds.proofs.Going.{more_none}
 use Rattle.session_rounds.proofs.Hearing.{with_noticed}
@@ -83,20 +83,20 @@ fits_ran r nodes at picker fits = record {
   known = fits.known;
 }
 
--- who runs next is listed
-pub listed_if : (p : Standing) (due : List DueWatcher) (at : ℕ) (result : Option ℕ) → AreWatchers p → AreAll (IsDueOf p) due
-    → result ≡ watcher_of (slice_get due at) → IfSome result (λ w. w < length p.of_object)
-listed_if p due at None are all is = tt
-listed_if p due at (Some w) are all is = by due at all is
+-- who runs next is a live watcher
+pub live_if : (p : Standing) (due : List DueWatcher) (at : ℕ) (result : Option ℕ) → AreAll (IsDueOf p) due
+    → result ≡ watcher_of (slice_get due at) → IfSome result (IsLive p)
+live_if p due at None all is = tt
+live_if p due at (Some w) all is = by due at all is
   where
     same : (v : ℕ) → Some w ≡ Some v → w ≡ v
     same v e = cc
 
-    by : (due : List DueWatcher) (at : ℕ) → AreAll (IsDueOf p) due → Some w ≡ watcher_of (slice_get due at) → w < length p.of_object
+    by : (due : List DueWatcher) (at : ℕ) → AreAll (IsDueOf p) due → Some w ≡ watcher_of (slice_get due at) → IsLive p w
     by [] zero all is = absurd (cc)
     by [] (suc at) all is = absurd (cc)
     by (first ∷ rest) zero all is =
-        subst (λ (v : ℕ). v < length p.of_object) (sym (same first.watcher is)) (are first.watcher all.0.0).listed
+        subst (IsLive p) (sym (same first.watcher is)) all.0.0
     by (first ∷ rest) (suc at) all is = by rest at all.1 is
 
 none_due : (due : List DueWatcher) (at : ℕ) → (1 ≤ length due → at < length due) → watcher_of (slice_get due at) ≡ None → length due ≡ 0

@@ -1,11 +1,10 @@
 -- What holds of a session with watchers stays where it grows.
-use Rattle.std.proofs.Common.{◌≡◌, inl, inr, ℕ, ◌+◌, ◌<◌, ◌≤◌, true, false, List, [], ◌∷◌, ◌++◌, length, Option, Some, None, refl, sym, ◌∙◌, ap, subst, arith}
+use Rattle.std.proofs.Common.{◌≡◌, inl, inr, ℕ, ◌+◌, ◌<◌, ◌≤◌, true, List, [], ◌∷◌, length, Option, Some, None, sym, ◌∙◌, ap, subst, arith}
 use Rattle.std.specs.Prelude.{All, Result, Ok, Err, OnOk, OnErr}
 use Rattle.std.proofs.lemmas.Bool.{cases_lt, false≢true}
 use Rattle.std.proofs.lemmas.List.{length-append, get_or_append_left, get_or_past}
 use Rattle.std.proofs.lemmas.List.Elements.{All-weaker, All-push}
 use Rattle.desk_terms.specs.declared.terms.Terms.{Terms}
-use Rattle.desk_model.specs.declared.slot.Slot.{Slot}
 use Rattle.desk_model.specs.declared.slot.Slot.TheVariants.{Free, Live}
 use Rattle.desk_model.specs.Market.{Market, slot_at, is_watcher}
 use Rattle.desk_model.specs.Effect.{made}
@@ -16,16 +15,15 @@ use Rattle.session_commands.specs.declared.table.Kind.{Kind}
 use Rattle.session_commands.specs.Table.{row_of}
 use Rattle.session_commands.specs.Parts.{parts_of}
 use Rattle.session_commands.specs.Whole as whole
-use Rattle.watch_rounds.specs.Due.{AreAll}
 use Rattle.watch_rounds.specs.Round.{blank}
 use Rattle.watch_rounds.proofs.Places.{all_map}
-use Rattle.session_model.specs.Standing.{Standing, name_of, IsKnown}
+use Rattle.session_model.specs.Standing.{Standing, IsKnown}
 use Rattle.session_model.specs.Course.{Running}
 use Rattle.session_model.specs.Growing.{learn, with_action}
 use Rattle.session_model.specs.Grown.{learn_in}
 use Rattle.session_core.specs.Steps.{with_object}
 use Rattle.session_core.specs.Watchers.{AreWatchers}
-use Rattle.session_rounds.specs.Fits.{Fits, IsDueOf, AreKnown}
+use Rattle.session_rounds.specs.Fits.{Fits, IsDueOf}
 
 engine_more : (n m : ℕ) → n ≤ m → (engine : Option ℕ) → whole.IsEngine n engine → whole.IsEngine m engine
 engine_more n m le None known = tt

@@ -1,5 +1,5 @@
 -- In which of its moments a round ran out of memory.
-use Rattle.std.proofs.Common.{◌≡◌, ◌⊎◌, inl, inr, ℕ, zero, suc, false, Bool, ◌+◌, ◌-◌, ◌≤◌, List, [], ◌∷◌, ◌++◌, length, drop, Option, Some, None, refl, sym, ap, subst, ◌∙◌, arith}
+use Rattle.std.proofs.Common.{◌≡◌, ◌⊎◌, inl, inr, ℕ, suc, false, Bool, ◌+◌, ◌-◌, ◌≤◌, List, [], ◌∷◌, ◌++◌, length, drop, Option, Some, refl, sym, ap, subst, ◌∙◌, arith}
 use Rattle.std.specs.Prelude.{slice_get, ◌==◌}
 use Rattle.std.proofs.lemmas.Bool.{true≢false}
 use Rattle.std.proofs.lemmas.List.{append_assoc, append-nil}
@@ -8,8 +8,8 @@ use Rattle.session_commands.specs.declared.command.Command.{Command}
 use Rattle.watch_rounds.specs.declared.due.DueWatcher.{DueWatcher}
 use Rattle.watch_rounds.specs.Round.{runs_left, watcher_at}
 use Rattle.session_model.specs.Standing.{Standing}
-use Rattle.session_model.specs.Turn.{Turn, turn}
-use Rattle.session_model.specs.Course.{Running, Meaning, Course, and_then, taken, heard, course_of, course_of_all, chosen, begun, action_of, run}
+use Rattle.session_model.specs.Turn.{turn}
+use Rattle.session_model.specs.Course.{Running, Meaning, and_then, taken, heard, course_of, course_of_all, chosen, begun, action_of, run}
 use Rattle.session_model.specs.Moments.{Moment, moment_of, moments_of_all, moments_of_run, none_unless_due, moments_of_runs, lines_at, calls_at}
 use Rattle.session_model.proofs.Ends.{all_done_left}
 use Rattle.session_model.proofs.Moments.{heard_calls}

@@ -1,5 +1,5 @@
 -- What a command leaves in a round.
-use Rattle.std.proofs.Common.{◌≡◌, ℕ, ◌+◌, ◌≤◌, Bool, true, false, List, [], ◌∷◌, length, Option, Result, Ok, Err, refl, sym, ap, subst, ◌∙◌, arith}
+use Rattle.std.proofs.Common.{◌≡◌, ℕ, ◌+◌, ◌≤◌, Bool, true, false, List, [], length, Option, Result, Ok, Err, refl, sym, ap, subst, ◌∙◌}
 use Rattle.std.specs.Prelude.{OnOk, OnErr}
 use Rattle.std.specs.List.{filter}
 use Rattle.std.proofs.lemmas.Bool.{false≢true}
@@ -22,7 +22,7 @@ use Rattle.session_core.specs.Watchers.{AreWatchers}
 use Rattle.session_rounds.specs.Fits.{Fits, IsDueOf}
 use Rattle.session_rounds.specs.Goes.{Does, Halts}
 use Rattle.session_rounds.proofs.Known.{known_same}
-use Rattle.session_model.proofs.Live.{acted_live, acted_named, acted_long}
+use Rattle.session_model.proofs.Live.{acted_live, acted_named}
 
 module _ {P : Type 0} (t : Turn) (r : Running P) (lines_old lines_new : List ℕ) (count_old count_new : ℕ)
     (log_old log_new : Option (List (ℕ × Bool))) where

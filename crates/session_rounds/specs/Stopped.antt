@@ -1,5 +1,5 @@
 -- Where memory ran out in a round: which of its moments are done, and what stands of the one that is not.
-use Rattle.std.specs.Prelude.{◌≡◌, ◌⊎◌, ◌++◌, ◌+◌, ◌≤◌, ℕ, Bool, List, [], ◌∷◌, length, take}
+use Rattle.std.specs.Prelude.{◌≡◌, ◌⊎◌, ◌++◌, ◌+◌, ◌≤◌, ℕ, List, [], ◌∷◌, length, take}
 use Rattle.desk_terms.specs.Bench.{counted, logged}
 use Rattle.desk_terms.specs.Reading.{Calc}
 use Rattle.session_model.specs.Moments.{Moment}

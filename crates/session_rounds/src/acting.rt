@@ -83,7 +83,6 @@ impl<P: Picker> WatchedSession<P> {
         ensures running { OnOk result (self.new.standing.stopped ≡ false) }
         ensures ready { is_without_memory (resolve self.old.standing command.now) ≡ true → is_ok result ≡ true }
     {
-        self.session.watchers();
         let given = self.session.numbers();
         let settled = stays_settled(self.settled, command);
         match self.session.act(command, bench, lines) {
@@ -124,7 +123,6 @@ impl<P: Picker> WatchedSession<P> {
         ensures ready { (notice watcher self.old).lines ≡ [] → is_ok result ≡ true }
         ensures standing { self.new.standing ≡ self.old.standing }
     {
-        self.session.watchers();
         if self.rounds.stays_due(watcher) {
             return Ok(());
         }

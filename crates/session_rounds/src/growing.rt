@@ -94,7 +94,6 @@ impl<P: Picker> WatchedSession<P> {
         ensures sound { (calc : Calc) → IsSound calc self.old.standing.state → IsSound calc self.new.standing.state }
     {
         self.settled = false;
-        self.session.watchers();
         self.session.free(name)?;
         self.session.room()?;
         self.rounds.grow(0, self.session.numbers() + 2)?;

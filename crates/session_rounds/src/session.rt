@@ -5,7 +5,7 @@ ghost use Rattle.desk_model.specs.Sound.{IsSound};
 ghost use Rattle.session_model.specs.Standing.{IsKnown, name_of};
 ghost use Rattle.session_model.specs.Course.{running, opened, round_of, course_of_all, action_of, runs_by, all_handed_out};
 ghost use Rattle.session_model.specs.Moments.{moments_of_round, moments_of_all, moments_of_runs};
-ghost use Rattle.session_rounds.specs.Fits.{AreKnown};
+ghost use Rattle.session_rounds.specs.Fits.{AreKnown, IsLive};
 ghost use Rattle.session_rounds.specs.Goes.{Does, Halts, Stays, HasEnded};
 ghost use Rattle.session_rounds.specs.Quiet.{IsQuiet};
 ghost use Rattle.session_rounds.specs.Stopped.{HaltsIn};
@@ -207,9 +207,8 @@ impl<P: Picker> WatchedSession<P> {
         ensures left { OnSome result (runs_left self.new.round + 1 ≡ runs_left self.old.round) }
         ensures none { IfNone result (length self.old.round.due ≡ 0) }
         ensures ends { IfNone result (HasEnded self.new.round) }
-        ensures listed { IfSome result (λ w. w < length self.old.standing.of_object) }
+        ensures live { IfSome result (IsLive self.old.standing) }
     {
-        self.session.watchers();
         self.rounds.next_due(&mut self.picker)
     }
 
@@ -220,7 +219,7 @@ impl<P: Picker> WatchedSession<P> {
         bench: &mut B,
         lines: &mut Vec<u8>,
     ) -> Result<(), AllocError>
-        requires listed { watcher < length self.old.standing.of_object }
+        requires live { IsLive self.old.standing watcher }
         requires running { self.old.standing.stopped ≡ false }
         requires sound { IsSound (B.calc bench.old) self.old.standing.state }
         ensures same { B.calc bench.new ≡ B.calc bench.old }
@@ -247,9 +246,10 @@ impl<P: Picker> WatchedSession<P> {
 
     // The action of a watcher.
     fn action_of(&self, watcher: ObjId) -> Option<ActionId>
-        requires { watcher < length self.now.standing.of_object }
+        requires { IsLive self.now.standing watcher }
         ensures { result ≡ slice_index_or self.now.standing.watching (name_of self.now.standing watcher) None }
     {
+        self.session.watchers();
         let name = self.session.name_of(watcher);
         self.session.action_of(name)
     }

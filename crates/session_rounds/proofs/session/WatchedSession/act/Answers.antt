@@ -26,7 +26,7 @@ invariant_of-self g c =
     let r : Running g.row.P.Denot = record { standing = c.self.inside.session; round = c.self.inside.rounds.round; picker = c.self.inside.picker } in
     let kept = stopped_or_same c.make_room.result c.act.new.self c.make_room.new.session c.make_room.ensures.ok c.make_room.ensures.err in
     let fits = fits_acted (g.B.Bench.calc c.args.bench.now) r c.args.command.now c.act.new.self c.make_room.new.session c.self.inside.rounds.nodes
-    c.make_room.new.rounds.nodes c.self.invariant.0 c.watchers.ensures c.in-Ok.ensures.acts.next c.act.ensures.names c.act.ensures.actions kept
+    c.make_room.new.rounds.nodes c.self.invariant.0 c.numbers-given.ensures.watchers c.in-Ok.ensures.acts.next c.act.ensures.names c.act.ensures.actions kept
     c.make_room.ensures.room c.make_room.ensures.spare in
     let watching = subst (λ (p : Standing). AreWatching p.state c.settle.new.rounds.round.due) (sym kept) c.settle.ensures.watching in (
       subst (λ (z : Round). Fits g.row.P.Denot (record r { standing = c.make_room.new.session; round = z }) c.make_room.new.rounds.nodes)

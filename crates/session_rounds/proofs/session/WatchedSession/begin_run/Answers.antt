@@ -3,7 +3,7 @@ use Rattle.std.specs.Prelude.{slice_get}
 use Rattle.desk_model.specs.Told.{is_watching}
 use Rattle.watch_rounds.specs.Round.{RoundsView, with_run}
 use Rattle.watch_rounds.proofs.Stays.{ran_all}
-use Rattle.session_rounds.proofs.Fitting.{fits_ran, none_if, listed_if, ends_if}
+use Rattle.session_rounds.proofs.Fitting.{fits_ran, none_if, live_if, ends_if}
 use Rattle.session_rounds.proofs.session.WatchedSession.begin_run.Goals as goal
 
 pub invariant_of-self : goal.invariant_of-self
@@ -24,10 +24,9 @@ returns-clause-none g c = rw (← c.self.view_is) (none_if c.self.inside.rounds.
     (g.P.Picker.at c.self.inside.picker (length c.self.inside.rounds.round.due)) c.next_due.result c.next_due.ensures.due
     (λ some. g.met.P.Picker.below c.self.inside.picker (length c.self.inside.rounds.round.due) some))
 
-pub returns-clause-listed : goal.returns-clause-listed
-returns-clause-listed g c = rw (← c.self.view_is) (listed_if c.self.inside.session c.self.inside.rounds.round.due
-    (g.P.Picker.at c.self.inside.picker (length c.self.inside.rounds.round.due)) c.next_due.result c.watchers.ensures
-    c.self.invariant.0.due c.next_due.ensures.due)
+pub returns-clause-live : goal.returns-clause-live
+returns-clause-live g c = rw (← c.self.view_is) (live_if c.self.inside.session c.self.inside.rounds.round.due
+    (g.P.Picker.at c.self.inside.picker (length c.self.inside.rounds.round.due)) c.next_due.result c.self.invariant.0.due c.next_due.ensures.due)
 
 pub returns-clause-ends : goal.returns-clause-ends
 returns-clause-ends g c = ends_if c.self.inside.rounds.round c.next_due.new.self

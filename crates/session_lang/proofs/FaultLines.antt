@@ -20,12 +20,12 @@ use Rattle.session_lang.specs.FirstFault.{First, first_of, further, is_begin, is
 use Rattle.session_lang.proofs.ReadLines.{LineRead, line_is_read}
 use Rattle.session_lang.proofs.FaultWords.{Shows, ActsIs, Acts, WordsAre, words_are}
 
-with_texts-append : (names a b : List (List ℕ)) → with_texts names (a ++ b) ≡ with_texts (with_texts names a) b
+pub with_texts-append : (names a b : List (List ℕ)) → with_texts names (a ++ b) ≡ with_texts (with_texts names a) b
 with_texts-append names [] b = refl
 with_texts-append names (t ∷ a) b = with_texts-append (with_text names t) a b
 
 -- one line more
-names_push : (names above : List (List ℕ)) (line : List ℕ) → names_after names (above ++ line ∷ []) ≡ with_texts (names_after names above) (names_in (words_of line))
+pub names_push : (names above : List (List ℕ)) (line : List ℕ) → names_after names (above ++ line ∷ []) ≡ with_texts (names_after names above) (names_in (words_of line))
 names_push names above line =
     ap (with_texts names) (flat_map-append (λ l. names_in (words_of l)) above (line ∷ []))
     ∙ ap (λ more. with_texts names (flat_map (λ l. names_in (words_of l)) above ++ more)) (append-nil (names_in (words_of line)))

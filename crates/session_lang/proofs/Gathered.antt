@@ -5,7 +5,6 @@ use Rattle.std.specs.Str.Lines.{lines}
 use Rattle.session_commands.specs.declared.script_kind.ScriptKind.{ScriptKind}
 use Rattle.session_commands.specs.declared.script_kind.ScriptKind.TheVariants as fault
 use Rattle.session_lang.specs.declared.fault.ScriptFault.{ScriptFault}
-use Rattle.session_lang.specs.declared.fault.ScriptFault.TheVariants as script
 use Rattle.session_commands.specs.declared.command.Command.{Command}
 use Rattle.session_commands.specs.declared.command.Command.TheVariants as command
 use Rattle.session_commands.specs.declared.script.Script.{Script}

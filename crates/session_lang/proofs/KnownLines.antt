@@ -1,9 +1,8 @@
 -- Lines whose names are all known: what they say, by the places of the names.
-use Rattle.std.proofs.Common.{◌≡◌, ℕ, suc, ◌+◌, ◌-◌, ◌≤◌, Bool, true, false, cond, nat_le, List, [], ◌∷◌, ◌++◌, length, take, drop, get_or, slice_get, Option, Some, None, is_some, IfSome, Result, Ok, Err, ℤ, unsigned_abs, codes, refl, sym, subst, ap, ◌∙◌, append_assoc, length-append, take_all, arith, All}
+use Rattle.std.proofs.Common.{◌≡◌, ℕ, suc, ◌-◌, ◌≤◌, Bool, true, false, cond, nat_le, List, [], ◌∷◌, ◌++◌, length, take, drop, get_or, slice_get, Some, None, Result, Ok, Err, ℤ, unsigned_abs, codes, refl, sym, subst, ap, ◌∙◌, append_assoc, length-append, take_all, arith, All}
 use Rattle.std.specs.List.{list_all}
 use Rattle.std.specs.Char.{is_ascii_digit}
 use Rattle.std.specs.Fmt.{sign_text}
-use Rattle.std.specs.Str.Lines.{lines}
 use Rattle.std.proofs.lemmas.Bool.{and_from}
 use Rattle.std.proofs.lemmas.Bool.Decides.{nat_tests}
 use Rattle.std.proofs.lemmas.List.Folds.{list_all-append}
@@ -27,7 +26,7 @@ use Rattle.script_words.proofs.WordBytes.{IsWord, name_word}
 use Rattle.script_words.proofs.PrintedLines.{spaced, words_printable, line_first}
 use Rattle.script_words.proofs.Fields.{Back, nothing_back, name_said, number_said, weight_said}
 use Rattle.session_lang.specs.declared.statement.Statement.TheVariants.{Run}
-use Rattle.session_lang.specs.Statement.{word, command_meaning, words_meaning, line_meaning}
+use Rattle.session_lang.specs.Statement.{word, command_meaning, words_meaning}
 use Rattle.session_lang.specs.Reading.{action_of, IsSaidFirst}
 use Rattle.session_lang.proofs.RowFacts.{row_is}
 use Rattle.session_lang.proofs.CommandLines.{command_read, row_said, words_line}
@@ -127,12 +126,6 @@ first_and_rest : (text : List ℕ) → 1 ≤ length text → text ≡ get_or tex
 first_and_rest [] h = absurd (omega arith)
 first_and_rest (x ∷ xs) h = let e : suc (length xs) - 1 ≡ length xs = omega arith in ap (λ t. x ∷ t) (sym (ap (λ n. take n xs) e ∙ take_all (length xs) xs (omega arith)))
 
--- the place at which a text is found among the names
-pub found_at : (names : List (List ℕ)) (text : List ℕ) (found : Option ℕ) → is_some found ≡ has_text names text
-    → IfSome found (λ place. place ≡ place_of names text) → IfSome found (λ place. slice_get names place ≡ Some text)
-found_at names text None is at = tt
-found_at names text (Some place) is at = ap (slice_get names) at ∙ slice_get-place_of names text (sym is)
-
 -- the first words of a text, where they are a line
 said_first : (names : List (List ℕ)) (command : Command) (w : List ℕ) (ws : List (List ℕ)) (text behind : List ℕ)
     → IsWord w → All IsWord ws → action_of command ≡ None
@@ -146,12 +139,6 @@ said_first names command w ws text behind word words unlinked says whole = recor
   says = λ begun inside. words_line (record { names = names; begun = begun }) inside w ws word words ∙ says begun inside;
   unlinked = unlinked;
 }
-
--- words that are said first and nothing behind them are a line
-pub whole_line : (names text : _) (command : Command) → IsSaidFirst names text command [] → (begun : List (List ℕ)) (inside : Bool)
-    → line_meaning (record { names = names; begun = begun }) inside text ≡ Ok (Run command, record { names = names; begun = begun })
-whole_line names text command said begun inside =
-    ap (line_meaning (record { names = names; begun = begun }) inside) (said.whole ∙ append-nil said.line) ∙ said.says begun inside
 
 ask_text : (name behind : List ℕ) → codes "ask " ++ (name ++ behind) ≡ (codes "ask" ++ spaced (name ∷ [])) ++ behind
 ask_text name behind = simp append-nil

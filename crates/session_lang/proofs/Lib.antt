@@ -7,6 +7,7 @@ pub mod LeftNames
 pub mod RowFacts
 pub mod PlainWords
 pub mod CommandLines
+pub mod AddedNames
 pub mod KnownLines
 pub mod FirstLines
 pub mod Tells
@@ -17,3 +18,4 @@ pub mod ReadScript
 pub mod FaultWords
 pub mod FaultLines
 pub mod FaultScript
+pub mod AddedLines

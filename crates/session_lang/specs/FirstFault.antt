@@ -1,5 +1,5 @@
 -- The first fault of a script, said of its lines and of what stands above them, without the reader.
-use Rattle.std.specs.Prelude.{◌≡◌, ℕ, ◌+◌, ◌-◌, ◌<◌, ◌≤◌, Bool, true, false, not, ◌&&◌, ◌||◌, ◌==◌, nat_lt, if◌then◌else◌, List, [], ◌∷◌, length, map, filter, take, codes, slice_index_or, Option, Some, None, Result, Ok, Err}
+use Rattle.std.specs.Prelude.{◌≡◌, ℕ, ◌+◌, ◌-◌, ◌<◌, ◌≤◌, Bool, true, false, not, ◌&&◌, ◌||◌, ◌==◌, nat_lt, if◌then◌else◌, List, [], ◌∷◌, ◌++◌, length, map, filter, take, codes, slice_index_or, Option, Some, None, Result, Ok, Err}
 use Rattle.std.specs.List.{list_all, list_any, flat_map}
 use Rattle.std.specs.Str.{bytes_eq}
 use Rattle.std.specs.Str.Lines.{lines}
@@ -102,9 +102,20 @@ abbrev pub with_texts : List (List ℕ) → List (List ℕ) → List (List ℕ)
 with_texts names [] = names
 with_texts names (text ∷ texts) = with_texts (with_text names text) texts
 
+-- a front of these texts was added to the names (this project's profile)
+pub record AddsFront (names texts new : List (List ℕ)) : Type 0 where
+  pub front : List (List ℕ)
+  pub rest : List (List ℕ)
+  pub whole : texts ≡ front ++ rest
+  pub is : new ≡ with_texts names front
+
+-- the names that these lines name, in order
+abbrev pub names_said : List (List ℕ) → List (List ℕ)
+names_said above = flat_map (λ line. names_in (words_of line)) above
+
 -- the names after these lines: theirs in order of first use
 abbrev pub names_after : List (List ℕ) → List (List ℕ) → List (List ℕ)
-names_after names above = with_texts names (flat_map (λ line. names_in (words_of line)) above)
+names_after names above = with_texts names (names_said above)
 
 -- the actions that these lines begin
 abbrev pub begun_after : List (List ℕ) → List (List ℕ)

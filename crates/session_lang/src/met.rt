@@ -1,5 +1,5 @@
 // The names that were met lately, so that one that is met again is compared and not sought.
-ghost use Rattle.std.specs.Prelude.{◌≡◌, ◌<◌, Some, true, slice_get, IfSome};
+ghost use Rattle.std.specs.Prelude.{◌≡◌, ◌<◌, Some, true, slice_get, replicate, IfSome};
 ghost use Rattle.desk_names.specs.Names.{IsNames};
 
 use desk_names::{NameId, Names};
@@ -14,8 +14,10 @@ pub struct Met {
 }
 
 impl Met {
-    /// No name was met yet.
-    pub fn new() -> Met {
+    /// No name was met yet: each place has the first number, which is looked at as any other is.
+    pub fn new() -> Met
+        ensures { result.names ≡ replicate 64 0 }
+    {
         Met {
             names: [NameId(0); MOST_MET],
         }
@@ -31,7 +33,7 @@ impl Met {
         if is_named(text, names, name) {
             return Some(name);
         }
-        let name = found(text, names)?;
+        let name = names.find(text)?;
         self.names[at] = name;
         Some(name)
     }
@@ -43,13 +45,6 @@ fn is_named(text: &[u8], names: &Names, name: NameId) -> bool
     ensures names { IsNames names.now }
 {
     name.0 < names.len() && names.text(name) == text
-}
-
-// The number of a known name, sought.
-fn found(text: &[u8], names: &Names) -> Option<NameId>
-    ensures { IfSome result (λ name. slice_get names.now name ≡ Some text.now) }
-{
-    names.find(text)
 }
 
 // Where a name is kept.

@@ -1,5 +1,5 @@
 // Scripts, read.
-ghost use Rattle.std.specs.Prelude.{◌≡◌, ◌<◌, ◌^◌, ◌+◌, ◌∷◌, [], ℕ, List, length, None, is_some, false, IfOk, IsErrOf};
+ghost use Rattle.std.specs.Prelude.{◌≡◌, ◌<◌, ◌^◌, ◌+◌, ◌∷◌, [], ℕ, List, length, None, is_some, false, IfOk, OnOk, OnErr, IsErrOf};
 ghost use Rattle.std.specs.Str.Lines.{lines};
 ghost use Rattle.session_lang.specs.Given.{GivesAt, at_number};
 ghost use Rattle.script_words.specs.Given.{Grows};
@@ -7,7 +7,8 @@ ghost use Rattle.desk_names.specs.Names.{IsNames};
 ghost use Rattle.session_commands.specs.Whole.{IsScript};
 ghost use Rattle.session_commands.specs.declared.script_kind.ScriptKind.TheVariants.{TooLong};
 ghost use Rattle.session_lang.specs.declared.fault.ScriptFault.TheVariants.{At};
-ghost use Rattle.session_lang.specs.FirstFault.{ToldFirst, FaultKeeps, names_after};
+ghost use Rattle.script_words.specs.Line.{words_of};
+ghost use Rattle.session_lang.specs.FirstFault.{ToldFirst, FaultKeeps, AddsFront, names_in, names_said, names_after, with_texts};
 ghost use Rattle.session_lang.specs.Reading.{Leaves, AreLeft, lines_meaning, names_left, script_meaning, script_left};
 ghost use Rattle.session_lang.specs.Gathered.{gathered_behind, Takes, together_gathered};
 ghost use Rattle.text_limits.specs.declared.limit.TheConstants.{MOST_BYTES};
@@ -60,6 +61,9 @@ fn take_line<'a>(
         (λ o. names_left (record { names = names.new; begun = begun.new }) o (number + 1) rest)
         (names_left (record { names = names.old; begun = begun.old }) open_at number (line.now ∷ rest)) }
     ensures grows { Grows names.old names.new }
+    ensures read { IsNames names.old → IsNames begun.old → OnOk result
+        ((names.new ≡ with_texts names.old (names_in (words_of line.now))) × IsNames names.new × IsNames begun.new) }
+    ensures added { IsNames names.old → IsNames begun.old → OnErr result (AddsFront names.old (names_in (words_of line.now)) names.new) }
 {
     match read_words(line, words, names, begun, is_open(open_at)) {
         Ok(statement) => Ok(add(commands, steps, number, statement, open_at)?),
@@ -78,6 +82,7 @@ fn read_lines(
     ensures gives { GivesAt (λ read. record { steps = read.steps.items; commands = read.commands; known = record { names = names.new; begun = begun.new }; open_at = read.open_at }) result
         (gathered_behind [] [] false (lines_meaning (record { names = names.old; begun = begun.old }) None 1 (lines text.now))) }
     ensures left { AreLeft result names.new (names_left (record { names = names.old; begun = begun.old }) None 1 (lines text.now)) }
+    ensures added { IsNames names.old → IsNames begun.old → AddsFront names.old (names_said (lines text.now)) names.new }
     ensures grows { Grows names.old names.new }
 {
     let mut commands = CommandList::new(alloc);
@@ -169,6 +174,7 @@ fn finished(alloc: Global, names: &Names, begun: &Names, read: Read) -> Result<S
 fn read_text(alloc: Global, text: &[u8], names: &mut Names) -> Result<Script, ScriptFault>
     ensures gives { GivesAt (λ s. (s, names.new)) result (script_meaning names.old text.now) }
     ensures left { AreLeft result names.new (script_left names.old text.now) }
+    ensures added { IsNames names.old → AddsFront names.old (names_said (lines text.now)) names.new }
     ensures long { MOST_BYTES < length text.now → IsErrOf result (At 0 TooLong) }
     ensures paired { IfOk result (λ s. length s.actions ≡ length s.action_names) }
     ensures grows { Grows names.old names.new }
@@ -187,8 +193,8 @@ fn read_text(alloc: Global, text: &[u8], names: &mut Names) -> Result<Script, Sc
 /// The script that a text says, or its first fault with the line, counted from 1 (this project's profile).
 ///
 /// The names of its lines get numbers in order of first use, those of actions too. A line with a fault adds no name:
-/// behind it the names are those after the lines above it. After want of memory the names may have grown; the old ones
-/// keep their numbers however it ends. The numbers in a script that is read stand for names and actions that are there.
+/// behind it the names are those after the lines above it. After want of memory the first of the names of its lines may have
+/// been added, and no other; the old ones keep their numbers however it ends. The numbers in a script that is read stand for names and actions that are there.
 /// It takes time in proportion to the text, with a few look-ups of a name for each word.
 pub fn read_script(alloc: Global, text: &[u8], names: &mut Names) -> Result<Script, ScriptFault>
     ensures gives { GivesAt (λ s. (s, names.new)) result (script_meaning names.old text.now) }
@@ -199,6 +205,8 @@ pub fn read_script(alloc: Global, text: &[u8], names: &mut Names) -> Result<Scri
     ensures fault { IsNames names.old → ToldFirst names.old text.now result }
     ensures kept { IsNames names.old → FaultKeeps names.old text.now names.new result }
     ensures names { IsNames names.old → IfOk result (λ s. names.new ≡ names_after names.old (lines text.now)) }
+    // However it ends, a front of the names of its lines was added, and no other.
+    ensures added { IsNames names.old → AddsFront names.old (names_said (lines text.now)) names.new }
     ensures grows { Grows names.old names.new }
 {
     read_text(alloc, text, names)

@@ -1,11 +1,13 @@
 // What one line of a script says.
-ghost use Rattle.std.specs.Prelude.{◌≡◌, ◌+◌, ◌≤◌, ◌&&◌, not, cond, ℕ, List, length, map, nat_le, Some, Ok, IfSome};
+ghost use Rattle.std.specs.Prelude.{◌≡◌, ◌+◌, ◌≤◌, ◌&&◌, not, cond, ℕ, List, length, map, nat_le, Some, Ok, IfSome, OnErr};
 ghost use Rattle.std.specs.Str.{bytes_eq};
 ghost use Rattle.desk_names.specs.Names.{most_names, IsNames};
 ghost use Rattle.script_words.specs.Given.{Gives, Grows, Keeps};
 ghost use Rattle.session_commands.specs.Table.{row_of, verb_of, words_at, words_in};
 ghost use Rattle.session_commands.specs.declared.table.Verb.TheVariants.{Ask, Set, Member};
 ghost use Rattle.session_lang.specs.declared.statement.Statement.TheVariants.{Run};
+ghost use Rattle.script_words.specs.Line.{words_of};
+ghost use Rattle.session_lang.specs.FirstFault.{begin, command, by_verb, places, names_at, names_in, AddsFront};
 ghost use Rattle.session_lang.specs.Statement.{Known, ArePlain, PlainOf, names_with, fields_meaning, command_meaning, begin_meaning, end_meaning, words_meaning, line_meaning};
 
 use crate::known_line::known_line;
@@ -88,7 +90,7 @@ fn has_room(verb: Verb, words: &[&[u8]], names: &Names) -> bool
 }
 
 // The command of a row whose words have no fault; `plain` is what they say apart from the names in them.
-#[tactic(auto, unfolding(crate::specs::Statement::fields_meaning), using(script_words::proofs::Interning::grows_on))]
+#[tactic(auto, unfolding(crate::specs::Statement::fields_meaning), using(script_words::proofs::Interning::grows_on, crate::proofs::AddedNames::adds_none))]
 fn run_fields(
     verb: Verb,
     plain: Parts,
@@ -103,6 +105,8 @@ fn run_fields(
     ensures grows { Grows names.old names.new }
     ensures begun { Grows begun.old begun.new }
     ensures kept { Keeps result names.old names.new }
+    ensures unbegun { OnErr result (begun.new ≡ begun.old) }
+    ensures added { OnErr result (AddsFront names.old (names_at (places (command verb)) 0 (map (λ word. word.now) words.now)) names.new) }
 {
     let (_, kind1, kind2, kind3) = verb.row();
     let first = field_of(names, kind1, word_at(words, 0), plain.first)?;
@@ -173,7 +177,7 @@ fn known_member(words: &[&[u8]], names: &Names) -> Option<Command>
 }
 
 // A line of a command, by its first word and the words behind it.
-#[tactic(auto, unfolding(crate::specs::Statement::command_meaning), using(script_words::proofs::Interning::grows_same))]
+#[tactic(auto, unfolding(crate::specs::Statement::command_meaning), using(script_words::proofs::Interning::grows_same, crate::proofs::AddedNames::adds_none))]
 fn run_line(
     first: &[u8],
     words: &[&[u8]],
@@ -185,6 +189,8 @@ fn run_line(
     ensures grows { Grows names.old names.new }
     ensures begun { Grows begun.old begun.new }
     ensures kept { Keeps result names.old names.new }
+    ensures unbegun { OnErr result (begun.new ≡ begun.old) }
+    ensures added { OnErr result (AddsFront names.old (names_at (places (by_verb (verb_of first.now))) 0 (map (λ word. word.now) words.now)) names.new) }
 {
     let Some(verb) = Verb::of_word(first) else {
         return Err(LineFault::Kind(ScriptKind::Word));
@@ -230,7 +236,7 @@ fn words_in(verb: Verb) -> usize
 }
 
 // `action A`.
-#[tactic(auto, unfolding(crate::specs::Statement::begin_meaning), using(script_words::proofs::Interning::grows_same))]
+#[tactic(auto, unfolding(crate::specs::Statement::begin_meaning), using(script_words::proofs::Interning::grows_same, crate::proofs::AddedNames::adds_none))]
 fn begin_line(
     words: &[&[u8]],
     names: &mut Names,
@@ -242,6 +248,8 @@ fn begin_line(
     ensures grows { Grows names.old names.new }
     ensures begun { Grows begun.old begun.new }
     ensures kept { Keeps result names.old names.new }
+    ensures unbegun { OnErr result (begun.new ≡ begun.old) }
+    ensures added { OnErr result (AddsFront names.old (names_at (places begin) 0 (map (λ word. word.now) words.now)) names.new) }
 {
     if words.len() != 1 {
         return Err(LineFault::Kind(ScriptKind::Count));
@@ -256,8 +264,12 @@ fn begin_line(
     if begun.find(word).is_some() {
         return Err(LineFault::Kind(ScriptKind::Twice));
     }
-    number_of(begun, word)?;
+    // A line with a fault adds its name to neither, so that the actions' room is looked at before a name is added.
+    if begun.len() == MOST_NAMES {
+        return Err(LineFault::Kind(ScriptKind::Names));
+    }
     let name = number_of(names, word)?;
+    number_of(begun, word)?;
     Ok(Statement::Begin(name))
 }
 
@@ -275,7 +287,7 @@ fn end_line(words: &[&[u8]], inside: bool) -> Result<Statement, LineFault>
 }
 
 // What the words of a line say.
-#[tactic(auto, unfolding(crate::specs::Statement::words_meaning), using(script_words::proofs::Interning::grows_same))]
+#[tactic(auto, unfolding(crate::specs::Statement::words_meaning), using(script_words::proofs::Interning::grows_same, crate::proofs::AddedNames::adds_none))]
 fn words_line(
     words: &[&[u8]],
     names: &mut Names,
@@ -287,6 +299,8 @@ fn words_line(
     ensures grows { Grows names.old names.new }
     ensures begun { Grows begun.old begun.new }
     ensures kept { Keeps result names.old names.new }
+    ensures unbegun { OnErr result (begun.new ≡ begun.old) }
+    ensures added { OnErr result (AddsFront names.old (names_in (map (λ word. word.now) words.now)) names.new) }
 {
     let [first, rest @ ..] = words else {
         return Ok(Statement::Blank);
@@ -301,9 +315,10 @@ fn words_line(
 }
 
 /// What a line says, or its first fault. The names of a line without a fault get numbers, in order; one with a fault
-/// adds none. `begun` are the names of the actions so far, to which a line that begins one adds its own. `words` is room for
-/// the words of the line: a vector for all lines is made once, as is `met`. An ask or a set of known names is read at once.
-#[tactic(auto, using(script_words::proofs::Interning::grows_same))]
+/// adds none, and want of memory may leave the first of them added. `begun` are the names of the actions so far, to which a
+/// line that begins one adds its own, and no other answer adds any. `words` is room for the words of the line: a vector for
+/// all lines is made once, as is `met`. An ask or a set of known names is read at once.
+#[tactic(auto, using(script_words::proofs::Interning::grows_same, crate::proofs::AddedNames::adds_none))]
 pub fn read_line<'a>(
     line: &'a [u8],
     words: &mut Vec<&'a [u8]>,
@@ -317,6 +332,8 @@ pub fn read_line<'a>(
     ensures grows { Grows names.old names.new }
     ensures begun { Grows begun.old begun.new }
     ensures kept { Keeps result names.old names.new }
+    ensures unbegun { OnErr result (begun.new ≡ begun.old) }
+    ensures added { OnErr result (AddsFront names.old (names_in (words_of line.now)) names.new) }
 {
     match known_line(line, names, met) {
         Some(command) => Ok(Statement::Run(command)),
@@ -325,7 +342,7 @@ pub fn read_line<'a>(
 }
 
 // The same by the words of the line.
-#[tactic(auto, unfolding(crate::specs::Statement::line_meaning), using(script_words::proofs::Interning::grows_same))]
+#[tactic(auto, unfolding(crate::specs::Statement::line_meaning), using(script_words::proofs::Interning::grows_same, crate::proofs::AddedNames::adds_none))]
 pub(crate) fn read_words<'a>(
     line: &'a [u8],
     words: &mut Vec<&'a [u8]>,
@@ -338,6 +355,8 @@ pub(crate) fn read_words<'a>(
     ensures grows { Grows names.old names.new }
     ensures begun { Grows begun.old begun.new }
     ensures kept { Keeps result names.old names.new }
+    ensures unbegun { OnErr result (begun.new ≡ begun.old) }
+    ensures added { OnErr result (AddsFront names.old (names_in (words_of line.now)) names.new) }
 {
     if !good_words_of(line, words)? {
         return Err(LineFault::Kind(ScriptKind::Byte));

@@ -88,5 +88,5 @@ pub taken_first : (names ls new begun text : _) (command : Command) (after : Lis
 taken_first names ls new begun text command after first t =
     taken_more names ls new begun first.line (lines after)
     (subst (Taken names ls new begun) (ap lines first.whole ∙ first.alone after) t) new begun
-    (line_read (record { names = new; begun = begun }) (record { names = new; begun = begun }) false first.line (Run command) t.names_kept t.begun_kept
-    (first.says begun false))
+    (line_read (record { names = new; begun = begun }) (record { names = new; begun = begun }) false first.line (Run command)
+    t.names_kept t.begun_kept (first.says begun false))

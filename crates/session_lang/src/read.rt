@@ -169,7 +169,7 @@ fn finished(alloc: Global, names: &Names, begun: &Names, read: Read) -> Result<S
     }
 }
 
-// The script that a text says, where the text is no longer than a script may be.
+// The same as `read_script`, which has one exit, where what follows of this answer is said once.
 #[tactic(auto, unfolding(crate::specs::Reading::script_meaning), using(script_words::proofs::Interning::grows_same))]
 fn read_text(alloc: Global, text: &[u8], names: &mut Names) -> Result<Script, ScriptFault>
     ensures gives { GivesAt (λ s. (s, names.new)) result (script_meaning names.old text.now) }

@@ -21,7 +21,7 @@ use Rattle.desk_model.specs.Next.{and_next, and_answer, next_of}
 use Rattle.object_store.specs.Slots.{answer_of, answered_of, is_at_hand}
 use Rattle.ask_walk.specs.Begun.{IsReadOf, AreRead, HasRead}
 use Rattle.ask_walk.specs.Steps.{NextMember}
-use Rattle.ask_walk.specs.declared.steps.Step.TheVariants as step
+use Rattle.ask_walk.specs.declared.turning.Step.TheVariants as step
 use Rattle.ask_walk.proofs.Members.{prepend, prepend_none, answered_some, members_none, members_err}
 
 and_prepend : (i : input.Input) (inputs : List input.Input) (next : Next) → and_next i (prepend inputs next) ≡ prepend (i ∷ inputs) next

@@ -20,8 +20,8 @@ use Rattle.desk_model.specs.Next.{next_of}
 use Rattle.desk_model.specs.Uses.{member_entries, uses, reading_at}
 use Rattle.object_store.specs.Slots.{answer_of, is_at_hand}
 use Rattle.ask_walk.specs.declared.turning.Begun.{Begun}
-use Rattle.ask_walk.specs.declared.steps.Step.{Step}
-use Rattle.ask_walk.specs.declared.steps.Step.TheVariants as stepping
+use Rattle.ask_walk.specs.declared.turning.Step.{Step}
+use Rattle.ask_walk.specs.declared.turning.Step.TheVariants as stepping
 use Rattle.ask_walk.specs.declared.turning.Turn.TheVariants as turning
 use Rattle.ask_walk.specs.Asks.{IsComputed}
 use Rattle.ask_walk.specs.Begun.{HasRead, IsBegun}

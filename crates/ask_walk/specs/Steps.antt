@@ -9,8 +9,8 @@ use Rattle.desk_model.specs.declared.kept.Kept.{Kept}
 use Rattle.desk_model.specs.Next.{next_of}
 use Rattle.desk_model.specs.Uses.{member_entries}
 use Rattle.object_store.specs.Slots.{is_at_hand, answer_of}
-use Rattle.ask_walk.specs.declared.steps.Step.{Step}
-use Rattle.ask_walk.specs.declared.steps.Step.TheVariants.{Ready, First, Stops}
+use Rattle.ask_walk.specs.declared.turning.Step.{Step}
+use Rattle.ask_walk.specs.declared.turning.Step.TheVariants.{Ready, First, Stops}
 
 -- a step and the inputs that were read, as what an ask does next
 abbrev pub next_with : List input.Input → Step → Next

@@ -107,11 +107,11 @@ impl Books {
             → ComesTo (state_in market self.old.store) object result }
         ensures same { self.new ≡ self.old }
     {
-        let mark = self.store.mark(object);
+        let (mark, is_current) = self.store.met(object);
         match mark {
             Mark::Frozen | Mark::Late => AtOnce::Answers(last_answer(&self.store, object, mark)),
             Mark::Fresh | Mark::Held => {
-                if self.store.is_current(object) {
+                if is_current {
                     AtOnce::Answers(answered(None, mark, 0))
                 } else {
                     AtOnce::Walks(mark)

@@ -8,7 +8,6 @@ mod asking;
 mod reader;
 mod recalced;
 mod recalculating;
-mod steps;
 mod turning;
 mod uses;
 

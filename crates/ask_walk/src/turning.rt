@@ -1,5 +1,5 @@
-// One turn of an ask at an object, and the object at which it stands.
-ghost use Rattle.std.specs.Prelude.{◌≡◌, ◌≢◌, List, true, Some, IfOk, OnErr, pos};
+// One turn of an ask at an object: the object at which it stands, what is read of it, and what is done there.
+ghost use Rattle.std.specs.Prelude.{◌≡◌, ◌≢◌, List, true, Some, IfOk, OnErr, pos, ◌≤◌, ◌+◌, ◌*◌, ◌^◌, ◌+ℤ◌, ◌*ℤ◌, unsigned_abs, OnOk, [], ◌∷◌, ◌++◌};
 ghost use Rattle.desk_terms.specs.declared.terms.Terms.TheVariants.{Composite};
 ghost use Rattle.desk_terms.specs.declared.terms.Part.{Part};
 ghost use Rattle.desk_model.specs.Market.{terms_at};
@@ -9,15 +9,28 @@ ghost use Rattle.object_store.specs.Shape.{role_at};
 ghost use Rattle.object_store.specs.Store.{registry_of};
 ghost use Rattle.observer_graph.specs.declared.node.Role.TheVariants as role;
 ghost use Rattle.ask_walk.specs.Reads.{Remembers};
-ghost use Rattle.ask_walk.specs.Begun.{IsBegun};
+ghost use Rattle.ask_walk.specs.Begun.{IsBegun, HasRead};
 ghost use Rattle.ask_walk.specs.Turns.{MayRun, Turns, Fails};
+ghost use Rattle.desk_terms.specs.declared.value.Value.{Value};
+ghost use Rattle.desk_terms.specs.declared.cause.Cause.TheVariants.{Unpriced};
+ghost use Rattle.desk_terms.specs.Parts.{ArePartsInRange};
+ghost use Rattle.desk_terms.specs.Sums.{money_in};
+ghost use Rattle.desk_model.specs.Uses.{uses};
+ghost use Rattle.desk_model.specs.Fresh.{input_of};
+ghost use Rattle.desk_model.specs.Next.{next_of};
+ghost use Rattle.ask_walk.specs.Steps.{next_with, NextMember};
+ghost use Rattle.object_store.specs.Slots.{answer_of, answered, answered_of, is_at_hand};
 
 use crate::asking::{Books, compute, total};
-use crate::steps::{Step, next, next_member};
+use crate::reader::read;
+use crate::uses::{flow_entries, helper_entries, only_entry};
+use curve_points::copy_curve;
+use desk_model::Entry;
 use desk_names::ObjId;
-use desk_terms::{Bench, Cause, Terms};
-use object_store::Market;
-use std::alloc::AllocError;
+use desk_terms::{Bench, Cause, Input, InputList, Part, Terms, Value};
+use fixed_amount::Amount;
+use object_store::{Market, Scratch, Store};
+use std::alloc::{AllocError, Global};
 
 /// An object at which an ask stands or that waits for another: how many of its members were read, if it is a composite, and
 /// the sum of their values times their weights, in units of 10^-6. Of any other object all is read at once.
@@ -49,6 +62,199 @@ pub fn left(begun: &Begun) -> Begun
         object: begun.object,
         read: begun.read,
         sum: begun.sum,
+    }
+}
+
+/// What an ask does next at an object.
+#[derive(Clone, Copy)]
+pub enum Step {
+    /// Its price takes the inputs that were read.
+    Ready,
+    /// This object has to be computed first.
+    First(ObjId),
+    /// The ask ends by this cause.
+    Stops(Cause),
+}
+
+// The value of another object is an input more.
+#[inline(always)]
+fn push_value(alloc: Global, value: &Value, inputs: &mut InputList) -> Result<(), AllocError>
+    ensures { OnOk result (inputs.new ≡ inputs.old ++ input_of value.now ∷ []) }
+{
+    match value {
+        Value::Money(amount) => inputs.push(Input::Money(*amount)),
+        Value::Curve(curve) => {
+            let copy = copy_curve(alloc, curve)?;
+            inputs.push(Input::Curve(copy))
+        }
+    }
+}
+
+// The last value of an object that is at hand, or that it has none; none where it has to be computed first.
+#[inline(always)]
+fn answer(store: &Store, object: ObjId) -> Option<Result<&Value, Cause>>
+    ensures { answered result ≡ answered_of (is_at_hand store.now.kept object) (answer_of store.now.kept object) }
+{
+    if !store.is_at_hand(object) {
+        return None;
+    }
+    match store.last(object) {
+        Some(value) => Some(Ok(value)),
+        None => Some(Err(unpriced(object))),
+    }
+}
+
+// That an object has no last value. It stays apart, since most that are read have one.
+#[inline(never)]
+fn unpriced(object: ObjId) -> Cause
+    ensures { result ≡ Unpriced object }
+{
+    Cause::Unpriced(object)
+}
+
+// What an ask does next at a composite of these parts, of which the first were read. It reads on behind them.
+#[inline(always)]
+fn next_member(store: &Store, parts: &[Part], begun: &mut Begun) -> Step
+    requires range { ArePartsInRange parts.now }
+    requires read { HasRead store.now.kept parts.now begun.old.read begun.old.sum }
+    ensures object { begun.new.object ≡ begun.old.object }
+    ensures next { NextMember store.now.kept parts.now begun.new.sum result }
+    ensures read { HasRead store.now.kept parts.now begun.new.read begun.new.sum }
+{
+    let mut sum = begun.sum;
+    for at in begun.read..parts.len() {
+        let part = &parts[at];
+        match answer(store, part.member) {
+            Some(outcome) => match outcome {
+                Ok(value) => sum = sum_with(sum, part.weight, value),
+                Err(cause) => {
+                    begun.read = at;
+                    begun.sum = sum;
+                    return Step::Stops(cause);
+                }
+            },
+            None => {
+                begun.read = at;
+                begun.sum = sum;
+                return Step::First(part.member);
+            }
+        }
+    }
+    begun.read = parts.len();
+    begun.sum = sum;
+    Step::Ready
+}
+
+// A sum and a weight times the value of a member, which is nothing where it is no money.
+#[inline(always)]
+fn sum_with(sum: i128, weight: i64, value: &Value) -> i128
+    requires sum { unsigned_abs sum ≤ 4096 * 10 ^ 32 }
+    requires weight { unsigned_abs weight ≤ 1_000_000 }
+    ensures value { result ≡ sum +ℤ (weight *ℤ money_in (input_of value.now)) }
+    ensures bound { unsigned_abs result ≤ unsigned_abs sum + 10 ^ 32 }
+{
+    match value {
+        Value::Money(amount) => sum_of(sum, times(weight, *amount)),
+        Value::Curve(_) => sum,
+    }
+}
+
+// A weight times an amount.
+#[inline(always)]
+fn times(weight: i64, amount: Amount) -> i128
+    requires { unsigned_abs weight ≤ 1_000_000 }
+    ensures value { result ≡ weight *ℤ amount }
+    ensures bound { unsigned_abs result ≤ 10 ^ 32 }
+{
+    weight as i128 * amount.0
+}
+
+// A sum of products, and one product more. At most 4,096 of them are summed: 4.1 * 10^35 of the 1.7 * 10^38 that 128 bits hold.
+#[inline(always)]
+fn sum_of(sum: i128, product: i128) -> i128
+    requires sum { unsigned_abs sum ≤ 4096 * 10 ^ 32 }
+    requires product { unsigned_abs product ≤ 10 ^ 32 }
+    ensures value { result ≡ sum +ℤ product }
+    ensures bound { unsigned_abs result ≤ unsigned_abs sum + 10 ^ 32 }
+{
+    sum + product
+}
+
+// What an ask does next where a price takes these entries.
+#[inline(always)]
+fn next_entries(
+    alloc: Global,
+    store: &Store,
+    entries: &[Entry],
+    inputs: &mut InputList,
+) -> Result<Step, AllocError>
+    requires empty { inputs.old ≡ [] }
+    ensures { IfOk result (λ step. next_with inputs.new step ≡ next_of (is_at_hand store.now.kept) (answer_of store.now.kept) entries.now) }
+{
+    for at in 0..entries.len() {
+        match entries[at] {
+            Entry::Gives(rate) => inputs.push(Input::Rate(rate))?,
+            Entry::Refuses(cause) => return Ok(Step::Stops(cause)),
+            Entry::Needs(object) => match answer(store, object) {
+                Some(outcome) => match outcome {
+                    Ok(held) => push_value(alloc, held, inputs)?,
+                    Err(cause) => return Ok(Step::Stops(cause)),
+                },
+                None => return Ok(Step::First(object)),
+            },
+        }
+    }
+    Ok(Step::Ready)
+}
+
+// What an ask does next at a lazy object that is no composite. The inputs are those that its price takes, where it is ready.
+#[inline(always)]
+fn next(
+    market: &Market,
+    store: &Store,
+    scratch: &mut Scratch,
+    object: ObjId,
+    inputs: &mut InputList,
+) -> Result<Step, AllocError>
+    requires lazy { is_lazy_at (market_in market.now) object ≡ true }
+    requires kinds { IsKinded (market_in market.now) }
+    requires linked { IsLinked (market_in market.now) }
+    requires remembers { Remembers (market_in market.now) scratch.old.entries }
+    requires single { (parts : List Part) → terms_at (market_in market.now) object ≢ Some (Composite parts) }
+    ensures remembers { Remembers (market_in market.now) scratch.new.entries }
+    ensures next { IfOk result (λ step. next_with inputs.new step ≡ next_of (is_at_hand store.now.kept) (answer_of store.now.kept) (uses (market_in market.now) object)) }
+{
+    inputs.truncate(0);
+    let alloc = scratch.alloc();
+    match market.objects.own_terms(object) {
+        Terms::Stock { quote } => {
+            let entry = read(market, scratch, *quote)?;
+            next_entries(alloc, store, &[entry], inputs)
+        }
+        Terms::Implied { curve, .. } => {
+            let entry = read(market, scratch, *curve)?;
+            next_entries(alloc, store, &[entry], inputs)
+        }
+        Terms::Curve(curve) => {
+            let helpers = curve.helpers.items();
+            let entries = helper_entries(market, scratch, helpers)?;
+            next_entries(alloc, store, &entries, inputs)
+        }
+        Terms::Flows(flows, engine) => {
+            match only_entry(market, scratch, object, flows, *engine)? {
+                Some(entry) => next_entries(alloc, store, &[entry], inputs),
+                None => {
+                    let entries = flow_entries(market, scratch, object, flows, *engine)?;
+                    next_entries(alloc, store, &entries, inputs)
+                }
+            }
+        }
+        Terms::Composite(_)
+        | Terms::Quote(_)
+        | Terms::Derived { .. }
+        | Terms::Handle { .. }
+        | Terms::Index(..)
+        | Terms::Engine { .. } => unreachable!(),
     }
 }
 

@@ -1,4 +1,4 @@
-// Numbers that stand for objects, for names and for actions. A clause sees each as its number.
+// Numbers that stand for objects and for actions. A clause sees each as its number.
 ghost use Rattle.std.specs.Prelude.{◌≡◌};
 
 use std::marker::Model;
@@ -21,31 +21,6 @@ impl Model for ObjId {
 
 impl ObjId {
     /// The object's place in a list that holds one item for each number given.
-    pub fn place(self) -> usize
-        ensures { result ≡ self }
-    {
-        self.0 as usize
-    }
-}
-
-/// The number of a name: its place among the names of a session.
-#[derive(Clone, Copy, Debug, PartialEq, Eq, PartialOrd, Ord)]
-pub struct NameId(pub u32);
-
-impl Model for NameId {
-    ghost use Rattle.std.specs.Prelude.{ℕ, ◌<◌, ◌^◌};
-
-    ghost Value = { ℕ };
-
-    ghost view = { λ n. n.0 };
-
-    ghost invariant = { λ n. n.0 < 2 ^ 32 };
-
-    ghost inverse = { λ number. record { 0 = number } };
-}
-
-impl NameId {
-    /// The name's place among the names.
     pub fn place(self) -> usize
         ensures { result ≡ self }
     {

@@ -9,8 +9,8 @@ mod name_list;
 mod names;
 mod path_text;
 
-pub use ids::{ActionId, NameId, ObjId};
+pub use ids::{ActionId, ObjId};
 pub use name::is_name;
 pub use name_list::NameList;
-pub use names::{MOST_NAMES, NameFault, Names};
+pub use names::{MOST_NAMES, NameFault, NameId, Names};
 pub use path_text::PathText;

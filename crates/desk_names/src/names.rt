@@ -4,7 +4,7 @@ ghost use Rattle.desk_names.specs.declared.names.NameFault.TheVariants.{NoMemory
 ghost use Rattle.desk_names.specs.Name.{is_name, IsName};
 ghost use Rattle.desk_names.specs.Names.{has_text, with_text, place_of, most_names, IsNames};
 
-use crate::{NameId, is_name};
+use crate::is_name;
 use indexmap::IndexSet;
 use std::alloc::{AllocError, AllocFailed, Global};
 use std::marker::Model;
@@ -12,6 +12,31 @@ use thiserror::Error;
 
 /// How many names a session may have.
 pub const MOST_NAMES: u32 = 65_536;
+
+/// The number of a name: its place among the names of a session.
+#[derive(Clone, Copy, Debug, PartialEq, Eq, PartialOrd, Ord)]
+pub struct NameId(pub u32);
+
+impl Model for NameId {
+    ghost use Rattle.std.specs.Prelude.{ℕ, ◌<◌, ◌^◌};
+
+    ghost Value = { ℕ };
+
+    ghost view = { λ n. n.0 };
+
+    ghost invariant = { λ n. n.0 < 2 ^ 32 };
+
+    ghost inverse = { λ number. record { 0 = number } };
+}
+
+impl NameId {
+    /// The name's place among the names.
+    pub fn place(self) -> usize
+        ensures { result ≡ self }
+    {
+        self.0 as usize
+    }
+}
 
 /// Why a text got no number.
 #[derive(Clone, Copy, Debug, Error, PartialEq, Eq)]

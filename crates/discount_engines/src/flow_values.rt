@@ -9,7 +9,7 @@ ghost use Rattle.cash_flow_legs.specs.Live.{needs_curve};
 ghost use Rattle.discount_engines.specs.Money.{as_money};
 ghost use Rattle.discount_engines.specs.Flows.{flows_price, value_over};
 
-use crate::money::money_of;
+use crate::prices::money_of;
 use crate::worths::worth;
 use curve_points::{CurveValue, ONE};
 use day_number::Day;

@@ -8,7 +8,6 @@
 mod faults;
 mod flow_values;
 mod laws;
-mod money;
 mod prices;
 mod worths;
 

@@ -3,17 +3,21 @@ ghost use Rattle.std.specs.Prelude.{◌≡◌, ◌≤◌, ◌^◌, ◌*ℤ◌, l
 ghost use Rattle.fixed_amount.specs.Rounding.{closest};
 ghost use Rattle.desk_terms.specs.Reading.{reading_of, IsWellFormed, Fits};
 ghost use Rattle.discount_engines.specs.Money.{as_money, money_of};
+ghost use Rattle.desk_terms.specs.declared.cause.Cause.TheVariants.{TooLarge};
 ghost use Rattle.discount_engines.specs.Stock.{stock_price};
 ghost use Rattle.discount_engines.specs.Composite.{product, weighted, composite_price};
 ghost use Rattle.discount_engines.specs.Price.{instrument_price, answer_of};
 
 use crate::PriceFault;
 use crate::flow_values::flows_price;
-use crate::money::{money_of, sum_of};
+use crate::worths::sum_of;
 use desk_names::ObjId;
 use desk_terms::{Cause, Input, Job, Part, Terms, Value};
 use fixed_amount::{Amount, Rate, Rounding, div_round};
 use std::alloc::Global;
+
+// The most units of a price, either way.
+const MOST_UNITS: i128 = 1_000_000_000_000_000_000_000_000;
 
 // How many units of a rate make one unit of an amount.
 const RATE_UNITS: i128 = 1000;
@@ -147,4 +151,24 @@ fn times(weight: i64, amount: Amount) -> i128
     ensures bound { unsigned_abs result ≤ 10 ^ 32 }
 {
     weight as i128 * amount.0
+}
+
+/// Money in the limits, or the refusal.
+#[inline(always)]
+pub(crate) fn money_of(object: ObjId, units: i128) -> Result<Amount, Cause>
+    ensures { as_money result ≡ money_of object units }
+{
+    if units >= -MOST_UNITS && units <= MOST_UNITS {
+        Ok(Amount(units))
+    } else {
+        Err(too_large(object))
+    }
+}
+
+// That the price of an object is too large. It stays apart, since most prices are not.
+#[inline(never)]
+fn too_large(object: ObjId) -> Cause
+    ensures { result ≡ TooLarge object }
+{
+    Cause::TooLarge(object)
 }

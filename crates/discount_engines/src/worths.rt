@@ -1,5 +1,5 @@
 // What flows are worth over a discount curve: the exact sum of amount times discount factor.
-ghost use Rattle.std.specs.Prelude.{◌≡◌, ◌≤◌, ◌*◌, ◌^◌, ◌*ℤ◌, true, length, IsSome, IfOk, unsigned_abs, option_copied};
+ghost use Rattle.std.specs.Prelude.{◌≡◌, ◌≤◌, ◌+◌, ◌*◌, ◌^◌, ◌+ℤ◌, ◌*ℤ◌, true, length, IsSome, IfOk, unsigned_abs, option_copied};
 ghost use Rattle.std.specs.List.{All, filter};
 ghost use Rattle.jiff_core.specs.Calendar.{IsWithin};
 ghost use Rattle.flow_terms.specs.Flows.{fixed_on};
@@ -9,7 +9,6 @@ ghost use Rattle.cash_flow_legs.specs.Amount.{views_of, is_forecast_of, amount_o
 ghost use Rattle.cash_flow_legs.specs.Live.{needs_curve, is_live};
 ghost use Rattle.discount_engines.specs.Worth.{factor_on, discounted, where_live, worth};
 
-use crate::money::sum_of;
 use cash_flow_legs::{amount_of, is_live};
 use curve_points::{CurveValue, discount_near};
 use day_number::Day;
@@ -97,4 +96,15 @@ fn wide(factor: Discount) -> i128
     ensures size { unsigned_abs result ≤ 4 * 10 ^ 12 }
 {
     i128::from(factor.units())
+}
+
+/// A sum of products, and one product more. No product is beyond an amount of 10^22 units at a discount factor of 4, nor
+/// a sum beyond 1,602 of them: 6.5 * 10^37 of the 1.7 * 10^38 that 128 bits hold.
+pub(crate) fn sum_of(sum: i128, units: i128) -> i128
+    requires sum { unsigned_abs sum ≤ 1602 * (4 * 10 ^ 34) }
+    requires units { unsigned_abs units ≤ 4 * 10 ^ 34 }
+    ensures value { result ≡ sum +ℤ units }
+    ensures bound { unsigned_abs result ≤ unsigned_abs sum + unsigned_abs units }
+{
+    sum + units
 }

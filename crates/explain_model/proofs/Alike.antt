@@ -19,7 +19,7 @@ use Rattle.desk_model.specs.Unheld.{HoldsNothing}
 use Rattle.desk_model.proofs.Unheld.{unheld_afresh}
 use Rattle.session_commands.specs.declared.command.Command.{Command}
 use Rattle.session_commands.specs.declared.refusal.Refusal.{Refusal}
-use Rattle.watch_rounds.specs.declared.due.DueWatcher.{DueWatcher}
+use Rattle.watch_rounds.specs.declared.rounds.DueWatcher.{DueWatcher}
 use Rattle.watch_rounds.specs.declared.picker.Order.{Order}
 use Rattle.watch_rounds.specs.Round.{watcher_at}
 use Rattle.session_model.specs.declared.act.Act.{Act}

@@ -1,6 +1,6 @@
 -- The rounds that the rows are played on.
 use Rattle.std.specs.Prelude.{◌≡◌, ◌==◌, ℕ, Bool, not, if◌then◌else◌, length}
-use Rattle.watch_rounds.specs.declared.due.DueWatcher.{DueWatcher}
+use Rattle.watch_rounds.specs.declared.rounds.DueWatcher.{DueWatcher}
 use Rattle.graph_vectors.specs.declared.watched.Watched.{Watched}
 
 -- as many names and watchers have room as it says

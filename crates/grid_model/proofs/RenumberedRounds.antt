@@ -17,7 +17,7 @@ use Rattle.price_report.specs.Namer.{name_text}
 use Rattle.session_commands.specs.declared.command.Command.{Command}
 use Rattle.session_commands.specs.declared.refusal.Refusal.{Refusal}
 use Rattle.session_commands.specs.Whole.{IsCommand}
-use Rattle.watch_rounds.specs.declared.due.DueWatcher.{DueWatcher}
+use Rattle.watch_rounds.specs.declared.rounds.DueWatcher.{DueWatcher}
 use Rattle.watch_rounds.specs.declared.picker.Order.{Order}
 use Rattle.session_model.specs.declared.act.Act.{Act}
 use Rattle.session_model.specs.declared.act.Act.TheVariants as act

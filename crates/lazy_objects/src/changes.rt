@@ -1,13 +1,14 @@
-// Changes of the objects of a session: what is made, set, linked, taken out, watched, frozen and held back.
-ghost use Rattle.std.specs.Prelude.{◌≡◌, ◌≢◌, ◌↔◌, ℕ, ℤ, List, Option, Err, ◌⊎◌, ◌<◌, ◌^◌, ◌==◌, not, if◌then◌else◌, true, false, pos, Some, None, length, IsOk, IfOk, OnOk, OnErr, ◌≤◌, unsigned_abs, slice_index_or};
-ghost use Rattle.desk_terms.specs.Reading.{Calc, AreInRange};
+// The calls of the objects of a session that change something, or may: what is made, set, linked, taken out, watched, told,
+// frozen, held back and computed.
+ghost use Rattle.std.specs.Prelude.{◌≡◌, ◌≢◌, ◌↔◌, ℕ, ℤ, List, Option, Err, ◌⊎◌, ◌<◌, ◌^◌, ◌==◌, not, if◌then◌else◌, true, false, pos, Some, None, length, IsOk, IfOk, OnOk, OnErr, ◌≤◌, unsigned_abs, slice_index_or, ◌||◌, [], ◌∷◌, is_some, IfSome, IfNone};
+ghost use Rattle.desk_terms.specs.Reading.{Calc, AreInRange, IsFitting};
 ghost use Rattle.desk_model.specs.Market.{kind_at, terms_at, slot_at, is_given, is_watcher, is_observable, least_user};
 ghost use Rattle.desk_model.specs.Told.{is_registered};
-ghost use Rattle.desk_model.specs.Uses.{index_at, fixings_in};
-ghost use Rattle.desk_model.specs.State.{kept_at};
+ghost use Rattle.desk_model.specs.Uses.{index_at, fixings_in, input_at};
+ghost use Rattle.desk_model.specs.State.{kept_at, held_outcome, is_frozen, is_late, least_source};
 ghost use Rattle.desk_model.specs.Sound.{IsSound, KeepsCurrent};
-ghost use Rattle.desk_model.specs.Links.{AreOfKind, Serve, is_lazy_at, reaches, serves_as, CanTell};
-ghost use Rattle.desk_model.specs.Effect.{made, quote_set, relinked, engine_set, member_set, fixing_added, today_set, dropped, watching, registered_with, unregistered, frozen_set, thawed, forward_set, deferred, resumed, with_terms, revised, notified};
+ghost use Rattle.desk_model.specs.Links.{AreOfKind, Serve, is_lazy_at, reaches, serves_as, CanTell, IsValued};
+ghost use Rattle.desk_model.specs.Effect.{made, quote_set, relinked, engine_set, member_set, fixing_added, today_set, dropped, watching, registered_with, unregistered, frozen_set, thawed, forward_set, deferred, resumed, with_terms, revised, notified, handed_out};
 ghost use Rattle.desk_terms.specs.declared.kind.Kind.TheVariants.{Quote, Index, Composite, Flows};
 ghost use Rattle.desk_terms.specs.declared.kind.Wanted.TheVariants.{Member, Engine};
 ghost use Rattle.desk_terms.specs.Terms.{optional_reference};
@@ -28,6 +29,10 @@ ghost use Rattle.desk_model.specs.declared.slot.Slot.TheVariants.{Live, Free};
 ghost use Rattle.object_store.specs.Market.{market_in, state_in};
 ghost use Rattle.object_store.specs.Shape.{registrations_of, IsJoined};
 ghost use Rattle.object_store.specs.Store.{HasNoMarkWhereOff};
+ghost use Rattle.desk_terms.specs.declared.value.Value as priced;
+ghost use Rattle.ask_walk.specs.Asks.{Asks, Stops, AnswersIdly, held_answer};
+ghost use Rattle.desk_terms.specs.declared.kind.Kind.TheVariants as kind;
+ghost use Rattle.desk_terms.specs.declared.terms.Terms.TheVariants as terms;
 
 use crate::Desk;
 use crate::links::{link_of, watch_instead};
@@ -35,8 +40,9 @@ use crate::room::make_room;
 use crate::weights::{has_weight, place_of, weigh};
 use ask_walk::Recalced;
 use day_number::Day;
+use desk_model::Entry;
 use desk_names::ObjId;
-use desk_terms::{Bench, FixFault, Terms};
+use desk_terms::{Asked, Bench, FixFault, Terms, Value};
 use fixed_amount::Rate;
 use object_store::{Market, Store, TODAY, engine_of, parts_of, watched};
 use std::alloc::AllocError;
@@ -336,6 +342,85 @@ impl Desk {
         ensures sound { IsSound (B.calc bench.old) self.new }
     {
         self.books.recalc(&self.market, object, bench)
+    }
+
+    /// The first by creation of the watchers that were told and not handed out since, each once however often it was
+    /// told; it is forgotten, so that only a later change tells it again. None where there is none. It takes no memory.
+    pub fn next_told(&mut self) -> Option<ObjId>
+        ensures none { IfNone result ((self.old.noticed ≡ []) × (self.new ≡ self.old)) }
+        ensures some { IfSome result (λ watcher. (self.old.noticed ≡ watcher ∷ self.new.noticed)
+            × (self.new ≡ record self.old { noticed = self.new.noticed })) }
+        ensures handed { IfSome result (λ watcher. self.new ≡ handed_out watcher self.old) }
+        ensures watcher { IfSome result (λ watcher. is_watcher (slot_at self.old.market watcher) ≡ true) }
+        ensures keeps { KeepsCurrent self.old self.new }
+        ensures sound { (calc : Calc) → IsSound calc self.old → IsSound calc self.new }
+    {
+        self.books.store.next_told()
+    }
+
+    /// Asks a lazy object. It computes only what it uses and has no current value. Where memory is wanting, what was
+    /// computed before stays.
+    pub fn ask<B: Bench>(&mut self, object: ObjId, bench: &mut B) -> Result<Asked, AllocError>
+        requires lazy { is_lazy_at self.old.market object ≡ true }
+        requires sound { IsSound (B.calc bench.old) self.old }
+        ensures same { B.calc bench.new ≡ B.calc bench.old }
+        ensures asks { IfOk result (λ answer. Asks (B.calc bench.old) object self.old self.new answer
+            (B.count bench.old) (B.count bench.new) (B.log bench.old) (B.log bench.new)) }
+        ensures stops { OnErr result (Stops (B.calc bench.old) object self.old self.new
+            (B.count bench.old) (B.count bench.new) (B.log bench.old) (B.log bench.new)) }
+        // No memory is wanted for an object that is frozen, late or current.
+        ensures ready { (held_outcome self.old object ≢ None) ⊎ ((kept_at self.old object).current ≡ true) → IsOk result }
+        ensures few { IfOk result (λ answer. answer.runs < 2 ^ 17) }
+        // The last value is one that the object may have.
+        ensures valued { (value : priced.Value) → (kept_at self.new object).last ≡ Some value → IsValued (terms_at self.new.market object) object value }
+        ensures sound { IsSound (B.calc bench.old) self.new }
+    {
+        self.books.ask(&self.market, object, bench)
+    }
+
+    /// What an ask answers of an object that is frozen, late or current: its last value, or that it has none. None exactly
+    /// where the object is none of these. Nothing is computed, and it takes no memory.
+    pub fn ask_held(&mut self, object: ObjId) -> Option<Asked>
+        requires lazy { is_lazy_at self.old.market object ≡ true }
+        ensures answer { result ≡ held_answer self.old object }
+        ensures none { is_some result ≡ (is_frozen self.old object || (is_late self.old object || (kept_at self.old object).current)) }
+        // It is what an ask answers, of every bench for which the desk is sound.
+        ensures asks { (calc : Calc) → IsFitting calc → IsSound calc self.old → IfSome result (AnswersIdly calc object self.old) }
+        ensures same { self.new ≡ self.old }
+    {
+        self.books.ask_held(object)
+    }
+
+    /// The least deferred source that makes an object late, if any does. It takes no memory.
+    pub fn late(&mut self, object: ObjId) -> Option<ObjId>
+        requires lazy { is_lazy_at self.old.market object ≡ true }
+        ensures answer { result ≡ least_source self.old object }
+        ensures same { self.new ≡ self.old }
+    {
+        self.books.store.late(object)
+    }
+
+    /// Whether an object is another, or lies above it: it names it, or an object above it.
+    pub fn reaches(&mut self, from: ObjId, to: ObjId) -> bool
+        ensures answer { result ≡ ((from == to) || reaches self.old.market from to) }
+        ensures same { self.new ≡ self.old }
+    {
+        if from == to {
+            return true;
+        }
+        if !self.books.store.has(from) || !self.books.store.has(to) {
+            return false;
+        }
+        self.books.store.reaches(from, to)
+    }
+
+    /// What an object gives where another names it: a quote its rate, a handle what its target gives, a lazy object itself.
+    pub fn given(&mut self, object: ObjId) -> Result<Entry, AllocError>
+        requires within { object < length self.old.market.objects }
+        ensures entry { IfOk result (λ entry. entry ≡ input_at self.old.market object) }
+        ensures same { self.new ≡ self.old }
+    {
+        self.books.given(&self.market, object)
     }
 }
 

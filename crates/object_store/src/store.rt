@@ -320,20 +320,22 @@ impl Store {
         self.deferral.late(object)
     }
 
-    /// How an answer of an object stands: frozen, late, held or fresh. It costs what lies beneath; nothing where no object
-    /// is frozen or holds its notice back.
+    /// How an ask meets an object: the mark of its answer (frozen, late, held or fresh), and whether its value is current. It
+    /// costs what lies beneath; nothing where no object is frozen or holds its notice back.
     #[inline(always)]
-    pub fn mark(&mut self, object: ObjId) -> Mark
+    pub fn met(&mut self, object: ObjId) -> (Mark, bool)
         requires { is_some (role_at self.old.shape object) ≡ true }
-        ensures answer { IsMarkOf self.old object result }
+        ensures mark { IsMarkOf self.old object result.0 }
+        ensures current { result.1 ≡ is_now self.old.kept object }
         ensures same { self.new ≡ self.old }
     {
-        match self.deferral.graph.standing(object) {
+        let mark = match self.deferral.graph.standing(object) {
             Standing::Frozen => Mark::Frozen,
             Standing::Late => Mark::Late,
             Standing::Held => Mark::Held,
             Standing::Clear => Mark::Fresh,
-        }
+        };
+        (mark, self.deferral.graph.is_current(object))
     }
 }
 

@@ -8,7 +8,7 @@ ghost use Rattle.observer_graph.specs.Noticed.{IsRising};
 ghost use Rattle.observer_graph.specs.Change.{AddsNode, AddsPair, TakesPair, TakesNode, flagged, with_node, with_flags, with_source, without_source};
 
 use crate::beneath::{is_frozen, recounted};
-use crate::node::{Flags, Node, Role, Standing, takes_flags};
+use crate::node::{Flags, Node, Role, Standing};
 use crate::node_set::NodeSet;
 use crate::pairs::Pairs;
 use crate::rising::{reserve_for, take_out};
@@ -245,7 +245,7 @@ impl Graph {
         ensures { IsTrue result ↔ IsLazy (node_at self.now node) }
     {
         match self.nodes.get(node.place()) {
-            Some(Some(live)) => takes_flags(live.role),
+            Some(Some(live)) => live.role == Role::Lazy,
             Some(None) => false,
             None => false,
         }

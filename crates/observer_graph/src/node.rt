@@ -1,5 +1,5 @@
 // What a graph knows of one node.
-ghost use Rattle.std.specs.Prelude.{◌≡◌, ◌↔◌, IsTrue};
+ghost use Rattle.std.specs.Prelude.{◌↔◌, IsTrue};
 ghost use Rattle.observer_graph.specs.declared.node.Role.TheVariants.{Lazy, Watcher};
 ghost use Rattle.observer_graph.specs.GraphView.{IsWatcher};
 
@@ -52,30 +52,6 @@ pub fn is_watcher(node: &Option<Node>) -> bool
 {
     match node {
         None => false,
-        Some(live) => watches(live.role),
-    }
-}
-
-/// Whether a node in this role is a watcher.
-pub fn watches(role: Role) -> bool
-    ensures { IsTrue result ↔ (role ≡ Watcher) }
-{
-    match role {
-        Role::Source => false,
-        Role::Forwarder => false,
-        Role::Lazy => false,
-        Role::Watcher => true,
-    }
-}
-
-/// Whether a node in this role has flags.
-pub fn takes_flags(role: Role) -> bool
-    ensures { IsTrue result ↔ (role ≡ Lazy) }
-{
-    match role {
-        Role::Source => false,
-        Role::Forwarder => false,
-        Role::Lazy => true,
-        Role::Watcher => false,
+        Some(live) => live.role == Role::Watcher,
     }
 }

@@ -14,7 +14,7 @@ ghost use Rattle.observer_graph.specs.Telling.{IsDone, IsFirstPair, Spreads};
 ghost use Rattle.observer_graph.specs.Turns.{IsFree, IsMarkedBelow};
 ghost use Rattle.observer_graph.specs.Walks.{graph_of};
 
-use crate::node::{Flags, Node, Role, takes_flags, watches};
+use crate::node::{Flags, Node, Role};
 use crate::node_set::NodeSet;
 use crate::rising::put_in;
 use desk_names::ObjId;
@@ -324,7 +324,7 @@ fn take_notice(node: &mut Option<Node>, told: ObjId, noticed: &mut VecDeque<ObjI
     match node {
         None => false,
         Some(live) => {
-            if takes_flags(live.role) {
+            if live.role == Role::Lazy {
                 let goes_on = passes_lazy(&live.flags);
                 live.flags.current = false;
                 goes_on
@@ -348,7 +348,7 @@ fn take_live(live: &mut Node, told: ObjId, noticed: &mut VecDeque<ObjId>) -> boo
 {
     let goes_on = passes(live);
     live.flags.current = false;
-    if watches(live.role) {
+    if live.role == Role::Watcher {
         put_in(noticed, told);
     }
     goes_on

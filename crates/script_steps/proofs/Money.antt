@@ -32,7 +32,7 @@ use Rattle.session_model.specs.Resolve.{find, with_found, resolve}
 use Rattle.session_model.specs.Standing.{Standing}
 use Rattle.session_model.specs.Turn.{done_as, effect_of, step, turn}
 use Rattle.session_core.specs.Values.{value_found, is_current_found}
-use Rattle.watch_rounds.specs.declared.due.DueWatcher.{DueWatcher}
+use Rattle.watch_rounds.specs.declared.rounds.DueWatcher.{DueWatcher}
 use Rattle.grid_model.specs.Scenario.{ordered, money_in, money_of, money_shown}
 use Rattle.script_steps.specs.Kept.{money_in_value, money_kept}
 

@@ -11,7 +11,7 @@ use Rattle.desk_model.proofs.Unheld.{others_hold_nothing, unheld_afresh, start_u
 use Rattle.session_commands.specs.declared.command.Command.{Command}
 use Rattle.session_commands.specs.declared.command.Command.TheVariants as command
 use Rattle.session_commands.specs.declared.refusal.Refusal.{Refusal}
-use Rattle.watch_rounds.specs.declared.due.DueWatcher.{DueWatcher}
+use Rattle.watch_rounds.specs.declared.rounds.DueWatcher.{DueWatcher}
 use Rattle.watch_rounds.specs.Round.{watcher_at}
 use Rattle.session_model.specs.declared.act.Act.{Act}
 use Rattle.session_model.specs.Afresh.{holds_nothing, Answers, AreAskedAfresh}

@@ -7,7 +7,7 @@ use Rattle.std.proofs.lemmas.Option.{slice_get_cases}
 use Rattle.walks.specs.Walk.{Among}
 use Rattle.desk_model.specs.Market.{slot_at, is_watcher}
 use Rattle.session_commands.specs.declared.command.Command.{Command}
-use Rattle.watch_rounds.specs.declared.due.DueWatcher.{DueWatcher}
+use Rattle.watch_rounds.specs.declared.rounds.DueWatcher.{DueWatcher}
 use Rattle.watch_rounds.specs.Due.{AreAll}
 use Rattle.watch_rounds.specs.Round.{Round, MayRun, blank, runs_left, tally_at, watcher_at}
 use Rattle.watch_rounds.specs.Course.{Start, starts}

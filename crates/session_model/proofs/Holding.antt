@@ -7,7 +7,7 @@ use Rattle.desk_terms.specs.Reading.{Calc}
 use Rattle.desk_model.specs.Market.{slot_at, is_watcher}
 use Rattle.desk_model.specs.Told.{is_watching}
 use Rattle.session_commands.specs.declared.command.Command.{Command}
-use Rattle.watch_rounds.specs.declared.due.DueWatcher.{DueWatcher}
+use Rattle.watch_rounds.specs.declared.rounds.DueWatcher.{DueWatcher}
 use Rattle.watch_rounds.specs.Due.{AreAll, IsOnly}
 use Rattle.watch_rounds.specs.Round.{watcher_at, with_notice, with_run}
 use Rattle.watch_rounds.specs.Course.{Start, starts}

@@ -1,7 +1,7 @@
 -- A round leaves the names.
 use Rattle.std.proofs.Common.{◌≡◌, ℕ, zero, suc, List, [], ◌∷◌, refl, ◌∙◌}
 use Rattle.session_commands.specs.declared.command.Command.{Command}
-use Rattle.watch_rounds.specs.declared.due.DueWatcher.{DueWatcher}
+use Rattle.watch_rounds.specs.declared.rounds.DueWatcher.{DueWatcher}
 use Rattle.watch_rounds.specs.Round.{watcher_at}
 use Rattle.session_model.specs.Turn.{turn}
 use Rattle.session_model.specs.Course.{Running, Meaning, Course, and_then, notice, noticed, heard, taken, all_handed_out, course_of, course_of_all, chosen, begun, action_of, run, unless_none, runs_by, most_runs, opened, round_of}

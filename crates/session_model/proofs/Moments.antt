@@ -3,7 +3,7 @@ use Rattle.std.proofs.Common.{◌≡◌, ℕ, zero, suc, Bool, List, [], ◌∷�
 use Rattle.std.proofs.lemmas.List.{append_assoc, append-nil}
 use Rattle.desk_terms.specs.Reading.{Calc}
 use Rattle.session_commands.specs.declared.command.Command.{Command}
-use Rattle.watch_rounds.specs.declared.due.DueWatcher.{DueWatcher}
+use Rattle.watch_rounds.specs.declared.rounds.DueWatcher.{DueWatcher}
 use Rattle.watch_rounds.specs.Round.{watcher_at}
 use Rattle.session_model.specs.Turn.{turn}
 use Rattle.session_model.specs.Course.{Running, Meaning, Course, quiet, taken, notice, noticed, heard, all_handed_out, and_then, course_of, course_of_all, chosen, begun, action_of, run, unless_none, runs_by, most_runs, opened, round_of}

@@ -6,7 +6,7 @@ use Rattle.desk_model.specs.State.{State}
 use Rattle.desk_model.specs.Told.{is_watching}
 use Rattle.session_commands.specs.declared.command.Command.{Command}
 use Rattle.price_report.specs.Line.{over_line}
-use Rattle.watch_rounds.specs.declared.due.DueWatcher.{DueWatcher}
+use Rattle.watch_rounds.specs.declared.rounds.DueWatcher.{DueWatcher}
 use Rattle.watch_rounds.specs.declared.notice.Notice.{Notice}
 use Rattle.watch_rounds.specs.declared.notice.Notice.TheVariants as notices
 use Rattle.watch_rounds.specs.Round.{Round, no_round, notice_of, tally_at, with_notice, watcher_at, with_run}

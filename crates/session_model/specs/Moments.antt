@@ -2,7 +2,7 @@
 use Rattle.std.specs.Prelude.{◌≡◌, ℕ, zero, suc, Bool, List, [], ◌∷◌, ◌++◌}
 use Rattle.desk_terms.specs.Reading.{Calc}
 use Rattle.session_commands.specs.declared.command.Command.{Command}
-use Rattle.watch_rounds.specs.declared.due.DueWatcher.{DueWatcher}
+use Rattle.watch_rounds.specs.declared.rounds.DueWatcher.{DueWatcher}
 use Rattle.watch_rounds.specs.Round.{watcher_at}
 use Rattle.session_model.specs.Standing.{Standing}
 use Rattle.session_model.specs.Turn.{turn}

@@ -3,7 +3,7 @@ use Rattle.std.proofs.Common.{◌≡◌, ℕ, zero, suc, ◌-◌, Option, Some, 
 use Rattle.std.specs.Prelude.{slice_get, IfSome, IfNone, max}
 use Rattle.std.proofs.lemmas.List.{length-replicate}
 use Rattle.std.proofs.lemmas.Option.{slice_get-get_or}
-use Rattle.watch_rounds.specs.declared.due.DueWatcher.{DueWatcher}
+use Rattle.watch_rounds.specs.declared.rounds.DueWatcher.{DueWatcher}
 use Rattle.watch_rounds.specs.declared.tally.Tally.{Tally}
 use Rattle.watch_rounds.specs.declared.notice.Notice.{Notice}
 use Rattle.watch_rounds.specs.declared.notice.Notice.TheVariants as notices

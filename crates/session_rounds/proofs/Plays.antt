@@ -4,7 +4,7 @@ use Rattle.std.specs.Prelude.{slice_get, slice_index_or, ◌==◌, if◌then◌e
 use Rattle.std.proofs.lemmas.Bool.{ne_eqb, true≢false}
 use Rattle.std.proofs.lemmas.List.{length-replicate}
 use Rattle.session_commands.specs.declared.command.Command.{Command}
-use Rattle.watch_rounds.specs.declared.due.DueWatcher.{DueWatcher}
+use Rattle.watch_rounds.specs.declared.rounds.DueWatcher.{DueWatcher}
 use Rattle.watch_rounds.specs.Round.{Round, blank, runs_left, watcher_at, watcher_of, with_run}
 use Rattle.watch_rounds.proofs.Stays.{nobody_ran}
 use Rattle.session_model.specs.Standing.{name_of}

@@ -34,7 +34,7 @@ use Rattle.session_model.specs.Standing.{Standing, is_full, object_named}
 use Rattle.session_model.specs.Resolve.{find, with_found, unless, unless_kept, unless_late, unless_taken, rate_at, joins, closes, making, quote_input, member, curve, index, engine, target_of, handle_kind, engaging, combining, pairing, resolve}
 use Rattle.session_model.specs.Resolve as resolved
 use Rattle.session_model.specs.Turn.{step, effect_of, done_as, turn}
-use Rattle.watch_rounds.specs.declared.due.DueWatcher.{DueWatcher}
+use Rattle.watch_rounds.specs.declared.rounds.DueWatcher.{DueWatcher}
 use Rattle.watch_rounds.proofs.Places.{all_map}
 use Rattle.session_rounds.specs.Fits.{AreWatching, may_idle}
 

@@ -5,7 +5,7 @@ use Rattle.std.proofs.lemmas.Bool.{true≢false}
 use Rattle.std.proofs.lemmas.List.{append_assoc, append-nil}
 use Rattle.desk_terms.specs.Reading.{Outcome, Calc}
 use Rattle.session_commands.specs.declared.command.Command.{Command}
-use Rattle.watch_rounds.specs.declared.due.DueWatcher.{DueWatcher}
+use Rattle.watch_rounds.specs.declared.rounds.DueWatcher.{DueWatcher}
 use Rattle.watch_rounds.specs.Round.{runs_left, watcher_at}
 use Rattle.session_model.specs.Standing.{Standing}
 use Rattle.session_model.specs.Turn.{turn}

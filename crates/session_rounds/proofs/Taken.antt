@@ -8,7 +8,7 @@ use Rattle.desk_terms.specs.Reading.{Outcome, Calc}
 use Rattle.desk_model.specs.Told.{is_watching}
 use Rattle.session_commands.specs.declared.command.Command.{Command}
 use Rattle.session_commands.specs.declared.refusal.Refusal.{Refusal}
-use Rattle.watch_rounds.specs.declared.due.DueWatcher.{DueWatcher}
+use Rattle.watch_rounds.specs.declared.rounds.DueWatcher.{DueWatcher}
 use Rattle.watch_rounds.specs.Due.{AreAll}
 use Rattle.watch_rounds.proofs.Places.{all_filtered}
 use Rattle.session_model.specs.Standing.{Standing}

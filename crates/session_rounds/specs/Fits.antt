@@ -6,7 +6,7 @@ use Rattle.desk_model.specs.Told.{is_watching}
 use Rattle.session_commands.specs.declared.command.Command.{Command}
 use Rattle.session_commands.specs.declared.command.Command.TheVariants as command
 use Rattle.watch_rounds.specs.Due.{AreAll}
-use Rattle.watch_rounds.specs.declared.due.DueWatcher.{DueWatcher}
+use Rattle.watch_rounds.specs.declared.rounds.DueWatcher.{DueWatcher}
 use Rattle.session_model.specs.Standing.{Standing, name_of, IsKnown}
 use Rattle.session_model.specs.Course.{Running}
 

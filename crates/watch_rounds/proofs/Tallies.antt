@@ -8,7 +8,7 @@ use Rattle.std.proofs.lemmas.List.Sums.{sum_by-set, sum_by-append, sum_by-cons}
 use Rattle.std.proofs.lemmas.List.Folds.{sum_by-replicate}
 use Rattle.watch_rounds.specs.declared.tally.Tally.{Tally}
 use Rattle.std.proofs.lemmas.Option.{slice_get-get_or}
-use Rattle.watch_rounds.specs.declared.due.DueWatcher.{DueWatcher}
+use Rattle.watch_rounds.specs.declared.rounds.DueWatcher.{DueWatcher}
 use Rattle.watch_rounds.specs.declared.notice.Notice.{Notice}
 use Rattle.watch_rounds.specs.declared.notice.Notice.TheVariants as notice
 use Rattle.watch_rounds.specs.Round.{Round, blank, one_more, left_in, runs_left, tally_at, notice_of, with_notice, with_notice_as, with_run}

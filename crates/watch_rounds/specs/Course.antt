@@ -1,6 +1,6 @@
 -- What happens in a round, and how often a name runs in it.
 use Rattle.std.specs.Prelude.{ℕ, ◌+◌, ◌<◌, ◌≤◌, ◌==◌, if◌then◌else◌, List, [], ◌∷◌, length, slice_get, Option, Some, None}
-use Rattle.watch_rounds.specs.declared.due.DueWatcher.{DueWatcher}
+use Rattle.watch_rounds.specs.declared.rounds.DueWatcher.{DueWatcher}
 use Rattle.watch_rounds.specs.Due.{IsOnly}
 use Rattle.watch_rounds.specs.Round.{Round, no_round, with_notice, with_run, gone}
 

@@ -6,7 +6,6 @@
 //! and `rows` have no body: their contracts are what is proved.
 #![tactic(auto)]
 
-mod due;
 mod laws;
 mod notice;
 mod picker;
@@ -14,11 +13,10 @@ mod rounds;
 mod rows;
 mod tally;
 
-pub use due::DueWatcher;
 pub use laws::a_name_runs_at_most_eight_times;
 pub use notice::Notice;
 pub use picker::{Order, Picker};
-pub use rounds::Rounds;
+pub use rounds::{DueWatcher, Rounds};
 pub use rows::{
     due_watchers_are_worked_through, eight_runs_are_worked_through, picks_are_worked_through,
 };

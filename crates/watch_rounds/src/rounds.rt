@@ -1,11 +1,11 @@
 // The due watchers of a round, and the runs of each name.
 ghost use Rattle.std.specs.Prelude.{◌≡◌, ℕ, true, ◌+◌, ◌<◌, ◌≤◌, ◌*◌, ◌==◌, length, OnOk, OnErr, OnSome, if◌then◌else◌, ◌++◌, replicate, vec_capacity, slice_index_or, slice_set, max};
 ghost use Rattle.watch_rounds.specs.declared.notice.Notice.TheVariants.{Due};
-ghost use Rattle.watch_rounds.specs.Due.{IsOnly};
+ghost use Rattle.watch_rounds.specs.Due.{IsOnly, IsRising, IsPlace, with_due, without, is_at};
 ghost use Rattle.watch_rounds.specs.Round.{no_rounds, grown, roomy, with_name, begun, tally_at, with_notice, notice_of, watcher_at, with_run, gone, runs_left, IsRound, blank, one_more};
 ghost use Rattle.watch_rounds.specs.Stands.{IsTracked};
+ghost use Rattle.std.specs.VecDeque.{deque_capacity};
 
-use crate::due::{DueWatcher, is_at, place_near, put_in, take_out};
 use crate::notice::Notice;
 use crate::picker::Picker;
 use crate::tally::{MOST_RUNS, Tally};
@@ -13,6 +13,13 @@ use desk_names::{NameId, ObjId};
 use std::alloc::{AllocError, Global};
 use std::collections::VecDeque;
 use std::marker::Model;
+
+/// A watcher that is due, with the name that it was told by.
+#[derive(Clone, Copy)]
+pub struct DueWatcher {
+    pub watcher: ObjId,
+    pub name: NameId,
+}
 
 /// The due watchers of a round by creation, and the runs of each name in it. A clause sees a `RoundsView`.
 #[derive(Drop)]
@@ -261,4 +268,89 @@ fn clear_all(tallies: &mut Vec<Tally>, names: &[NameId])
     for name in names {
         tallies[name.place()] = Tally::default();
     }
+}
+
+// Lists of due watchers stand in the order of their creation. At both ends one is put in and taken out without a move of the others.
+
+// Puts a watcher in at its place, unless it is there.
+fn put_in(due: &mut VecDeque<DueWatcher>, at: usize, entry: DueWatcher)
+    requires place { IsPlace due.old.items entry.watcher at }
+    requires room { length (with_due entry due.old.items) ≤ deque_capacity due.old }
+    ensures items { due.new.items ≡ with_due entry due.old.items }
+    ensures room { deque_capacity due.old ≤ deque_capacity due.new }
+{
+    if !is_at(due, at, entry.watcher) {
+        match due.insert(at, entry) {
+            Ok(()) => {}
+            Err(_) => unreachable!(),
+        }
+    }
+}
+
+// Takes a watcher out, if it is there.
+fn take_out(due: &mut VecDeque<DueWatcher>, watcher: ObjId)
+    requires rising { IsRising due.old.items }
+    ensures items { due.new.items ≡ without watcher due.old.items }
+    ensures room { deque_capacity due.new ≡ deque_capacity due.old }
+{
+    let at = place_of(due, watcher);
+    if is_at(due, at, watcher) {
+        match due.remove(at) {
+            Some(_) => {}
+            None => unreachable!(),
+        }
+    }
+}
+
+// How many of them were created before a watcher. Whether it stands at the place that is guessed is seen first.
+fn place_near(due: &VecDeque<DueWatcher>, watcher: ObjId, guess: usize) -> usize
+    requires { IsRising due.now.items }
+    ensures { IsPlace due.now.items watcher result }
+{
+    if is_at(due, guess, watcher) {
+        return guess;
+    }
+    if is_last(due, watcher) {
+        return due.len();
+    }
+    place_of(due, watcher)
+}
+
+// Whether a watcher stands at a place.
+fn is_at(due: &VecDeque<DueWatcher>, at: usize, watcher: ObjId) -> bool
+    ensures { result ≡ is_at due.now.items at watcher }
+{
+    match due.get(at) {
+        Some(entry) => entry.watcher == watcher,
+        None => false,
+    }
+}
+
+// Whether all of them were created before a watcher.
+fn is_last(due: &VecDeque<DueWatcher>, watcher: ObjId) -> bool
+    requires { IsRising due.now.items }
+    ensures { result ≡ true → IsPlace due.now.items watcher (length due.now.items) }
+{
+    match due.back() {
+        Some(last) => last.watcher.place() < watcher.place(),
+        None => true,
+    }
+}
+
+// How many of them were created before a watcher.
+fn place_of(due: &VecDeque<DueWatcher>, watcher: ObjId) -> usize
+    requires { IsRising due.now.items }
+    ensures { IsPlace due.now.items watcher result }
+{
+    let mut low: usize = 0;
+    let mut high: usize = due.len();
+    while low < high {
+        let middle = low + (high - low) / 2;
+        if due[middle].watcher.place() < watcher.place() {
+            low = middle + 1;
+        } else {
+            high = middle;
+        }
+    }
+    low
 }

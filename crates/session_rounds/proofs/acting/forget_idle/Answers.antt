@@ -1,7 +1,7 @@
 use Rattle.std.proofs.Common.{◌≡◌, ◌∙◌, ◌-◌, ◌<◌, ℕ, suc, true, List, get_or, drop, refl, sym, ap, subst, arith}
 use Rattle.desk_model.specs.Told.{is_watching}
 use Rattle.watch_rounds.specs.Due.{AreAll}
-use Rattle.watch_rounds.specs.declared.due.DueWatcher.{DueWatcher}
+use Rattle.watch_rounds.specs.declared.rounds.DueWatcher.{DueWatcher}
 use Rattle.session_rounds.proofs.Passing.{step_kept, step_gone, step_end}
 use Rattle.session_rounds.proofs.acting.forget_idle.Goals as goal
 

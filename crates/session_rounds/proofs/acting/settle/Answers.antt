@@ -1,6 +1,6 @@
 use Rattle.std.proofs.Common.{List, sym, ap}
 use Rattle.desk_model.specs.Told.{is_watching}
-use Rattle.watch_rounds.specs.declared.due.DueWatcher.{DueWatcher}
+use Rattle.watch_rounds.specs.declared.rounds.DueWatcher.{DueWatcher}
 use Rattle.watch_rounds.specs.Round.{RoundsView}
 use Rattle.session_rounds.proofs.Passing.{all_pass}
 use Rattle.session_rounds.proofs.acting.settle.Goals as goal

@@ -12,7 +12,7 @@ use Rattle.ask_walk.proofs.asking.Books.at_once.Goals as goal
 pub returns-in-Frozen-clause-comes : goal.returns-in-Frozen-clause-comes
 returns-in-Frozen-clause-comes c = λ market whole joined.
     answers_held (state_in market c.args.self.now.store) c.args.object c.mark-mark.result
-    (mark_is market c.args.self.now.store c.args.object c.mark-mark.result whole joined c.mark-mark.ensures.answer) c.in-Frozen.is
+    (mark_is market c.args.self.now.store c.args.object c.mark-mark.result whole joined c.met-met.ensures.mark) c.in-Frozen.is
     c.last_answer.result (c.last_answer.ensures ∙ ap (λ (v : StoreView). let a : Asked = record {
       cause = lacking c.args.object (slice_index_or v.kept c.args.object unpriced).last;
       mark = c.mark-mark.result;
@@ -22,13 +22,13 @@ returns-in-Frozen-clause-comes c = λ market whole joined.
 pub returns-then-is_current-clause-comes : goal.returns-then-is_current-clause-comes
 returns-then-is_current-clause-comes c = λ market whole joined.
     answers_current (state_in market c.args.self.now.store) c.args.object c.mark-mark.result
-    (mark_is market c.args.self.now.store c.args.object c.mark-mark.result whole joined c.mark-mark.ensures.answer) c.in-Fresh.is
+    (mark_is market c.args.self.now.store c.args.object c.mark-mark.result whole joined c.met-met.ensures.mark) c.in-Fresh.is
     (ap (λ (v : StoreView). is_now v.kept c.args.object) (sym c.mark-mark.ensures.same) ∙ sym c.is_current.ensures ∙ c.if-is_current.true)
     c.answered.result c.answered.ensures
 
 pub returns-else-is_current-clause-comes : goal.returns-else-is_current-clause-comes
 returns-else-is_current-clause-comes c = λ market whole joined.
-    let marks = mark_is market c.args.self.now.store c.args.object c.mark-mark.result whole joined c.mark-mark.ensures.answer in (
+    let marks = mark_is market c.args.self.now.store c.args.object c.mark-mark.result whole joined c.met-met.ensures.mark in (
       answers_none (state_in market c.args.self.now.store) c.args.object c.mark-mark.result marks c.in-Fresh.is
           (ap (λ (v : StoreView). is_now v.kept c.args.object) (sym c.mark-mark.ensures.same) ∙ sym c.is_current.ensures ∙ c.if-is_current.false),
       marks,

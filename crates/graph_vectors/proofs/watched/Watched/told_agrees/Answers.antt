@@ -1,6 +1,6 @@
 use Rattle.std.proofs.Common.{◌≡◌, ◌∙◌, List, sym, ap}
 use Rattle.std.specs.List.{list_all}
-use Rattle.watch_rounds.specs.declared.due.DueWatcher.{DueWatcher}
+use Rattle.watch_rounds.specs.declared.rounds.DueWatcher.{DueWatcher}
 use Rattle.graph_vectors.specs.Watched.{is_apart}
 use Rattle.graph_vectors.proofs.Apart.{only}
 use Rattle.graph_vectors.proofs.Room.{room_told}

@@ -1,6 +1,6 @@
 use Rattle.std.proofs.Common.{refl, ap, ◌∙◌, ℤ, ◌*ℤ◌}
 use Rattle.ask_walk.proofs.Products.{amount_bound, times}
-use Rattle.ask_walk.proofs.steps.times.Goals as goal
+use Rattle.ask_walk.proofs.turning.times.Goals as goal
 
 pub overflow_mul-result : goal.overflow_mul-result
 overflow_mul-result c = (times c.args.weight c.amount.inside.0 c.amount.inside.0 c.requires (amount_bound c.amount.inside.0 c.amount.invariant.0 c.amount.invariant.1)).fits

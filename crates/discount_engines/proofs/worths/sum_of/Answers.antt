@@ -1,5 +1,5 @@
 use Rattle.discount_engines.proofs.Products.{sum_is}
-use Rattle.discount_engines.proofs.money.sum_of.Goals as goal
+use Rattle.discount_engines.proofs.worths.sum_of.Goals as goal
 
 pub overflow_add-result : goal.overflow_add-result
 overflow_add-result c = (sum_is c.args.sum c.args.units c.requires.sum c.requires.units).fits

@@ -6,7 +6,7 @@ use Rattle.desk_terms.specs.Sums.{money_in}
 use Rattle.desk_model.specs.Fresh.{input_of}
 use Rattle.object_store.specs.Slots.{answered}
 use Rattle.ask_walk.proofs.Summing.{weight_within, has_read_more, has_read_all, ready, first, stops}
-use Rattle.ask_walk.proofs.steps.next_member.Goals as goal
+use Rattle.ask_walk.proofs.turning.next_member.Goals as goal
 
 pub sum_with-sum-requires-clause-weight : goal.sum_with-sum-requires-clause-weight
 sum_with-sum-requires-clause-weight c =

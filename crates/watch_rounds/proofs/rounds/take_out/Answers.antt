@@ -1,7 +1,7 @@
 use Rattle.std.proofs.Common.{◌∙◌, sym, arith}
 use Rattle.std.proofs.lemmas.Bool.{false≢true}
 use Rattle.watch_rounds.proofs.Places.{is_there, taken_out, not_there}
-use Rattle.watch_rounds.proofs.due.take_out.Goals as goal
+use Rattle.watch_rounds.proofs.rounds.take_out.Goals as goal
 
 pub returns-in-Some-clause-items : goal.returns-in-Some-clause-items
 returns-in-Some-clause-items c = c.in-Some.ensures.items

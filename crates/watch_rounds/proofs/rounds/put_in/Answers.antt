@@ -1,7 +1,7 @@
 use Rattle.std.proofs.Common.{◌∙◌, sym, ap, length, arith}
 use Rattle.std.proofs.lemmas.List.Edits.{length-insert}
 use Rattle.watch_rounds.proofs.Places.{put_there, stays_there}
-use Rattle.watch_rounds.proofs.due.put_in.Goals as goal
+use Rattle.watch_rounds.proofs.rounds.put_in.Goals as goal
 
 pub returns-in-Ok-clause-items : goal.returns-in-Ok-clause-items
 returns-in-Ok-clause-items c = rw (c.in-Ok.ensures.items)

@@ -6,8 +6,8 @@ use Rattle.observer_graph.specs.Late.{StandsAs}
 use Rattle.object_store.specs.Late.{IsMarkOf}
 use Rattle.object_store.specs.Store.{StoreView}
 use Rattle.object_store.proofs.HeldBack.{mark_node, mark_as}
-use Rattle.object_store.proofs.store.Store.mark.Goals as goal
-use Rattle.object_store.proofs.store.Store.mark.Goals.{in-Frozen, in-Late, in-Held, in-Clear}
+use Rattle.object_store.proofs.store.Store.met.Goals as goal
+use Rattle.object_store.proofs.store.Store.met.Goals.{in-Frozen, in-Late, in-Held, in-Clear}
 
 pub returns-clause-answer : goal.returns-clause-answer
 returns-clause-answer c = elim c.match-standing.branch [

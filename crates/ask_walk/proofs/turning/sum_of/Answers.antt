@@ -1,5 +1,5 @@
 use Rattle.ask_walk.proofs.Products.{sum_is}
-use Rattle.ask_walk.proofs.steps.sum_of.Goals as goal
+use Rattle.ask_walk.proofs.turning.sum_of.Goals as goal
 
 pub overflow_add-result : goal.overflow_add-result
 overflow_add-result c = (sum_is c.args.sum c.args.product c.requires.sum c.requires.product).fits

@@ -1,7 +1,7 @@
 use Rattle.std.proofs.Common.{◌<◌, ◌+◌, ◌-◌, ◌/◌, ℕ, ap, arith}
-use Rattle.watch_rounds.specs.declared.due.DueWatcher.{DueWatcher}
+use Rattle.watch_rounds.specs.declared.rounds.DueWatcher.{DueWatcher}
 use Rattle.watch_rounds.proofs.Places.{rising_at}
-use Rattle.watch_rounds.proofs.due.place_of.Goals as goal
+use Rattle.watch_rounds.proofs.rounds.place_of.Goals as goal
 
 middle : (low high : ℕ) → low < high → low + (high - low) / 2 < high
 middle low high less = omega arith

@@ -5,7 +5,7 @@ use Rattle.desk_terms.specs.Terms.{helper_references}
 use Rattle.desk_model.specs.Market.{named}
 use Rattle.ask_walk.proofs.Inputs.{stock_within, helpers_within}
 use Rattle.object_store.specs.Market.{market_in}
-use Rattle.ask_walk.proofs.steps.next.Goals as goal
+use Rattle.ask_walk.proofs.turning.next.Goals as goal
 
 pub read-requires-clause-within : goal.read-requires-clause-within
 read-requires-clause-within c = stock_within (market_in c.args.market.now) c.args.object c.in-Stock.quote c.own_terms.result.now c.requires.linked (sym c.own_terms.ensures) c.in-Stock.is

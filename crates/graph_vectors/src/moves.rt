@@ -57,20 +57,11 @@ fn move_agrees(links: &mut Links, graph: &mut Graph, holder: ObjId, row: &str) -
     ensures { IfSome result (λ _. IsMovable links.new graph.new holder) }
 {
     let wanted = move_of(row)?;
-    let changed = move_to(links, graph, holder, wanted.target);
+    let changed = links.relink(graph, holder, wanted.target);
     let held = links.target(holder);
     let is_over_a = reaches_source(graph, holder, 0) == (held == Some(ObjId(0)));
     let is_over_b = reaches_source(graph, holder, 1) == (held == Some(ObjId(1)));
     Some(is_over_a && is_over_b && changed == wanted.changed && held == wanted.target)
-}
-
-// The holder is moved to one of the sources, or to none; whether that is a change.
-fn move_to(links: &mut Links, graph: &mut Graph, holder: ObjId, target: Option<ObjId>) -> bool
-    requires movable { IsMovable links.old graph.old holder }
-    requires target { (t : ℕ) → target ≡ Some t → t < 2 }
-    ensures { IsMovable links.new graph.new holder }
-{
-    links.relink(graph, holder, target)
 }
 
 // Whether the holder reaches a source.

@@ -1,5 +1,5 @@
 -- What holds of a session with watchers, also while a round runs in it.
-use Rattle.std.specs.Prelude.{◌≡◌, ◌≤◌, ◌+◌, ℕ, Bool, true, false, List, length, All}
+use Rattle.std.specs.Prelude.{◌≡◌, ◌≤◌, ◌+◌, ℕ, Bool, true, false, List, [], length, All}
 use Rattle.desk_model.specs.Market.{slot_at, is_watcher}
 use Rattle.desk_model.specs.State.{State}
 use Rattle.desk_model.specs.Told.{is_watching}
@@ -37,6 +37,10 @@ AreWatching state due = AreAll (λ entry. is_watching state entry.watcher ≡ tr
 -- what is known of the due of a session that says that they are settled
 abbrev pub IsSettled : Bool → State → List DueWatcher → Type 0
 IsSettled settled state due = settled ≡ true → AreWatching state due
+
+-- what is known of the notices of a session that says that they are heard: none waits to be handed out
+abbrev pub IsHeard : Bool → State → Type 0
+IsHeard heard state = heard ≡ true → state.noticed ≡ []
 
 -- a command that may leave a watcher without a registration
 abbrev pub may_idle : Command → Bool

@@ -83,13 +83,14 @@ impl<P: Picker> WatchedSession<P> {
         ensures running { OnOk result (self.new.standing.stopped ≡ false) }
         ensures ready { is_without_memory (resolve self.old.standing command.now) ≡ true → is_ok result ≡ true }
     {
-        let given = self.session.numbers();
         let settled = stays_settled(self.settled, command);
+        self.heard = false;
+        self.session.watchers();
         match self.session.act(command, bench, lines) {
             Ok(()) => {
                 settle(&mut self.rounds, &self.session, settled);
                 self.settled = true;
-                make_room(&mut self.rounds, &mut self.session, given)
+                make_room(&mut self.rounds, &mut self.session)
             }
             Err(fault) => {
                 self.rounds.begin();
@@ -112,6 +113,7 @@ impl<P: Picker> WatchedSession<P> {
         while let Some(watcher) = self.session.next_told() {
             self.notice(watcher, lines)?;
         }
+        self.heard = true;
         Ok(())
     }
 
@@ -146,19 +148,18 @@ impl<P: Picker> WatchedSession<P> {
     }
 }
 
-// Finds room for one object more, where the last command gave a number. Where there is none, the session is stopped.
-fn make_room(rounds: &mut Rounds, session: &mut Session, given: u32) -> Result<(), AllocError>
-    requires few { length session.old.of_object ≤ given + 1 }
-    requires room { given + 1 ≤ rounds.old.nodes }
+// Finds room for one object more, where the last command took it. Where there is none, the session is stopped.
+fn make_room(rounds: &mut Rounds, session: &mut Session) -> Result<(), AllocError>
+    requires room { length session.old.of_object ≤ rounds.old.nodes }
     ensures round { rounds.new.round ≡ rounds.old.round }
     ensures room { length session.new.of_object ≤ rounds.new.nodes }
     ensures spare { session.new.stopped ≡ false → length session.new.of_object + 1 ≤ rounds.new.nodes }
     ensures ok { OnOk result (session.new ≡ session.old) }
     ensures err { OnErr result (session.new ≡ record session.old { stopped = true }) }
-    ensures ready { length session.old.of_object ≡ given → is_ok result ≡ true }
+    ensures ready { length session.old.of_object + 1 ≤ rounds.old.nodes → is_ok result ≡ true }
 {
     let numbers = session.numbers();
-    if numbers <= given {
+    if rounds.has_room_for(numbers) {
         return Ok(());
     }
     match rounds.grow(0, numbers + 1) {

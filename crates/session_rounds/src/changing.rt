@@ -41,6 +41,7 @@ impl<P: Picker> WatchedSession<P> {
         ensures keeps { KeepsCurrent self.old.standing.state self.new.standing.state }
         ensures sound { (calc : Calc) → IsSound calc self.old.standing.state → IsSound calc self.new.standing.state }
     {
+        self.heard = false;
         self.session.watchers();
         let refusal = self.session.change(command);
         settle(&mut self.rounds, &self.session, false);
@@ -73,6 +74,7 @@ impl<P: Picker> WatchedSession<P> {
         ensures rounds { self.new ≡ record self.old { standing = self.new.standing } }
     {
         self.settled = false;
+        self.heard = false;
         self.session.ask(object, bench)
     }
 

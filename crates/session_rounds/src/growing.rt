@@ -58,6 +58,7 @@ impl<P: Picker> WatchedSession<P> {
         ensures memory { IfErr result (λ fault. fault ≡ NameFault.NoMemory) }
     {
         self.settled = false;
+        self.heard = false;
         self.rounds.reserve(self.session.names().len() + 1)?;
         let name = self.session.intern(text)?;
         self.rounds.count_name();
@@ -75,6 +76,7 @@ impl<P: Picker> WatchedSession<P> {
         ensures sound { (calc : Calc) → IsSound calc self.old.standing.state → IsSound calc self.new.standing.state }
     {
         self.settled = false;
+        self.heard = false;
         self.session.add_action(block)
     }
 
@@ -94,6 +96,7 @@ impl<P: Picker> WatchedSession<P> {
         ensures sound { (calc : Calc) → IsSound calc self.old.standing.state → IsSound calc self.new.standing.state }
     {
         self.settled = false;
+        self.heard = false;
         self.session.free(name)?;
         self.session.room()?;
         self.rounds.grow(0, self.session.numbers() + 2)?;

@@ -5,7 +5,7 @@ ghost use Rattle.desk_model.specs.Sound.{IsSound};
 ghost use Rattle.session_model.specs.Standing.{IsKnown, name_of};
 ghost use Rattle.session_model.specs.Course.{running, opened, round_of, course_of_all, action_of, runs_by, all_handed_out};
 ghost use Rattle.session_model.specs.Moments.{moments_of_round, moments_of_all, moments_of_runs};
-ghost use Rattle.session_rounds.specs.Fits.{AreKnown, IsLive};
+ghost use Rattle.session_rounds.specs.Fits.{AreKnown, IsHeard, IsLive};
 ghost use Rattle.session_rounds.specs.Goes.{Does, Halts, Stays, HasEnded};
 ghost use Rattle.session_rounds.specs.Quiet.{IsQuiet};
 ghost use Rattle.session_rounds.specs.Stopped.{HaltsIn};
@@ -26,6 +26,8 @@ pub struct WatchedSession<P> {
     pub(crate) picker: P,
     // Whether each due watcher is known to have a registration.
     pub(crate) settled: bool,
+    // Whether it is known that no notice waits to be handed out.
+    pub(crate) heard: bool,
     pub(crate) alloc: Global,
 }
 
@@ -37,6 +39,7 @@ impl<P: Drop> Drop for WatchedSession<P> {
             rounds: _,
             picker: _,
             settled: _,
+            heard: _,
             alloc: _,
         } = self;
     }
@@ -44,14 +47,14 @@ impl<P: Drop> Drop for WatchedSession<P> {
 
 impl<P> Model for WatchedSession<P> {
     ghost use Rattle.session_model.specs.Course.{Running};
-    ghost use Rattle.session_rounds.specs.Fits.{Fits, IsSettled};
+    ghost use Rattle.session_rounds.specs.Fits.{Fits, IsHeard, IsSettled};
 
     ghost Value = { Running P };
 
     ghost view = { λ s. record { standing = s.session; round = s.rounds.round; picker = s.picker } };
 
     ghost invariant = { λ s. Fits P (record { standing = s.session; round = s.rounds.round; picker = s.picker })
-        s.rounds.nodes × IsSettled s.settled s.session.state s.rounds.round.due };
+        s.rounds.nodes × (IsSettled s.settled s.session.state s.rounds.round.due × IsHeard s.heard s.session.state) };
 }
 
 impl<P: Picker + Drop> WatchedSession<P> {
@@ -67,6 +70,7 @@ impl<P: Picker + Drop> WatchedSession<P> {
             rounds,
             picker,
             settled: false,
+            heard: false,
             alloc,
         })
     }
@@ -164,7 +168,8 @@ impl<P: Picker> WatchedSession<P> {
         ensures opens { self.new ≡ opened self.old }
         ensures sound { (calc : Calc) → IsSound calc self.old.standing.state → IsSound calc self.new.standing.state }
     {
-        drain(&mut self.session);
+        forget_notices(&mut self.session, self.heard);
+        self.heard = true;
         self.rounds.begin();
         self.settled = true;
     }
@@ -297,7 +302,20 @@ impl<P: Picker> WatchedSession<P> {
     }
 }
 
+// Forgets the notices that are left, where any may be.
+#[inline(always)]
+fn forget_notices(session: &mut Session, heard: bool)
+    requires { IsHeard heard session.old.state }
+    ensures drained { session.new ≡ all_handed_out session.old }
+    ensures sound { (calc : Calc) → IsSound calc session.old.state → IsSound calc session.new.state }
+{
+    if !heard {
+        drain(session);
+    }
+}
+
 // Forgets the notices that are left.
+#[inline(never)]
 fn drain(session: &mut Session)
     ensures drained { session.new ≡ all_handed_out session.old }
     ensures sound { (calc : Calc) → IsSound calc session.old.state → IsSound calc session.new.state }

@@ -87,6 +87,13 @@ impl Rounds {
         Ok(())
     }
 
+    /// Whether the watcher of a number has room.
+    pub fn has_room_for(&self, watcher: u32) -> bool
+        ensures { IsTrue result ↔ (watcher < self.now.nodes) }
+    {
+        (watcher as usize) < self.nodes
+    }
+
     /// Finds the room for so many names, none of which is counted before `count_name`. Where memory is wanting, nothing is
     /// changed.
     pub fn reserve(&mut self, names: u32) -> Result<(), AllocError>

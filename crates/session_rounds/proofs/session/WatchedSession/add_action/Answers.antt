@@ -17,5 +17,5 @@ invariant_of-self g c =
       fits_added r c.self.inside.rounds.nodes c.add_action.new.self c.add_action.result c.self.invariant.0 c.args.block
           (subst (λ (z : Running g.row.P.Denot). All (IsKnown (with_action c.args.block z.standing)) c.args.block)
           (sym c.self.view_is) c.requires.known) c.add_action.ensures.added c.add_action.ensures.same,
-      λ on. absurd (false≢true on),
+      (λ on. absurd (false≢true on), λ on. absurd (false≢true on)),
     )

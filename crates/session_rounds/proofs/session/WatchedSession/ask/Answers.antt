@@ -14,7 +14,7 @@ invariant_of-self g c =
       fits_asked (g.B.Bench.calc c.args.bench.now) c.args.object r c.self.inside.rounds.nodes c.ask.new.self c.ask.result
           (g.B.Bench.count c.args.bench.now) (g.B.Bench.count c.ask.new.bench) (g.B.Bench.log c.args.bench.now) (g.B.Bench.log c.ask.new.bench)
           c.self.invariant.0 c.ask.ensures.prices c.ask.ensures.stops,
-      λ on. absurd (false≢true on),
+      (λ on. absurd (false≢true on), λ on. absurd (false≢true on)),
     )
 
 pub returns-clause-prices : goal.returns-clause-prices

@@ -12,8 +12,11 @@ invariant_of-self g c =
     let at = g.P.Picker.at c.self.inside.picker (length c.self.inside.rounds.round.due) in
     rw (c.next_due.ensures.ran) (
       fits_ran _ c.self.inside.rounds.nodes at c.next_due.new.picker c.self.invariant.0,
-      λ on. ran_all (λ entry. is_watching c.self.inside.session.state entry.watcher ≡ true) (slice_get c.self.inside.rounds.round.due at) at
-          c.self.inside.rounds.round refl (c.self.invariant.1 on),
+      (
+        λ on. ran_all (λ entry. is_watching c.self.inside.session.state entry.watcher ≡ true) (slice_get c.self.inside.rounds.round.due at) at
+            c.self.inside.rounds.round refl (c.self.invariant.1.0 on),
+        c.self.invariant.1.1,
+      ),
     )
 
 pub returns-clause-begun : goal.returns-clause-begun

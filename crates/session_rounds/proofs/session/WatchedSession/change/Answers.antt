@@ -28,7 +28,7 @@ invariant_of-self g c =
           (subst (λ (l : List ℕ). length l ≤ c.self.inside.rounds.nodes) (sym objects) fits.room)
           (λ running. subst (λ (l : List ℕ). length l + 1 ≤ c.self.inside.rounds.nodes) (sym objects)
           (fits.spare (sym (ap (λ (p : Standing). p.stopped) alike) ∙ running)))),
-      λ on. c.settle.ensures.watching,
+      (λ on. c.settle.ensures.watching, λ on. absurd (false≢true on)),
     )
 
 pub settle-requires : goal.settle-requires

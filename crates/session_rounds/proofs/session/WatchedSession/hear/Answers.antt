@@ -1,4 +1,4 @@
-use Rattle.std.proofs.Common.{◌∙◌, refl, sym, ap, subst}
+use Rattle.std.proofs.Common.{◌≡◌, ◌∙◌, ℕ, List, [], ◌∷◌, refl, sym, ap, subst}
 use Rattle.std.specs.Prelude.{is_ok}
 use Rattle.std.proofs.lemmas.Bool.{false≢true}
 use Rattle.std.proofs.lemmas.Result.{err_from_is_err_and}
@@ -12,6 +12,9 @@ use Rattle.session_rounds.proofs.Hearing.{heard_more, heard_halts, heard_ends, s
 use Rattle.session_rounds.proofs.Fitting.{fits_leaving}
 use Rattle.session_rounds.proofs.session.WatchedSession.hear.Goals as goal
 
+none_first : {w : ℕ} {rest : List ℕ} → [] ≡ w ∷ rest → ⊥
+none_first e = cc
+
 pub loop-watcher-init : goal.loop-watcher-init
 loop-watcher-init g c = record {
   goes = goes_start (heard c.args.self.now) (lines_alone c.args.lines.now.items);
@@ -24,7 +27,10 @@ loop-watcher-init g c = record {
 pub invariant_of-self : goal.invariant_of-self
 invariant_of-self g c = (
   fits_leaving _ c.self.inside.rounds.nodes c.next_told.new.self.state.noticed c.next_told.new.self c.self.invariant.0 c.in-Some.ensures.some.1,
-  subst (λ (p : Standing). IsSettled c.self.inside.settled p.state c.self.inside.rounds.round.due) (sym c.in-Some.ensures.some.1) c.self.invariant.1,
+  (
+    subst (λ (p : Standing). IsSettled c.self.inside.settled p.state c.self.inside.rounds.round.due) (sym c.in-Some.ensures.some.1) c.self.invariant.1.0,
+    λ on. absurd (none_first (sym (c.self.invariant.1.1 on) ∙ c.in-Some.ensures.some.0)),
+  ),
 )
 
 pub loop-watcher-preserved : goal.loop-watcher-preserved

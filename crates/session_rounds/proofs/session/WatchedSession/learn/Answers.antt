@@ -34,7 +34,7 @@ invariant_of-self-2 g c =
       subst (λ (v : RoundsView). Fits g.row.P.Denot (record r { standing = c.intern.new.self; round = v.round }) v.nodes) (sym counted)
           (subst (λ (p : Standing). Fits g.row.P.Denot (record r { standing = p; round = with_name r.round }) c.self.inside.rounds.nodes)
           (sym kept) (fits_learnt r c.self.inside.rounds.nodes c.args.text.now c.self.invariant.0)),
-      λ on. absurd (false≢true on),
+      (λ on. absurd (false≢true on), λ on. absurd (false≢true on)),
     )
 
 pub returns-clause-learnt : goal.returns-clause-learnt

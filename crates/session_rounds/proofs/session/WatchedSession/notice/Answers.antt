@@ -44,12 +44,15 @@ invariant_of-self-2 g c =
     let watcher = subst (λ (r : Running g.row.P.Denot). IsAWatcher r.standing c.args.watcher) (sym c.self.view_is) c.requires in
     rw (c.told-notice.ensures.told, c.stays_due.ensures.same) (
       fits_notice _ _ _ _ c.self.invariant.0 watcher c.name_of-name.ensures,
-      λ on.
-          let both = c.settled_with-self-inside.ensures on in
-          notice_all_if (λ entry. is_watching c.self.inside.session.state entry.watcher ≡ true) c.args.watcher c.name_of-name.result
-          c.self.inside.rounds.round (c.self.invariant.1 both.0)
-          (λ due. both.1 (c.told-notice.ensures.notice
-          ∙ ap (λ (v : RoundsView). notice_of (tally_at v.round c.name_of-name.result)) c.stays_due.ensures.same ∙ due)),
+      (
+        λ on.
+            let both = c.settled_with-self-inside.ensures on in
+            notice_all_if (λ entry. is_watching c.self.inside.session.state entry.watcher ≡ true) c.args.watcher c.name_of-name.result
+            c.self.inside.rounds.round (c.self.invariant.1.0 both.0)
+            (λ due. both.1 (c.told-notice.ensures.notice
+            ∙ ap (λ (v : RoundsView). notice_of (tally_at v.round c.name_of-name.result)) c.stays_due.ensures.same ∙ due)),
+        c.self.invariant.1.1,
+      ),
     )
 
 pub returns-clause-err : goal.returns-clause-err

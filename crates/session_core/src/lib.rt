@@ -5,7 +5,6 @@
 
 mod acting;
 mod adding;
-mod changing;
 mod fault;
 mod growing;
 mod laws;

@@ -148,6 +148,9 @@ impl<P: Picker> WatchedSession<P> {
     }
 }
 
+// For how many objects more room is found at once.
+const ROOM: u32 = 64;
+
 // Finds room for one object more, where the last command took it. Where there is none, the session is stopped.
 fn make_room(rounds: &mut Rounds, session: &mut Session) -> Result<(), AllocError>
     requires room { length session.old.of_object ≤ rounds.old.nodes }
@@ -162,7 +165,7 @@ fn make_room(rounds: &mut Rounds, session: &mut Session) -> Result<(), AllocErro
     if rounds.has_room_for(numbers) {
         return Ok(());
     }
-    match rounds.grow(0, numbers + 1) {
+    match rounds.grow(0, numbers + ROOM) {
         Ok(()) => Ok(()),
         Err(fault) => {
             session.stop();

@@ -3,7 +3,7 @@ use Rattle.desk_model.specs.Market.{slot_at}
 use Rattle.session_core.specs.Allowed.{MayChange, MayDrop, MayRelink}
 use Rattle.session_core.proofs.Alike.{droppable_there}
 use Rattle.session_core.proofs.Linking.{handle_there, may_link, target_kinds}
-use Rattle.session_core.proofs.changing.change_desk.Goals as goal
+use Rattle.session_core.proofs.acting.change_desk.Goals as goal
 
 pub relink-requires-clause-handle : goal.relink-requires-clause-handle
 relink-requires-clause-handle c =

@@ -8,7 +8,7 @@ use Rattle.session_core.specs.Allowed.{MayWeigh, MayFix, MayGrow}
 use Rattle.session_core.proofs.Counting.{parts_fit}
 use Rattle.session_core.proofs.Naming.{none_some}
 use Rattle.session_core.proofs.Turns.{on_ok}
-use Rattle.session_core.proofs.changing.grow_desk.Goals as goal
+use Rattle.session_core.proofs.acting.grow_desk.Goals as goal
 
 pub set_member-requires-clause-limit : goal.set_member-requires-clause-limit
 set_member-requires-clause-limit c =

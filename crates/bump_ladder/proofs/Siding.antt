@@ -14,12 +14,12 @@ use Rattle.desk_model.specs.State.{State}
 use Rattle.desk_model.specs.Effect.{quote_set}
 use Rattle.bump_model.specs.declared.moves.Quoted.{Quoted}
 use Rattle.bump_model.specs.declared.ladder.Side.{Side}
-use Rattle.bump_model.specs.declared.ladder.Side.TheVariants.{Limit}
+use Rattle.bump_model.specs.declared.ladder.Missing.TheVariants.{Limit}
+use Rattle.bump_model.specs.declared.ladder.Side.TheVariants.{NoPrice}
 use Rattle.bump_model.specs.Moves.{is_rate, moved, value_of, value_at, with_values, all_set, is_limit, AreLive, DifferAt}
 use Rattle.bump_model.specs.Sides.{worth, gain, side_of}
 use Rattle.bump_model.specs.Asking.{Asking, Asks, Made, MadeFront, none, ask_of, then_ask, side_asking, sides_asking, rung_asking}
-use Rattle.bump_ladder.proofs.Answered.{Log, Did}
-use Rattle.bump_model.proofs.Calls.{made_none, made_more, front_first, front_more}
+use Rattle.bump_model.proofs.Calls.{Log, Did, made_none, made_more, front_first, front_more}
 use Rattle.bump_model.proofs.Moving.{differ_none, set_moves, set_live, set_differ, set_unheld}
 use Rattle.desk_model.specs.Unheld.{HoldsNothing}
 
@@ -63,7 +63,7 @@ module _ (all rest : List Quoted) (h : Quoted) (steps : all ≡ h ∷ rest) wher
 -- ---- one side
 
 module _ (calc : Calc) (o : ℕ) (shift : ℤ) (group : List Quoted) (s : State) where
-  pub limit_side : (base : ℤ) → is_limit shift group ≡ true → Limit ≡ side_of calc s.market o base shift group
+  pub limit_side : (base : ℤ) → is_limit shift group ≡ true → NoPrice Limit ≡ side_of calc s.market o base shift group
   limit_side base is = rw is refl
 
   limit_asking : is_limit shift group ≡ true → side_asking calc o shift group s ≡ none s
@@ -95,7 +95,7 @@ module _ (calc : Calc) (o : ℕ) (shift : ℤ) (group : List Quoted) (s : State)
       at : Side
       at = gain base (worth calc (with_values (moved shift) group s.market) o)
 
-      by : (b : Bool) → b ≡ false → at ≡ (if b then Limit else at)
+      by : (b : Bool) → b ≡ false → at ≡ (if b then NoPrice Limit else at)
       by false e = refl
       by true e = absurd (let none : true ≡ false = e in cc)
 

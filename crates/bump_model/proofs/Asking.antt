@@ -16,7 +16,8 @@ use Rattle.std.proofs.lemmas.List.{get_or_past}
 use Rattle.bump_model.specs.declared.moves.Quoted.{Quoted}
 use Rattle.bump_model.specs.declared.ladder.Bump.{Bump}
 use Rattle.bump_model.specs.declared.ladder.Bump.TheVariants.{One, Together}
-use Rattle.bump_model.specs.declared.ladder.Side.TheVariants.{Limit}
+use Rattle.bump_model.specs.declared.ladder.Missing.TheVariants.{Limit}
+use Rattle.bump_model.specs.declared.ladder.Side.TheVariants.{NoPrice}
 use Rattle.bump_model.specs.Moves.{moved, value_at, quoted, quoted_in, with_values, all_set, is_limit, AreQuoted, DifferAt, AreLive}
 use Rattle.bump_model.specs.Sides.{worth, gain, side_of}
 use Rattle.bump_model.specs.Asking.{none, ask_of, side_asking, sides_asking, rung_asking, asking_for, bump_asking, rungs_asking, behind_base, ladder_asking}
@@ -79,7 +80,8 @@ module _ (calc : Calc) (o : ℕ) (m : Market) (group : List Quoted) (live : AreL
   pub side_same : (base shift : ℤ) (n : Market) → DifferAt group m n → side_of calc n o base shift group ≡ side_of calc m o base shift group
   side_same base shift n differ = by (is_limit shift group)
     where
-      by : (b : Bool) → (if b then Limit else gain base (worth calc (with_values (moved shift) group n) o)) ≡ (if b then Limit else gain base (worth calc (with_values (moved shift) group m) o))
+      by : (b : Bool) → (if b then NoPrice Limit else gain base (worth calc (with_values (moved shift) group n) o)) ≡
+          (if b then NoPrice Limit else gain base (worth calc (with_values (moved shift) group m) o))
       by true = refl
       by false = ap (λ (l : Market). gain base (worth calc l o)) (moved_same (moved shift) group m n live differ)
 

@@ -11,7 +11,8 @@ use Rattle.desk_model.specs.Visit.{log_of}
 use Rattle.desk_model.specs.Effect.{made}
 use Rattle.bump_model.specs.declared.ladder.Bump.TheVariants.{One, Together}
 use Rattle.bump_model.specs.declared.ladder.Side.{Side}
-use Rattle.bump_model.specs.declared.ladder.Side.TheVariants.{Moved, Refused, Limit, Unset}
+use Rattle.bump_model.specs.declared.ladder.Missing.TheVariants.{Refused, Limit}
+use Rattle.bump_model.specs.declared.ladder.Side.TheVariants.{Moved, NoPrice, Unset}
 use Rattle.bump_model.specs.declared.ladder.Rung.{Rung}
 use Rattle.bump_model.specs.Sides.{worth, rungs_of, each_then_all}
 use Rattle.bump_model.specs.Asking.{Asking, ladder_asking}
@@ -76,7 +77,7 @@ pub record IsAtLimit : Type 0 where
   pub above : rungs_in above_limit.market 2 (neg_ℤ (pos (10 ^ 18 - 100_000))) (1 ∷ []) ≡
       up_down (Some 1) (pos 100_000) (lost 100_000) ∷ up_down None (pos 100_000) (lost 100_000) ∷ []
   pub rungs : rungs_in at_limit.market 2 (pos (10 ^ 18)) (1 ∷ []) ≡
-      rung (Some 1) Limit (Moved (lost 100_000)) ∷ rung None Limit (Moved (lost 100_000)) ∷ []
+      rung (Some 1) (NoPrice Limit) (Moved (lost 100_000)) ∷ rung None (NoPrice Limit) (Moved (lost 100_000)) ∷ []
   pub runs : length (asking 2 (1 ∷ []) at_limit).calls ≡ 3
   pub market : (asking 2 (1 ∷ []) at_limit).next.market ≡ at_limit.market
 
@@ -86,8 +87,8 @@ doubled = made (Stock 2) (made (Derived false 1 1) (quoted (Some (pos (5 * 10 ^ 
 
 pub record IsRefusedAbove : Type 0 where
   pub rungs : rungs_in doubled.market 3 (pos (10 ^ 18)) (1 ∷ []) ≡
-      rung (Some 1) (Refused (TooLarge 2)) (Moved (lost 200_000))
-      ∷ rung None (Refused (TooLarge 2)) (Moved (lost 200_000)) ∷ []
+      rung (Some 1) (NoPrice (Refused (TooLarge 2))) (Moved (lost 200_000))
+      ∷ rung None (NoPrice (Refused (TooLarge 2))) (Moved (lost 200_000)) ∷ []
   pub runs : length (asking 3 (1 ∷ []) doubled).calls ≡ 3
   pub market : (asking 3 (1 ∷ []) doubled).next.market ≡ doubled.market
 
@@ -97,8 +98,9 @@ summed = made (Stock 3) (made (Derived false 1 2) (quoted (Some (neg_ℤ (pos (1
 
 pub record IsTogether : Type 0 where
   pub rungs : rungs_in summed.market 4 (neg_ℤ (pos 999_999_999_999_999_993)) (1 ∷ 2 ∷ []) ≡
-      rung (Some 1) (Moved (pos 100_000)) (Refused (TooLarge 3)) ∷ rung (Some 2) (Moved (pos 100_000)) Limit
-      ∷ rung None (Moved (pos 200_000)) Limit ∷ []
+      rung (Some 1) (Moved (pos 100_000)) (NoPrice (Refused (TooLarge 3))) ∷ rung (Some 2) (Moved (pos 100_000))
+      (NoPrice Limit)
+      ∷ rung None (Moved (pos 200_000)) (NoPrice Limit) ∷ []
   pub runs : length (asking 4 (1 ∷ 2 ∷ []) summed).calls ≡ 4
   pub calls : log_of (asking 4 (1 ∷ []) summed).calls ≡ (4, true) ∷ (4, true) ∷ (4, true) ∷ []
   pub market : (asking 4 (1 ∷ 2 ∷ []) summed).next.market ≡ summed.market

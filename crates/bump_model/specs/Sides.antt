@@ -12,7 +12,8 @@ use Rattle.bump_model.specs.declared.moves.Quoted.{Quoted}
 use Rattle.bump_model.specs.declared.ladder.Bump.{Bump}
 use Rattle.bump_model.specs.declared.ladder.Bump.TheVariants.{One, Together}
 use Rattle.bump_model.specs.declared.ladder.Side.{Side}
-use Rattle.bump_model.specs.declared.ladder.Side.TheVariants.{Moved, Refused, Limit, Unset}
+use Rattle.bump_model.specs.declared.ladder.Missing.TheVariants.{Refused, Limit}
+use Rattle.bump_model.specs.declared.ladder.Side.TheVariants.{Moved, NoPrice, Unset}
 use Rattle.bump_model.specs.declared.ladder.Rung.{Rung}
 use Rattle.bump_model.specs.Moves.{moved, value_at, quoted, quoted_in, with_values, is_limit}
 
@@ -34,13 +35,13 @@ worth calc market o = amount_of o (fresh calc market o)
 -- what it gains over its base
 abbrev pub gain : ℤ → Result ℤ Cause → Side
 gain base (Ok amount) = Moved (amount -ℤ base)
-gain base (Err cause) = Refused cause
+gain base (Err cause) = NoPrice (Refused cause)
 
 -- what o gains where these quotes are moved by a shift: nothing is moved where one of them would pass the limit
 abbrev pub side_of : Calc → Market → ℕ → ℤ → ℤ → List Quoted → Side
 side_of calc market o base shift group =
     if is_limit shift group
-    then Limit
+    then NoPrice Limit
     else gain base (worth calc (with_values (moved shift) group market) o)
 
 -- the rung of these quotes, for a size

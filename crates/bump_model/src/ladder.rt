@@ -6,15 +6,22 @@ use item_lists::Items;
 use std::alloc::{AllocError, AllocFailed};
 use thiserror::Error;
 
+/// Why an instrument has no price where quotes are moved one way.
+#[derive(Clone, Copy)]
+pub enum Missing {
+    /// It is worth nothing then, for this cause.
+    Refused(Cause),
+    /// A quote would pass the limit of rates. None is moved.
+    Limit,
+}
+
 /// What an instrument gains where quotes are moved one way.
 #[derive(Clone, Copy)]
 pub enum Side {
     /// What it is worth then less what it is worth where none is moved, within 2 * 10^24 units either way.
     Moved(Amount),
-    /// It is worth nothing then, for this cause.
-    Refused(Cause),
-    /// A quote would pass the limit of rates. None is moved.
-    Limit,
+    /// It has no price then.
+    NoPrice(Missing),
     /// The quote has no value.
     Unset,
 }

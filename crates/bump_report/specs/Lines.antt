@@ -6,14 +6,20 @@ use Rattle.desk_terms.specs.declared.cause.Cause.{Cause}
 use Rattle.price_report.specs.Line.{cause_text}
 use Rattle.price_report.specs.Namer.{object_text}
 use Rattle.bump_model.specs.declared.ladder.Side.{Side}
-use Rattle.bump_model.specs.declared.ladder.Side.TheVariants.{Moved, Refused, Limit, Unset}
+use Rattle.bump_model.specs.declared.ladder.Side.TheVariants.{Moved, NoPrice, Unset}
+use Rattle.bump_model.specs.declared.ladder.Missing.{Missing}
+use Rattle.bump_model.specs.declared.ladder.Missing.TheVariants.{Refused, Limit}
 use Rattle.bump_model.specs.declared.ladder.Rung.{Rung}
 
--- a gain with six places, a refusal with its cause, or why there is neither
+-- why there is no price: a refusal with its cause, or the limit of rates
+abbrev pub missing_text : List (List ℕ) → List ℕ → Missing → List ℕ
+missing_text names of_object (Refused cause) = codes "refused " ++ cause_text names of_object cause
+missing_text names of_object Limit = codes "limit"
+
+-- a gain with six places, or why there is none
 abbrev pub side_text : List (List ℕ) → List ℕ → Side → List ℕ
 side_text names of_object (Moved units) = decimal_text units 6
-side_text names of_object (Refused cause) = codes "refused " ++ cause_text names of_object cause
-side_text names of_object Limit = codes "limit"
+side_text names of_object (NoPrice why) = missing_text names of_object why
 side_text names of_object Unset = codes "unset"
 
 -- both sides; of a quote without a value that it has none
@@ -23,8 +29,7 @@ up_down_text names of_object up down =
 
 abbrev pub sides_text : List (List ℕ) → List ℕ → Side → Side → List ℕ
 sides_text names of_object (Moved units) down = up_down_text names of_object (Moved units) down
-sides_text names of_object (Refused cause) down = up_down_text names of_object (Refused cause) down
-sides_text names of_object Limit down = up_down_text names of_object Limit down
+sides_text names of_object (NoPrice why) down = up_down_text names of_object (NoPrice why) down
 sides_text names of_object Unset down = codes " unset"
 
 -- the name of a rung's quote, or that all are moved

@@ -2,7 +2,8 @@
 use Rattle.std.specs.Prelude.{◌≡◌, ℕ, List, [], ◌∷◌, pos, negsuc, codes, Option, None, Some}
 use Rattle.desk_terms.specs.declared.cause.Cause.TheVariants.{NoEngine, TooLarge}
 use Rattle.bump_model.specs.declared.ladder.Side.{Side}
-use Rattle.bump_model.specs.declared.ladder.Side.TheVariants.{Moved, Refused, Limit, Unset}
+use Rattle.bump_model.specs.declared.ladder.Missing.TheVariants.{Refused, Limit}
+use Rattle.bump_model.specs.declared.ladder.Side.TheVariants.{Moved, NoPrice, Unset}
 use Rattle.bump_model.specs.declared.ladder.Rung.{Rung}
 use Rattle.bump_report.specs.Lines.{ladder_lines, refused_lines}
 
@@ -19,7 +20,8 @@ rung label up down = record { label = label; up = up; down = down }
 abbrev pub rungs : List Rung
 rungs =
     rung (Some 1) (Moved (negsuc 2_722)) (Moved (pos 2_723)) ∷ rung (Some 3) Unset Unset
-    ∷ rung (Some 3) Limit (Refused (TooLarge 2)) ∷ rung None (Moved (negsuc 2_722)) (Moved (pos 2_723)) ∷ []
+    ∷ rung (Some 3) (NoPrice Limit) (NoPrice (Refused (TooLarge 2))) ∷ rung None (Moved (negsuc 2_722)) (Moved (pos
+        2_723)) ∷ []
 
 pub record AreWorked : Type 0 where
   pub ladder : ladder_lines four_names four_objects 2 (pos 99_009_901) rungs 10 ≡

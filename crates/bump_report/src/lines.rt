@@ -1,16 +1,16 @@
-// The lines of a ladder.
+// The lines of a ladder, and the texts of amounts and of why there is none.
 ghost use Rattle.std.specs.Prelude.{◌≡◌, ◌++◌, OnOk, OnErr, IfOk, codes, decimal};
-ghost use Rattle.bump_report.specs.Lines.{side_text, sides_text, label_text, rung_line, rung_lines, runs_line, ladder_lines, refused_lines};
+ghost use Rattle.bump_report.specs.Lines.{missing_text, side_text, sides_text, label_text, rung_line, rung_lines, runs_line, ladder_lines, refused_lines};
 
-use bump_model::{Ladder, Rung, Side};
+use bump_model::{Ladder, Missing, Rung, Side};
 use desk_names::ObjId;
 use desk_terms::Cause;
 use fixed_amount::print_decimal;
 use price_report::{Namer, cause_text};
 use std::alloc::{AllocError, Global};
 
-// How many places an amount of money is printed with.
-const MONEY_PLACES: u8 = 6;
+/// How many places an amount of money is printed with.
+pub const MONEY_PLACES: u8 = 6;
 
 /// Appends the lines of a ladder: the instrument's name and its base, a line for each rung, and how many computations
 /// were made. After want of memory `out` has its old bytes.
@@ -144,7 +144,7 @@ fn push_sides(
 {
     match up {
         Side::Unset => lines.extend_from_slice(b" unset"),
-        Side::Moved(_) | Side::Refused(_) | Side::Limit => {
+        Side::Moved(_) | Side::NoPrice(_) => {
             lines.extend_from_slice(b" up ")?;
             push_side(alloc, up, namer, lines)?;
             lines.extend_from_slice(b" down ")?;
@@ -165,12 +165,27 @@ fn push_side(
 {
     match side {
         Side::Moved(gain) => print_decimal(alloc, gain.units(), MONEY_PLACES, lines),
-        Side::Refused(cause) => {
+        Side::NoPrice(why) => push_missing(alloc, why, namer, lines),
+        Side::Unset => lines.extend_from_slice(b"unset"),
+    }
+}
+
+/// Appends why there is no price. After want of memory `lines` may have a part of it.
+pub fn push_missing(
+    alloc: Global,
+    why: &Missing,
+    namer: &Namer<'_>,
+    lines: &mut Vec<u8>,
+) -> Result<(), AllocError>
+    ensures { OnOk result (lines.new.items
+        ≡ lines.old.items ++ missing_text namer.now.names.now namer.now.of_object.now why.now) }
+{
+    match why {
+        Missing::Refused(cause) => {
             lines.extend_from_slice(b"refused ")?;
             cause_text(alloc, cause, namer, lines)
         }
-        Side::Limit => lines.extend_from_slice(b"limit"),
-        Side::Unset => lines.extend_from_slice(b"unset"),
+        Missing::Limit => lines.extend_from_slice(b"limit"),
     }
 }
 

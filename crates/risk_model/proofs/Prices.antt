@@ -11,7 +11,7 @@ use Rattle.bump_model.specs.declared.ladder.Bump.TheVariants.{One, Together}
 use Rattle.bump_model.specs.declared.ladder.Side.TheVariants as side
 use Rattle.bump_model.specs.Moves.{moved, value_at, quoted, quoted_in, with_values, is_limit}
 use Rattle.bump_model.specs.Sides.{worth, gain, side_of, rung_for, bump_rung}
-use Rattle.risk_model.specs.declared.figures.Missing.TheVariants.{Limit}
+use Rattle.bump_model.specs.declared.ladder.Missing.TheVariants.{Limit}
 use Rattle.risk_model.specs.declared.figures.Figure.TheVariants.{Is}
 use Rattle.risk_model.specs.Figures.{price_of, figure_of, figure_at, figure_for, bump_figure, difference, curvature, both_in, figure_in, total}
 
@@ -23,7 +23,8 @@ module _ (f g : ℤ → ℤ → ℤ) (base : ℤ) (same : (u d : ℤ) → g (u -
   by_worths (Err cause) (Err other) = refl
 
   by_limits : (b c : Bool) (up down : Result ℤ Cause)
-      → figure_in g (both_in (if b then side.Limit else gain base up) (if c then side.Limit else gain base down))
+      → figure_in g (both_in (if b then side.NoPrice Limit else gain base up) (if c then side.NoPrice Limit else gain
+          base down))
       ≡ figure_of f (if b then Err Limit else price_of up) (if c then Err Limit else price_of down)
   by_limits true true up down = refl
   by_limits true false up down = refl

@@ -11,8 +11,8 @@ use Rattle.bump_model.specs.declared.ladder.Rung.{Rung}
 use Rattle.bump_model.specs.declared.ladder.Side as side
 use Rattle.bump_model.specs.Moves.{moved, value_at, quoted, quoted_in, with_values, is_limit}
 use Rattle.bump_model.specs.Sides.{worth}
-use Rattle.risk_model.specs.declared.figures.Missing.{Missing}
-use Rattle.risk_model.specs.declared.figures.Missing.TheVariants.{Refused, Limit}
+use Rattle.bump_model.specs.declared.ladder.Missing.{Missing}
+use Rattle.bump_model.specs.declared.ladder.Missing.TheVariants.{Refused, Limit}
 use Rattle.risk_model.specs.declared.figures.Figure.{Figure}
 use Rattle.risk_model.specs.declared.figures.Figure.TheVariants.{Is, Unset, Up, Down}
 use Rattle.risk_model.specs.declared.figures.Gains.{Gains}
@@ -66,14 +66,12 @@ gamma_of calc size market o base bump = bump_figure (curvature base) calc size m
 
 abbrev pub with_down : ℤ → side.Side → Result Gains Figure
 with_down up (side.TheVariants.Moved down) = Ok (record { up = up; down = down })
-with_down up (side.TheVariants.Refused cause) = Err (Down (Refused cause))
-with_down up side.TheVariants.Limit = Err (Down Limit)
+with_down up (side.TheVariants.NoPrice why) = Err (Down why)
 with_down up side.TheVariants.Unset = Err Unset
 
 abbrev pub both_in : side.Side → side.Side → Result Gains Figure
 both_in (side.TheVariants.Moved up) down = with_down up down
-both_in (side.TheVariants.Refused cause) down = Err (Up (Refused cause))
-both_in side.TheVariants.Limit down = Err (Up Limit)
+both_in (side.TheVariants.NoPrice why) down = Err (Up why)
 both_in side.TheVariants.Unset down = Err Unset
 
 abbrev pub figure_in : (ℤ → ℤ → ℤ) → Result Gains Figure → Figure

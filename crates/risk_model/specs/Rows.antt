@@ -1,5 +1,5 @@
 -- Small markets that are worked through by hand.
-use Rattle.std.specs.Prelude.{◌≡◌, ◌^◌, ◌-◌, ◌*◌, ℤ, pos, ◌*ℤ◌, List, [], ◌∷◌, Some, Ok, Err}
+use Rattle.std.specs.Prelude.{◌≡◌, ◌^◌, pos, ◌*ℤ◌, List, [], ◌∷◌, Some, Ok, Err}
 use Rattle.desk_terms.specs.declared.cause.Cause.TheVariants.{TooLarge, Unset as unset}
 use Rattle.desk_terms.specs.declared.value.Input as input
 use Rattle.desk_terms.specs.declared.value.Value.TheVariants.{Money}
@@ -11,7 +11,7 @@ use Rattle.desk_model.specs.State.{State}
 use Rattle.bump_model.specs.declared.ladder.Bump.TheVariants.{One, Together}
 use Rattle.bump_model.specs.Rows.{quoted, two_quotes, at_limit, doubled, summed}
 use Rattle.bump_model.specs.Sides.{worth}
-use Rattle.risk_model.specs.declared.figures.Missing.TheVariants.{Refused, Limit}
+use Rattle.bump_model.specs.declared.ladder.Missing.TheVariants.{Refused, Limit}
 use Rattle.risk_model.specs.declared.figures.Figure.TheVariants.{Is, Unset, Up, Down}
 use Rattle.risk_model.specs.Figures.{delta_of, gamma_of}
 use Rattle.risk_model.specs.Sums.{sum_of, beyond}

@@ -3,18 +3,8 @@ ghost use Rattle.std.specs.Prelude.{◌≡◌};
 ghost use Rattle.risk_model.specs.Figures.{with_down, both_in, delta_in, gamma_in};
 ghost use Rattle.risk_model.specs.Sums.{IsSmall};
 
-use bump_model::{Rung, Side};
-use desk_terms::Cause;
+use bump_model::{Missing, Rung, Side};
 use fixed_amount::Amount;
-
-/// Why an instrument has no price where quotes are moved one way.
-#[derive(Clone, Copy)]
-pub enum Missing {
-    /// It is worth nothing then, for this cause.
-    Refused(Cause),
-    /// A quote would pass the limit of rates.
-    Limit,
-}
 
 /// A figure of two prices: that where quotes are moved up, and that where they are moved down.
 #[derive(Clone, Copy)]
@@ -63,8 +53,7 @@ fn both(up: Side, down: Side) -> Result<Gains, Figure>
 {
     match up {
         Side::Moved(up) => with_down(up, down),
-        Side::Refused(cause) => Err(Figure::Up(Missing::Refused(cause))),
-        Side::Limit => Err(Figure::Up(Missing::Limit)),
+        Side::NoPrice(why) => Err(Figure::Up(why)),
         Side::Unset => Err(Figure::Unset),
     }
 }
@@ -74,8 +63,7 @@ fn with_down(up: Amount, down: Side) -> Result<Gains, Figure>
 {
     match down {
         Side::Moved(down) => Ok(Gains { up, down }),
-        Side::Refused(cause) => Err(Figure::Down(Missing::Refused(cause))),
-        Side::Limit => Err(Figure::Down(Missing::Limit)),
+        Side::NoPrice(why) => Err(Figure::Down(why)),
         Side::Unset => Err(Figure::Unset),
     }
 }

@@ -9,5 +9,6 @@ mod laws;
 mod rows;
 mod sums;
 
-pub use figures::{Figure, Missing, delta, gamma};
+pub use bump_model::Missing;
+pub use figures::{Figure, delta, gamma};
 pub use sums::{cross, sum_at};

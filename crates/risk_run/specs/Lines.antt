@@ -12,11 +12,11 @@ use Rattle.price_report.specs.Namer.{object_text}
 use Rattle.bump_model.specs.declared.ladder.Rung.{Rung}
 use Rattle.bump_model.specs.declared.ladder.Bump.{Bump}
 use Rattle.bump_model.specs.declared.ladder.Bump.TheVariants.{One, Together}
+use Rattle.bump_model.specs.declared.ladder.Missing.TheVariants.{Refused}
 use Rattle.bump_model.specs.Sides.{worth}
+use Rattle.bump_report.specs.Lines.{missing_text}
 use Rattle.market_desk.specs.declared.named.Unnamed.{Unnamed}
 use Rattle.market_desk.specs.Standing.{Standing, object_named, unnamed_word}
-use Rattle.risk_model.specs.declared.figures.Missing.{Missing}
-use Rattle.risk_model.specs.declared.figures.Missing.TheVariants.{Refused, Limit}
 use Rattle.risk_model.specs.declared.figures.Figure.{Figure}
 use Rattle.risk_model.specs.declared.figures.Figure.TheVariants.{Is, Unset, Up, Down}
 use Rattle.risk_model.specs.Figures.{delta_of, gamma_of, delta_in, gamma_in}
@@ -36,11 +36,6 @@ head name measure label = name ++ codes "," ++ measure ++ codes "," ++ label ++ 
 -- the same with a value behind it, and a newline
 abbrev pub row : List ℕ → List ℕ → List ℕ → List ℕ → List ℕ
 row name measure label value = head name measure label ++ value ++ codes "\n"
-
--- why there is no price
-abbrev pub missing_text : List (List ℕ) → List ℕ → Missing → List ℕ
-missing_text names of_object (Refused cause) = codes "refused " ++ cause_text names of_object cause
-missing_text names of_object Limit = codes "limit"
 
 -- an amount with six places, or why there is none
 abbrev pub figure_text : List (List ℕ) → List ℕ → Figure → List ℕ

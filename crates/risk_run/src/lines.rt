@@ -1,10 +1,11 @@
 // The rows of an instrument.
 ghost use Rattle.std.specs.Prelude.{◌≡◌, ◌++◌, length, IfOk, OnOk};
 ghost use Rattle.risk_run.specs.Asking.{IsFew, AreFew};
-ghost use Rattle.risk_run.specs.Lines.{head, missing_text, figure_text, label_text, figure_row, rung_rows, sum_rows_at, rungs_rows, unnamed_row, refused_row, ladder_rows, gain_text, theta_label, theta_text, theta_row};
+ghost use Rattle.risk_run.specs.Lines.{head, figure_text, label_text, figure_row, rung_rows, sum_rows_at, rungs_rows, unnamed_row, refused_row, ladder_rows, gain_text, theta_label, theta_text, theta_row};
 
 use crate::theta::{Gain, Theta};
 use bump_ladder::{Bump, Ladder, Rung};
+use bump_report::{MONEY_PLACES, push_missing};
 use day_number::print_day;
 use desk_names::ObjId;
 use desk_terms::Cause;
@@ -13,9 +14,6 @@ use market_desk::Unnamed;
 use price_report::{Namer, cause_text};
 use risk_model::{Figure, Missing, cross, delta, gamma, sum_at};
 use std::alloc::{AllocError, Global};
-
-// How many places an amount of money is printed with.
-const MONEY_PLACES: u8 = 6;
 
 // Appends the row of a name that stands for no instrument.
 #[tactic(auto, unfolding(crate::specs::Lines::unnamed_row))]
@@ -288,24 +286,5 @@ fn push_figure(
             lines.extend_from_slice(b"down ")?;
             push_missing(alloc, missing, namer, lines)
         }
-    }
-}
-
-// Appends why there is no price.
-fn push_missing(
-    alloc: Global,
-    missing: &Missing,
-    namer: &Namer<'_>,
-    lines: &mut Vec<u8>,
-) -> Result<(), AllocError>
-    ensures { OnOk result (lines.new.items
-        ≡ lines.old.items ++ missing_text namer.now.names.now namer.now.of_object.now missing.now) }
-{
-    match missing {
-        Missing::Refused(cause) => {
-            lines.extend_from_slice(b"refused ")?;
-            cause_text(alloc, cause, namer, lines)
-        }
-        Missing::Limit => lines.extend_from_slice(b"limit"),
     }
 }

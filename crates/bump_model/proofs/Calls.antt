@@ -8,8 +8,12 @@ use Rattle.desk_model.specs.Visit.{log_of}
 use Rattle.desk_model.specs.State.{State}
 use Rattle.bump_model.specs.Asking.{Asking, none, then_ask, Made, MadeFront, Calls}
 
-abbrev Log : Type 0
+abbrev pub Log : Type 0
 Log = Option (List (ℕ × Bool))
+
+-- asks that were answered: the state is theirs, and these calls were made
+abbrev pub Did : Asking → State → ℕ → ℕ → Log → Log → Type 0
+Did asking t count now log log_now = (t ≡ asking.next) × Made asking.calls count now log log_now
 
 pub counted_more : (count0 n m : ℕ) → counted (counted count0 n) m ≡ counted count0 (n + m)
 counted_more count0 n zero = let e : n + 0 ≡ n = omega arith in ap (counted count0) (sym e)

@@ -2,3 +2,4 @@ pub mod Calls
 pub mod Moving
 pub mod Asking
 pub mod Bumping
+pub mod Each

@@ -34,6 +34,11 @@ abbrev pub then_ask : Asking → (State → Asking) → Asking
 then_ask first others =
     record { calls = first.calls ++ (others first.next).calls; next = (others first.next).next }
 
+-- those for each of these, in order
+unfoldable pub each_asking : {A : Type 0} → (A → State → Asking) → List A → State → Asking
+each_asking ask [] s = none s
+each_asking ask (x ∷ others) s = then_ask (ask x s) (each_asking ask others)
+
 -- one side of a rung: the quotes are moved and the object is asked for, unless one of them would pass the limit
 abbrev pub side_asking : Calc → ℕ → ℤ → List Quoted → State → Asking
 side_asking calc o shift group s =

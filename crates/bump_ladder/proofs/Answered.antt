@@ -1,6 +1,6 @@
 -- What one ask of an instrument gives, and what it leaves.
-use Rattle.std.proofs.Common.{◌≡◌, ℕ, Bool, List, Option, Some, None, Result, Err, ℤ, sym, ◌∙◌, ap, subst, arith}
-use Rattle.std.specs.Prelude.{IfSome}
+use Rattle.std.proofs.Common.{◌≡◌, ℕ, Option, Some, None, Result, Err, sym, ◌∙◌, ap, subst, arith, Ok, length}
+use Rattle.std.specs.Prelude.{IfSome, IfOk, OnErr}
 use Rattle.std.proofs.lemmas.Int.{ints}
 use Rattle.desk_terms.specs.declared.asked.Asked.{Asked}
 use Rattle.desk_terms.specs.declared.cause.Cause.{Cause}
@@ -13,59 +13,65 @@ use Rattle.desk_terms.specs.Terms.{kind_of}
 use Rattle.desk_terms.specs.Asked.{Shows}
 use Rattle.desk_terms.specs.Reading.{Outcome, Calc, IsValueOf}
 use Rattle.desk_model.specs.Links.{IsValued}
+use Rattle.desk_model.specs.Fresh.{fresh}
 use Rattle.desk_model.specs.Market.{terms_at}
-use Rattle.desk_model.specs.State.{State, kept_at, shows}
+use Rattle.desk_model.specs.State.{State, kept_at}
 use Rattle.desk_model.specs.Visit.{runs}
 use Rattle.desk_model.specs.Unheld.{HoldsNothing}
 use Rattle.desk_model.proofs.Unheld.{others_hold_nothing, unheld_afresh}
 use Rattle.ask_walk.specs.Asks as asks
 use Rattle.ask_walk.specs.Asks.{Stops}
-use Rattle.bump_model.specs.Sides.{IsPaid, amount_of, worth}
-use Rattle.bump_model.specs.Asking.{Asking, Asks, Made, MadeFront, ask_of}
+use Rattle.bump_model.specs.Sides.{IsPaid}
+use Rattle.bump_model.specs.Asking.{Asking, Asks, MadeFront, ask_of}
+use Rattle.bump_model.proofs.Calls.{Log, Did, front_all}
 use Rattle.bump_model.proofs.Asking.{stored_market, stored_unheld, asked_market}
 
-abbrev pub Log : Type 0
-Log = Option (List (ℕ × Bool))
+module _ {E : Type 0} (calc : Calc) (o : ℕ) (s t : State) (count now : ℕ) (log log_now : Log) where
+  abbrev pub Answered : Result Asked E → Type 0
+  Answered result = IfOk result (λ answer. asks.Asks calc o s t answer count now log log_now)
 
--- asks that were answered: the state is theirs, and these calls were made
-abbrev pub Did : Asking → State → ℕ → ℕ → Log → Log → Type 0
-Did asking t count now log log_now = (t ≡ asking.next) × Made asking.calls count now log log_now
+  abbrev pub Stopped : Result Asked E → Type 0
+  Stopped result = OnErr result (Stops calc o s t count now log log_now)
 
-module _ (calc : Calc) (o : ℕ) (s t : State) (count now : ℕ) (log log_now : Log) where
-  -- where it was answered
-  pub answered_asks : (answer : Asked) → asks.Asks calc o s t answer count now log log_now
-      → Did (ask_of calc o s) t count now log log_now
-  answered_asks answer does = (does.state, record { count = does.count; log = does.log })
+  pub ended_asks : (result : Result Asked E) → Answered result → Stopped result → Asks (ask_of calc o s) result t
+      count now log log_now
+  ended_asks (Ok answer) does stops = (does.state, record { count = does.count; log = does.log })
+  ended_asks (Err fault) does stops =
+      record { front = stops.front; rest = stops.rest; whole = stops.whole; count = stops.count; log = stops.log }
 
-  pub answered_market : (answer : Asked) → asks.Asks calc o s t answer count now log log_now → t.market ≡ s.market
-  answered_market answer does = ap (λ (u : State). u.market) does.state ∙ asked_market calc o s
+  pub ended_market : (result : Result Asked E) → Answered result → Stopped result → t.market ≡ s.market
+  ended_market (Ok answer) does stops = ap (λ (u : State). u.market) does.state ∙ asked_market calc o s
+  ended_market (Err fault) does stops = ap (λ (u : State). u.market) stops.state ∙ stored_market s stops.front
 
-  pub answered_unheld : (answer : Asked) → asks.Asks calc o s t answer count now log log_now → HoldsNothing s → HoldsNothing t
-  answered_unheld answer does free = subst (λ (u : State). HoldsNothing u) (sym does.state) ((others_hold_nothing s free).ask calc o)
+  pub ended_unheld : (result : Result Asked E) → Answered result → Stopped result → HoldsNothing s → HoldsNothing t
+  ended_unheld (Ok answer) does stops free =
+      subst (λ (u : State). HoldsNothing u) (sym does.state) ((others_hold_nothing s free).ask calc o)
+  ended_unheld (Err fault) does stops free =
+      subst (λ (u : State). HoldsNothing u) (sym stops.state) (stored_unheld s stops.front free)
 
-  pub answered_amount : (answer : Asked) → asks.Asks calc o s t answer count now log log_now → (last : Option Value)
-      → last ≡ (kept_at t o).last → HoldsNothing s → (amount : Result ℤ Cause)
-      → ((outcome : Outcome) → Shows answer.cause last outcome → amount ≡ amount_of o outcome) → amount ≡ worth calc s.market o
-  answered_amount answer does last is free amount shown =
-      shown (shows calc s o) (subst (λ (l : Option Value). Shows answer.cause l (shows calc s o)) (sym is) does.shown)
-      ∙ ap (amount_of o) (unheld_afresh s free calc o).value
+  -- what is shown is the price afresh
+  pub ended_shown : (result : Result Asked E) → Answered result → HoldsNothing s
+      → IfOk result (λ answer. Shows answer.cause (kept_at t o).last (fresh calc s.market o))
+  ended_shown (Ok answer) does free =
+      subst (λ (outcome : Outcome). Shows answer.cause (kept_at t o).last outcome) (unheld_afresh s free calc o).value
+      does.shown
+  ended_shown (Err fault) does free = tt
 
-  pub answered_shows : (answer : Asked) → asks.Asks calc o s t answer count now log log_now → (last : Option Value)
-      → last ≡ (kept_at t o).last → (outcome : Outcome) × Shows answer.cause last outcome
-  answered_shows answer does last is =
-      (shows calc s o, subst (λ (l : Option Value). Shows answer.cause l (shows calc s o)) (sym is) does.shown)
+  pub ended_runs : (result : Result Asked E) → Answered result → IfOk result (λ answer. answer.runs ≡ length (runs
+      calc s o))
+  ended_runs (Ok answer) does = does.number
+  ended_runs (Err fault) does = tt
 
-  -- where memory ran out
-  pub stopped_front : Stops calc o s t count now log log_now → MadeFront (runs calc s o) count now log log_now
-  stopped_front does =
-      record { front = does.front; rest = does.rest; whole = does.whole; count = does.count; log = does.log }
+pub shown_last : (cause : Option Cause) (last stored : Option Value) (outcome : Outcome) → last ≡ stored → Shows cause
+    stored outcome
+    → Shows cause last outcome
+shown_last cause last stored outcome is shown = subst (λ (l : Option Value). Shows cause l outcome) (sym is) shown
 
-  pub stopped_market : Stops calc o s t count now log log_now → t.market ≡ s.market
-  stopped_market does = ap (λ (u : State). u.market) does.state ∙ stored_market s does.front
-
-  pub stopped_unheld : Stops calc o s t count now log log_now → HoldsNothing s → HoldsNothing t
-  stopped_unheld does free =
-      subst (λ (u : State). HoldsNothing u) (sym does.state) (stored_unheld s does.front free)
+-- whatever comes behind asks that were answered
+pub asks_any : {A E : Type 0} (asking : Asking) (result : Result A E) (t : State) (count now : ℕ) (log log_now : Log)
+    → Did asking t count now log log_now → Asks asking result t count now log log_now
+asks_any asking (Ok x) t count now log log_now did = did
+asks_any asking (Err e) t count now log log_now did = front_all asking.calls count now log log_now did.1
 
 -- a step that failed, by its front
 pub front_asks : {A E : Type 0} (asking : Asking) (result : Result A E) (t : State) (count now : ℕ) (log log_now : Log)

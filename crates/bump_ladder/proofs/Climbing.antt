@@ -1,7 +1,6 @@
 -- The rungs of a ladder, one behind another.
 use Rattle.std.proofs.Common.{◌≡◌, ℕ, ◌+◌, ◌<◌, List, [], ◌∷◌, ◌++◌, length, get_or, drop, Option, Some, ℤ, sym, ◌∙◌, ap, subst}
 use Rattle.std.specs.Prelude.{map, neg_ℤ}
-use Rattle.std.specs.List.{All}
 use Rattle.std.proofs.lemmas.List.{append-nil, append_assoc, drop_more}
 use Rattle.std.proofs.lemmas.List.Elements.{All-head, All-tail}
 use Rattle.desk_terms.specs.declared.kind.Kind.TheVariants.{Quote}
@@ -15,7 +14,7 @@ use Rattle.bump_model.specs.declared.ladder.Side.{Side}
 use Rattle.bump_model.specs.Moves.{value_at, and_quoted, quoted_in, AreQuotes, AreQuoted, IsBump, AreBumps}
 use Rattle.bump_model.specs.Sides.{side_of, rung_of, bump_rung}
 use Rattle.bump_model.specs.Asking.{MadeFront, none, then_ask, bump_asking, rungs_asking}
-use Rattle.bump_ladder.proofs.Answered.{Log, Did}
+use Rattle.bump_model.proofs.Calls.{Log, Did}
 use Rattle.bump_model.proofs.Moving.{all_quoted}
 
 pub next_item : {A : Type 0} (items : List A) (i : ℕ) (x : A) → i < length items → x ≡ get_or items i x

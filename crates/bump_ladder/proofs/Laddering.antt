@@ -18,7 +18,7 @@ use Rattle.bump_model.specs.declared.ladder.Bump.{Bump}
 use Rattle.bump_model.specs.declared.ladder.Rung.{Rung}
 use Rattle.bump_model.specs.Sides.{worth, rungs_of}
 use Rattle.bump_model.specs.Asking.{Asking, Made, MadeFront, none, ask_of, then_ask, rungs_asking, behind_base, ladder_asking}
-use Rattle.bump_ladder.proofs.Answered.{Log, Did}
+use Rattle.bump_model.proofs.Calls.{Log, Did}
 use Rattle.bump_ladder.proofs.Siding.{then_ok, then_runs, then_front, first_front}
 
 -- ---- an instrument is priced

@@ -3,3 +3,4 @@ pub mod Siding
 pub mod Climbing
 pub mod Laddering
 pub mod Quoting
+pub mod Giving

@@ -5,11 +5,11 @@ ghost use Rattle.desk_model.specs.Sound.{IsSound};
 ghost use Rattle.desk_model.specs.Unheld.{HoldsNothing};
 ghost use Rattle.bump_model.specs.declared.moves.Quoted.{Quoted};
 ghost use Rattle.bump_model.specs.declared.ladder.Bump.TheVariants.{One};
-ghost use Rattle.bump_model.specs.Moves.{and_quoted, quoted_in, AreQuotes, IsBump, AreBumps, AreQuoted};
-ghost use Rattle.bump_model.specs.Sides.{rung_of, bump_rung, rungs_of};
-ghost use Rattle.bump_model.specs.Asking.{Asks, rung_asking, bump_asking, rungs_asking};
+ghost use Rattle.bump_model.specs.Moves.{and_quoted, quoted_in, AreQuotes, IsBump, AreBumps};
+ghost use Rattle.bump_model.specs.Sides.{bump_rung, rungs_of};
+ghost use Rattle.bump_model.specs.Asking.{Asks, bump_asking, rungs_asking};
 
-use crate::sides::rung_sides;
+use crate::sides::{Step, group_rung};
 use bump_model::{Bump, Quoted, Rung, RungList, Side};
 use desk_names::ObjId;
 use desk_terms::Bench;
@@ -22,13 +22,6 @@ use std::alloc::{AllocError, Global};
 pub(crate) struct Climbed {
     pub(crate) rungs: RungList,
     pub(crate) runs: u64,
-}
-
-// One rung, and how many times the bench was called for it.
-#[derive(Clone, Copy)]
-struct Step {
-    rung: Rung,
-    runs: u64,
 }
 
 // A rung for each bump.
@@ -139,42 +132,6 @@ fn quote_rung<B: Bench>(
             group_rung(desk, object, base, size, Some(quote), &quoted, bench)
         }
     }
-}
-
-// The rung of quotes, each of which has its value.
-fn group_rung<B: Bench>(
-    desk: &mut Desk,
-    object: ObjId,
-    base: Amount,
-    size: Rate,
-    label: Option<ObjId>,
-    group: &[Quoted],
-    bench: &mut B,
-) -> Result<Step, AllocError>
-    requires lazy { is_lazy_at desk.old.market object ≡ true }
-    requires base { unsigned_abs base ≤ 10 ^ 24 }
-    requires quoted { AreQuoted desk.old.market group.now }
-    requires sound { IsSound (B.calc bench.old) desk.old }
-    requires unheld { HoldsNothing desk.old }
-    ensures same { B.calc bench.new ≡ B.calc bench.old }
-    ensures rung { IfOk result (λ step. step.rung ≡ rung_of (B.calc bench.old) size desk.old.market object base label group.now) }
-    ensures runs { IfOk result (λ step. step.runs ≡ length (rung_asking (B.calc bench.old) size object group.now desk.old).calls) }
-    ensures few { IfOk result (λ step. step.runs < 2 ^ 18) }
-    ensures asks { Asks (rung_asking (B.calc bench.old) size object group.now desk.old) result desk.new
-        (B.count bench.old) (B.count bench.new) (B.log bench.old) (B.log bench.new) }
-    ensures market { desk.new.market ≡ desk.old.market }
-    ensures sound { IsSound (B.calc bench.old) desk.new }
-    ensures unheld { HoldsNothing desk.new }
-{
-    let sides = rung_sides(desk, object, base, size, group, bench)?;
-    Ok(Step {
-        rung: Rung {
-            label,
-            up: sides.up,
-            down: sides.down,
-        },
-        runs: sides.runs,
-    })
 }
 
 // Of these quotes those that have a value, each with it.

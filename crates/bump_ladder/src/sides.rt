@@ -1,15 +1,15 @@
-// The two sides of a rung.
+// A rung of quotes that are moved together, and its two sides.
 ghost use Rattle.std.specs.Prelude.{◌≡◌, ◌<◌, ◌≤◌, ◌^◌, ◌+ℤ◌, neg_ℤ, unsigned_abs, ℕ, false, true, length, Some, IfOk, OnOk, OnErr};
 ghost use Rattle.desk_terms.specs.Reading.{Calc};
 ghost use Rattle.desk_model.specs.Links.{is_lazy_at};
 ghost use Rattle.desk_model.specs.Sound.{IsSound};
 ghost use Rattle.desk_model.specs.Unheld.{HoldsNothing};
 ghost use Rattle.bump_model.specs.Moves.{moved, all_set, is_limit, AreQuoted, AreLive, DifferAt};
-ghost use Rattle.bump_model.specs.Sides.{side_of, gain};
+ghost use Rattle.bump_model.specs.Sides.{side_of, rung_of, gain};
 ghost use Rattle.bump_model.specs.Asking.{Asks, MadeFront, side_asking, sides_asking, rung_asking};
 
 use crate::pricing::price;
-use bump_model::{Quoted, Side, is_limit, moved};
+use bump_model::{Missing, Quoted, Rung, Side, is_limit, moved};
 use desk_names::ObjId;
 use desk_terms::{Bench, Cause};
 use fixed_amount::{Amount, Rate};
@@ -23,43 +23,41 @@ pub(crate) struct Sided {
     pub(crate) runs: u64,
 }
 
-// Both sides, and how many times the bench was called for them.
+// One rung, and how many times the bench was called for it.
 #[derive(Clone, Copy)]
-pub(crate) struct Sides {
-    pub(crate) up: Side,
-    pub(crate) down: Side,
+pub(crate) struct Step {
+    pub(crate) rung: Rung,
     pub(crate) runs: u64,
 }
 
-// Both sides of the rung of these quotes, each of which has its value. They are set back on every exit, which takes no
-// memory.
-pub(crate) fn rung_sides<B: Bench>(
+// The rung of these quotes, each of which has its value. They are set back on every exit, which takes no memory.
+pub(crate) fn group_rung<B: Bench>(
     desk: &mut Desk,
     object: ObjId,
     base: Amount,
     size: Rate,
+    label: Option<ObjId>,
     group: &[Quoted],
     bench: &mut B,
-) -> Result<Sides, AllocError>
+) -> Result<Step, AllocError>
     requires lazy { is_lazy_at desk.old.market object ≡ true }
     requires base { unsigned_abs base ≤ 10 ^ 24 }
     requires quoted { AreQuoted desk.old.market group.now }
     requires sound { IsSound (B.calc bench.old) desk.old }
     requires unheld { HoldsNothing desk.old }
     ensures same { B.calc bench.new ≡ B.calc bench.old }
-    ensures up { IfOk result (λ sides. sides.up ≡ side_of (B.calc bench.old) desk.old.market object base size group.now) }
-    ensures down { IfOk result (λ sides. sides.down ≡ side_of (B.calc bench.old) desk.old.market object base (neg_ℤ size) group.now) }
-    ensures runs { IfOk result (λ sides. sides.runs ≡ length (rung_asking (B.calc bench.old) size object group.now desk.old).calls) }
-    ensures few { IfOk result (λ sides. sides.runs < 2 ^ 18) }
+    ensures rung { IfOk result (λ step. step.rung ≡ rung_of (B.calc bench.old) size desk.old.market object base label group.now) }
+    ensures runs { IfOk result (λ step. step.runs ≡ length (rung_asking (B.calc bench.old) size object group.now desk.old).calls) }
+    ensures few { IfOk result (λ step. step.runs < 2 ^ 18) }
     ensures asks { Asks (rung_asking (B.calc bench.old) size object group.now desk.old) result desk.new
         (B.count bench.old) (B.count bench.new) (B.log bench.old) (B.log bench.new) }
     ensures market { desk.new.market ≡ desk.old.market }
     ensures sound { IsSound (B.calc bench.old) desk.new }
     ensures unheld { HoldsNothing desk.new }
 {
-    let sides = both_sides(desk, object, base, size, group, bench);
+    let step = both_sides(desk, object, base, size, label, group, bench);
     set_back(desk, group);
-    sides
+    step
 }
 
 // The side up, then the side down. The quotes are left where the last move put them.
@@ -68,19 +66,19 @@ fn both_sides<B: Bench>(
     object: ObjId,
     base: Amount,
     size: Rate,
+    label: Option<ObjId>,
     group: &[Quoted],
     bench: &mut B,
-) -> Result<Sides, AllocError>
+) -> Result<Step, AllocError>
     requires lazy { is_lazy_at desk.old.market object ≡ true }
     requires base { unsigned_abs base ≤ 10 ^ 24 }
     requires live { AreLive desk.old.market group.now }
     requires sound { IsSound (B.calc bench.old) desk.old }
     requires unheld { HoldsNothing desk.old }
     ensures same { B.calc bench.new ≡ B.calc bench.old }
-    ensures up { IfOk result (λ sides. sides.up ≡ side_of (B.calc bench.old) desk.old.market object base size group.now) }
-    ensures down { IfOk result (λ sides. sides.down ≡ side_of (B.calc bench.old) desk.old.market object base (neg_ℤ size) group.now) }
-    ensures runs { IfOk result (λ sides. sides.runs ≡ length (sides_asking (B.calc bench.old) size object group.now desk.old).calls) }
-    ensures few { IfOk result (λ sides. sides.runs < 2 ^ 18) }
+    ensures rung { IfOk result (λ step. step.rung ≡ rung_of (B.calc bench.old) size desk.old.market object base label group.now) }
+    ensures runs { IfOk result (λ step. step.runs ≡ length (sides_asking (B.calc bench.old) size object group.now desk.old).calls) }
+    ensures few { IfOk result (λ step. step.runs < 2 ^ 18) }
     ensures asks { Asks (sides_asking (B.calc bench.old) size object group.now desk.old) result desk.new
         (B.count bench.old) (B.count bench.new) (B.log bench.old) (B.log bench.new) }
     ensures differ { DifferAt group.now desk.old.market desk.new.market }
@@ -89,9 +87,12 @@ fn both_sides<B: Bench>(
 {
     let up = one_side(desk, object, base, size, group, bench)?;
     let down = one_side(desk, object, base, opposite(size), group, bench)?;
-    Ok(Sides {
-        up: up.side,
-        down: down.side,
+    Ok(Step {
+        rung: Rung {
+            label,
+            up: up.side,
+            down: down.side,
+        },
         runs: up.runs + down.runs,
     })
 }
@@ -129,7 +130,7 @@ fn one_side<B: Bench>(
 {
     if is_limit(shift, group) {
         return Ok(Sided {
-            side: Side::Limit,
+            side: Side::NoPrice(Missing::Limit),
             runs: 0,
         });
     }
@@ -149,7 +150,7 @@ fn gain(base: Amount, amount: Result<Amount, Cause>) -> Side
 {
     match amount {
         Ok(amount) => Side::Moved(Amount(amount.units() - base.units())),
-        Err(cause) => Side::Refused(cause),
+        Err(cause) => Side::NoPrice(Missing::Refused(cause)),
     }
 }
 

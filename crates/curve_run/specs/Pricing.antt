@@ -2,25 +2,13 @@
 use Rattle.std.specs.Prelude.{ℕ, List, [], ◌∷◌, ◌++◌, codes, Result, Ok, Err}
 use Rattle.curve_points.specs.Curve.{Curve}
 use Rattle.desk_terms.specs.declared.cause.Cause.{Cause}
-use Rattle.desk_terms.specs.declared.cause.Cause.TheVariants.{Unpriced}
-use Rattle.desk_terms.specs.declared.value.Value.TheVariants as value
-use Rattle.desk_terms.specs.Reading.{Outcome, Calc}
-use Rattle.desk_model.specs.Fresh.{fresh}
+use Rattle.desk_terms.specs.Reading.{Calc}
 use Rattle.desk_model.specs.Market.{Market}
 use Rattle.desk_model.specs.State.{State}
 use Rattle.price_report.specs.Line.{cause_text}
 use Rattle.price_report.specs.Namer.{object_text}
-use Rattle.bump_model.specs.Asking.{Asking, none, ask_of, then_ask}
-
--- the curve of an outcome. (An amount of money, which no curve is worth, is no curve.)
-abbrev pub curve_of : ℕ → Outcome → Result Curve Cause
-curve_of o (Ok (value.Curve curve)) = Ok curve
-curve_of o (Ok (value.Money amount)) = Err (Unpriced o)
-curve_of o (Err cause) = Err cause
-
--- the curve that an object gives in a market
-abbrev pub curve_at : Calc → Market → ℕ → Result Curve Cause
-curve_at calc market o = curve_of o (fresh calc market o)
+use Rattle.bump_model.specs.Asking.{Asking, ask_of, each_asking}
+use Rattle.bump_ladder.specs.Curves.{curve_at}
 
 abbrev pub curve_in : Result Curve Cause → List Curve
 curve_in (Ok curve) = curve ∷ []
@@ -47,6 +35,5 @@ refused_lines calc market names of_object (o ∷ objects) =
     refused_in names of_object o (curve_at calc market o) ++ refused_lines calc market names of_object objects
 
 -- THE ASKS for these objects, in order
-unfoldable pub curves_asking : Calc → List ℕ → State → Asking
-curves_asking calc [] s = none s
-curves_asking calc (o ∷ objects) s = then_ask (ask_of calc o s) (curves_asking calc objects)
+abbrev pub curves_asking : Calc → List ℕ → State → Asking
+curves_asking calc objects s = each_asking (ask_of calc) objects s

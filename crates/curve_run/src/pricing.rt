@@ -1,17 +1,15 @@
 // The prices of curves.
-ghost use Rattle.std.specs.Prelude.{◌≡◌, ◌++◌, ℕ, Some, true, IfOk, OnOk, option_copied};
-ghost use Rattle.desk_terms.specs.Asked.{Shows};
-ghost use Rattle.desk_terms.specs.Reading.{Outcome};
-ghost use Rattle.desk_model.specs.Links.{is_lazy_at};
+ghost use Rattle.std.specs.Prelude.{◌≡◌, ◌++◌, ℕ, IfOk, OnOk};
 ghost use Rattle.desk_model.specs.Sound.{IsSound};
 ghost use Rattle.desk_model.specs.Unheld.{HoldsNothing};
-ghost use Rattle.bump_model.specs.Asking.{Asks, ask_of};
+ghost use Rattle.bump_model.specs.Asking.{Asks};
 ghost use Rattle.curve_run.specs.Named.{AreCurves};
-ghost use Rattle.curve_run.specs.Pricing.{curve_of, curve_at, curve_in, refused_in, curves_of, refused_line, refused_lines, curves_asking};
+ghost use Rattle.curve_run.specs.Pricing.{curve_in, refused_in, curves_of, refused_line, refused_lines, curves_asking};
 
-use curve_points::{CurveValue, copy_curve};
+use bump_ladder::curve_at;
+use curve_points::CurveValue;
 use desk_names::ObjId;
-use desk_terms::{Asked, Bench, Cause, Value};
+use desk_terms::{Bench, Cause};
 use lazy_objects::Desk;
 use price_report::{Namer, cause_text};
 use std::alloc::{AllocError, Global};
@@ -46,7 +44,7 @@ pub(crate) fn price_all<B: Bench>(
     let lines = Vec::new(alloc);
     let mut priced = Priced { curves, lines };
     for object in objects {
-        let value = price(alloc, desk, *object, bench)?;
+        let value = curve_at(alloc, desk, *object, bench)?;
         keep(alloc, *object, value, namer, &mut priced)?;
     }
     Ok(priced)
@@ -89,45 +87,4 @@ pub(crate) fn refused_line(
     lines.extend_from_slice(b" refused ")?;
     cause_text(alloc, cause, namer, lines)?;
     lines.extend_from_slice(b"\n")
-}
-
-// Asks for a curve.
-fn price<B: Bench>(
-    alloc: Global,
-    desk: &mut Desk,
-    object: ObjId,
-    bench: &mut B,
-) -> Result<Result<CurveValue, Cause>, AllocError>
-    requires lazy { is_lazy_at desk.old.market object ≡ true }
-    requires sound { IsSound (B.calc bench.old) desk.old }
-    requires unheld { HoldsNothing desk.old }
-    ensures same { B.calc bench.new ≡ B.calc bench.old }
-    ensures value { IfOk result (λ value. value ≡ curve_at (B.calc bench.old) desk.old.market object) }
-    ensures asks { Asks (ask_of (B.calc bench.old) object desk.old) result desk.new
-        (B.count bench.old) (B.count bench.new) (B.log bench.old) (B.log bench.new) }
-    ensures market { desk.new.market ≡ desk.old.market }
-    ensures sound { IsSound (B.calc bench.old) desk.new }
-    ensures unheld { HoldsNothing desk.new }
-{
-    let asked = desk.ask(object, bench)?;
-    value_of(alloc, object, &asked, desk.last(object))
-}
-
-// The curve that an answer shows.
-fn value_of(
-    alloc: Global,
-    object: ObjId,
-    asked: &Asked,
-    value: Option<&Value>,
-) -> Result<Result<CurveValue, Cause>, AllocError>
-    requires given { (outcome : Outcome) × Shows asked.now.cause (option_copied value) outcome }
-    ensures { (outcome : Outcome) → Shows asked.now.cause (option_copied value.entry) outcome
-        → IfOk result (λ shown. shown ≡ curve_of object outcome) }
-{
-    match (&asked.cause, value) {
-        (Some(cause), _) => Ok(Err(*cause)),
-        (None, Some(Value::Curve(curve))) => Ok(Ok(copy_curve(alloc, curve)?)),
-        (None, Some(Value::Money(_))) => Ok(Err(Cause::Unpriced(object))),
-        (None, None) => unreachable!(),
-    }
 }

@@ -1,4 +1,3 @@
-pub mod Curves
 pub mod Lines
 pub mod Rows
 pub mod Says

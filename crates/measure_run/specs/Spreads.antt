@@ -5,13 +5,13 @@ use Rattle.desk_terms.specs.declared.cause.Cause.{Cause}
 use Rattle.desk_terms.specs.declared.cause.Cause.TheVariants as cause
 use Rattle.desk_terms.specs.Reading.{Calc}
 use Rattle.price_report.specs.Line.{cause_text}
+use Rattle.bump_ladder.specs.Curves.{curve_given}
 use Rattle.market_desk.specs.Making.{desk_with, names_with}
 use Rattle.bond_spread.specs.declared.spreads.SpreadFault.{SpreadFault}
 use Rattle.bond_spread.specs.declared.spreads.SpreadFault.TheVariants.{Before, Past, TooLarge, Above, Below}
 use Rattle.bond_spread.specs.Spread.{spread_of}
 use Rattle.bond_tool.specs.Lines.{value_line, refused_line}
 use Rattle.bond_tool.specs.Wording.{Bond}
-use Rattle.measure_run.specs.Curves.{curve_given}
 
 -- `NAME refused spread CAUSE`, the cause as a transcript has it
 abbrev pub cause_line : List (List ℕ) → List ℕ → List ℕ → Cause → List ℕ

@@ -4,7 +4,6 @@
 //! `run_measure`; `MeasureTool`, by which `run_bond` of bond_tool does it; `NAME`, `MeasureStatus`.
 #![tactic(auto)]
 
-mod curves;
 mod lines;
 mod rows;
 mod running;

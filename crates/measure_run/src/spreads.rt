@@ -10,9 +10,9 @@ ghost use Rattle.bond_tool.specs.Asked.{bond_in};
 ghost use Rattle.bond_tool.specs.Lines.{refused_line};
 ghost use Rattle.measure_run.specs.Spreads as text;
 
-use crate::curves::curve_given;
 use bond_spread::{SpreadFault, spread};
 use bond_tool::{Bond, MONEY_PLACES, RATE_PLACES, push_refused, push_value};
+use bump_ladder::curve_given;
 use curve_points::CurveValue;
 use desk_bench::DeskBench;
 use desk_names::ObjId;

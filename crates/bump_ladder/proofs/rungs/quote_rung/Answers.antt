@@ -2,10 +2,9 @@ use Rattle.std.proofs.Common.{◌≡◌, ℤ, Option, Some, None, length, refl, 
 use Rattle.std.specs.Prelude.{IfOk}
 use Rattle.bump_model.specs.Asking.{Asks, asking_for}
 use Rattle.bump_model.specs.Sides.{rung_for}
-use Rattle.bump_model.proofs.Calls.{made_none}
+use Rattle.bump_model.proofs.Calls.{Did, made_none}
 use Rattle.bump_model.proofs.Moving.{one_quoted}
-use Rattle.bump_ladder.specs.declared.rungs.Step.{Step}
-use Rattle.bump_ladder.proofs.Answered.{Did}
+use Rattle.bump_ladder.specs.declared.sides.Step.{Step}
 use Rattle.bump_ladder.proofs.Siding.{quoted_value}
 use Rattle.bump_ladder.proofs.rungs.quote_rung.Goals as goal
 

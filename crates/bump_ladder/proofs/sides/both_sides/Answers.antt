@@ -6,7 +6,9 @@ use Rattle.bump_model.specs.Sides.{side_of}
 use Rattle.bump_model.specs.Asking.{MadeFront, side_asking, sides_asking}
 use Rattle.bump_model.proofs.Moving.{live_differ, lazy_still, differ_more}
 use Rattle.bump_model.proofs.Asking.{side_same}
-use Rattle.bump_ladder.proofs.Answered.{Did, front_asks}
+use Rattle.bump_model.proofs.Calls.{Did}
+use Rattle.bump_ladder.proofs.Answered.{front_asks}
+use Rattle.bump_ladder.proofs.Climbing.{rung_is}
 use Rattle.bump_ladder.proofs.Siding.{then_ok, then_runs, then_front, first_front}
 use Rattle.bump_ladder.proofs.sides.both_sides.Goals as goal
 
@@ -18,13 +20,17 @@ pub one_side-requires-2-clause-live : goal.one_side-requires-2-clause-live
 one_side-requires-2-clause-live g c =
     live_differ c.args.group.now c.args.desk.now.market c.one_side.new.desk.market c.one_side.ensures.differ c.requires.live
 
-pub returns-clause-down : goal.returns-clause-down
-returns-clause-down g c =
+pub returns-clause-rung : goal.returns-clause-rung
+returns-clause-rung g c =
     let calc : Calc = g.B.Bench.calc c.args.bench.now in
-    subst (λ (k : Calc). c.in_ok-down.down.side ≡ side_of k c.one_side.new.desk.market c.args.object c.args.base (neg_ℤ c.args.size) c.args.group.now)
+    rung_is calc c.args.size c.args.desk.now.market c.args.object c.args.base c.args.label c.args.group.now
+    c.in_ok-up.up.side c.in_ok-down.down.side
+    c.in_ok-up.ensures.side
+    (subst (λ (k : Calc). c.in_ok-down.down.side ≡ side_of k c.one_side.new.desk.market c.args.object c.args.base
+    (neg_ℤ c.args.size) c.args.group.now)
     c.one_side.ensures.same (rw c.opposite.ensures at c.in_ok-down.ensures.side)
     ∙ side_same calc c.args.object c.args.desk.now.market c.args.group.now c.requires.live c.args.base (neg_ℤ c.args.size) c.one_side.new.desk.market
-    c.one_side.ensures.differ
+    c.one_side.ensures.differ)
 
 pub returns-clause-runs : goal.returns-clause-runs
 returns-clause-runs g c =

@@ -1,9 +1,10 @@
-use Rattle.std.proofs.Common.{true, false, sym, ◌∙◌, ap, subst, length}
+use Rattle.std.proofs.Common.{sym, ◌∙◌, ap, subst, length}
 use Rattle.std.proofs.lemmas.Result.{err_from_is_err_and}
-use Rattle.bump_model.specs.Moves.{moved, is_limit}
+use Rattle.bump_model.specs.Moves.{moved}
 use Rattle.bump_model.specs.Asking.{Asking, MadeFront, side_asking}
 use Rattle.bump_model.proofs.Moving.{differ_none, lazy_still}
-use Rattle.bump_ladder.proofs.Answered.{Did, front_asks}
+use Rattle.bump_model.proofs.Calls.{Did}
+use Rattle.bump_ladder.proofs.Answered.{front_asks}
 use Rattle.bump_ladder.proofs.Siding.{limit_side, limit_runs, limit_asks, moved_asking, moved_side, moved_differs, moved_unheld, differ_then}
 use Rattle.bump_ladder.proofs.sides.one_side.Goals as goal
 

@@ -24,11 +24,12 @@ use Rattle.curve_run.specs.Lines.{curve_text, curve_calls}
 use Rattle.market_desk.specs.Standing.{unnamed_line}
 use Rattle.curve_run.specs.Named.{curve_below, objects_named, lines_named, named_of}
 use Rattle.curve_run.specs.Plotting.{plotted_lines, unplotted}
-use Rattle.curve_run.specs.Pricing.{refused_line, curves_of, refused_lines, curves_asking}
+use Rattle.curve_run.specs.Pricing.{refused_line, curves_of, refused_lines}
+use Rattle.bump_model.specs.Asking.{each_asking}
 use Rattle.curve_run.proofs.rows.a_small_market_is_worked_through.Goals as goal
 
 pub returns : goal.returns
-unfolding digits date_in_year date_after date_of has_text place_of decimal_text below_by input_by input_at answer_by fresh is_frozen is_source is_late held_outcome seen_outcome now visit_by runs stored asked made with_made days_from_civil day_count days_of_years days_of_months months_later civil_number advanced adjusted beyond discount_at days_on rate_points dated_text table_heading row_text rows_text lines_rows table_text plotted_lines unplotted curve_text curve_calls curve_below unnamed_line objects_named lines_named named_of refused_line curves_of refused_lines curves_asking
+unfolding digits date_in_year date_after date_of has_text place_of decimal_text below_by input_by input_at answer_by fresh is_frozen is_source is_late held_outcome seen_outcome now visit_by runs stored asked made with_made days_from_civil day_count days_of_years days_of_months months_later civil_number advanced adjusted beyond discount_at days_on rate_points dated_text table_heading row_text rows_text lines_rows table_text plotted_lines unplotted curve_text curve_calls curve_below unnamed_line objects_named lines_named named_of refused_line curves_of refused_lines each_asking
 returns c = record {
   curve = refl;
   zeros = refl;

@@ -14,7 +14,8 @@ use Rattle.desk_model.proofs.Wants.{input_lazy}
 -- a number beyond all objects gives nothing
 pub unset_past : (m : Market) (o : ℕ) → length m.objects ≤ o → input_at m o ≡ Refuses (Unset o)
 unfolding input_by input_at
-unset_past m o past = ap (λ (slot : Slot). given (input_by m (length m.objects)) o (terms_in slot)) (get_or_past m.objects o Free past)
+unset_past m o past = ap (λ (slot : Slot). given (input_by m (length m.objects)) o (terms_in slot)) (get_or_past
+    m.objects o Free past)
 
 -- what is needed is lazy
 pub needs_lazy : (m : Market) (o x : ℕ) (entry : Entry) → entry ≡ input_at m o → entry ≡ Needs x → is_lazy_at m x ≡ true

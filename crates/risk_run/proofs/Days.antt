@@ -4,7 +4,7 @@ use Rattle.desk_terms.specs.Reading.{Calc}
 use Rattle.desk_model.specs.Effect.{today_set}
 use Rattle.desk_model.specs.State.{State}
 use Rattle.bump_model.specs.Asking.{Asks}
-use Rattle.bump_ladder.proofs.Answered.{Log}
+use Rattle.bump_model.proofs.Calls.{Log}
 use Rattle.risk_run.specs.Theta.{later_asking, day_asking, asking_on, theta_asking}
 use Rattle.risk_run.specs.Tomorrow.{tomorrow_of}
 

@@ -1,36 +1,16 @@
 -- Names, one behind another: the asks for them, and what is written.
-use Rattle.std.proofs.Common.{◌≡◌, ℕ, List, [], ◌∷◌, ◌++◌, Result, Ok, Err, ℤ, sym, ◌∙◌, ap, subst}
+use Rattle.std.proofs.Common.{◌≡◌, ℕ, List, [], ◌∷◌, ◌++◌, Result, Ok, Err, ℤ, sym, ◌∙◌, ap}
 use Rattle.std.proofs.lemmas.List.{append-nil, append_assoc}
 use Rattle.desk_terms.specs.declared.kind.Wanted.TheVariants.{Member}
 use Rattle.desk_terms.specs.Reading.{Calc}
 use Rattle.desk_model.specs.Market.{Market}
 use Rattle.desk_model.specs.State.{State}
-use Rattle.bump_model.specs.Asking.{MadeFront, none, then_ask}
-use Rattle.bump_ladder.proofs.Answered.{Log, Did}
 use Rattle.market_desk.specs.declared.named.Unnamed.{Unnamed}
 use Rattle.market_desk.specs.Standing.{object_named}
-use Rattle.risk_run.specs.Asking.{asking_for, name_asking, names_asking}
+use Rattle.risk_run.specs.Asking.{asking_for, name_asking}
 use Rattle.risk_run.specs.Lines.{text_for, name_text, names_text}
 
 module _ (calc : Calc) (size : ℤ) (names : List (List ℕ)) where
-  pub asking_step : (all rest : List (List ℕ)) (name : List ℕ) → all ≡ name ∷ rest → (s : State)
-      → names_asking calc size names all s ≡ then_ask (name_asking calc size names name s) (names_asking calc size names rest)
-  unfolding names_asking
-  asking_step all rest name steps s = ap (λ (l : List (List ℕ)). names_asking calc size names l s) steps
-
-  pub asking_ended : (all : List (List ℕ)) (s : State) → all ≡ [] → names_asking calc size names all s ≡ none s
-  unfolding names_asking
-  asking_ended all s is = ap (λ (l : List (List ℕ)). names_asking calc size names l s) is
-
-  module _ (k : Calc) (name : List ℕ) (s : State) (count now : ℕ) (log log_now : Log) (same : k ≡ calc) where
-    pub did_then : (t : State) → Did (name_asking k size names name s) t count now log log_now
-        → Did (name_asking calc size names name s) t count now log log_now
-    did_then t did = subst (λ (h : Calc). Did (name_asking h size names name s) t count now log log_now) same did
-
-    pub front_then : MadeFront (name_asking k size names name s).calls count now log log_now
-        → MadeFront (name_asking calc size names name s).calls count now log log_now
-    front_then made = subst (λ (h : Calc). MadeFront (name_asking h size names name s).calls count now log log_now) same made
-
   -- what is written of the next one
   pub text_step : (k : Calc) (m n : Market) (of_object : List ℕ) (all rest : List (List ℕ)) (name old new : List ℕ) → k ≡ calc → n ≡ m
       → all ≡ name ∷ rest → new ≡ old ++ name_text k size n names of_object name

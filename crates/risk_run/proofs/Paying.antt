@@ -1,5 +1,5 @@
 -- What objects pay, one behind another.
-use Rattle.std.proofs.Common.{◌≡◌, ℕ, suc, ◌+◌, List, [], ◌∷◌, ◌++◌, refl, ap, arith}
+use Rattle.std.proofs.Common.{◌≡◌, ℕ, suc, ◌+◌, [], ◌∷◌, ◌++◌, refl, ap, arith}
 use Rattle.desk_model.specs.Market.{Market}
 use Rattle.risk_run.specs.Dues.{Span, due_beneath, dues}
 

@@ -1,35 +1,12 @@
--- What an object gives, and another evaluation date.
-use Rattle.std.proofs.Common.{◌≡◌, ℕ, suc, ◌≤◌, Bool, true, false, ℤ, length, refl, sym, ap, ◌∙◌}
+-- Another evaluation date.
+use Rattle.std.proofs.Common.{◌≡◌, Bool, true, false, ℤ, refl, ap, ◌∙◌}
 use Rattle.std.specs.Ordering.{int_eq}
 use Rattle.std.specs.Prelude.{if◌then◌else◌}
 use Rattle.std.proofs.lemmas.Bool.Decides.{Decides-int_eq}
-use Rattle.std.proofs.lemmas.List.{get_or_past}
-use Rattle.desk_terms.specs.declared.cause.Cause.TheVariants.{Unset}
-use Rattle.desk_model.specs.declared.entry.Entry.{Entry}
-use Rattle.desk_model.specs.declared.entry.Entry.TheVariants.{Needs, Refuses}
-use Rattle.desk_model.specs.declared.slot.Slot.{Slot}
-use Rattle.desk_model.specs.declared.slot.Slot.TheVariants.{Free}
 use Rattle.desk_model.specs.Effect.{notified_as, notified, with_today, today_set}
-use Rattle.desk_model.specs.Links.{is_lazy_at}
-use Rattle.desk_model.specs.Market.{Market, terms_in}
+use Rattle.desk_model.specs.Market.{Market}
 use Rattle.desk_model.specs.State.{State}
 use Rattle.desk_model.specs.Told.{tell}
-use Rattle.desk_model.specs.Uses.{given, input_by, input_at}
-use Rattle.desk_model.proofs.Wants.{input_lazy}
-
--- ---- what an object gives where another names it
-
--- a number beyond all objects gives nothing
-pub unset_past : (m : Market) (o : ℕ) → length m.objects ≤ o → input_at m o ≡ Refuses (Unset o)
-unfolding input_by input_at
-unset_past m o past = ap (λ (slot : Slot). given (input_by m (length m.objects)) o (terms_in slot)) (get_or_past m.objects o Free past)
-
--- what is needed is lazy
-pub needs_lazy : (m : Market) (o x : ℕ) (entry : Entry) → entry ≡ input_at m o → entry ≡ Needs x → is_lazy_at m x ≡ true
-unfolding input_at
-needs_lazy m o x entry is needs = input_lazy m (suc (length m.objects)) o x (sym is ∙ needs)
-
--- ---- another evaluation date
 
 module _ (s : State) (day : ℤ) where
   told : (b : Bool) (u : State) → (notified_as b 0 u).market ≡ u.market

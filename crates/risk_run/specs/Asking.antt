@@ -9,7 +9,7 @@ use Rattle.desk_model.specs.State.{State}
 use Rattle.bump_model.specs.declared.ladder.Bump.{Bump}
 use Rattle.bump_model.specs.declared.ladder.Bump.TheVariants.{One, Together}
 use Rattle.bump_model.specs.Quotes.{quotes_in, beneath}
-use Rattle.bump_model.specs.Asking.{Asking, none, then_ask, ladder_asking}
+use Rattle.bump_model.specs.Asking.{Asking, none, then_ask, each_asking, ladder_asking}
 use Rattle.bump_model.specs.Sides.{worth}
 use Rattle.market_desk.specs.declared.named.Unnamed.{Unnamed}
 use Rattle.market_desk.specs.Standing.{Standing, object_named}
@@ -55,10 +55,8 @@ abbrev pub name_asking : Calc → ℤ → List (List ℕ) → List ℕ → State
 name_asking calc size names name s = asking_for calc size (object_named Member s.market names name) s
 
 -- THE ASKS for names, in order
-unfoldable pub names_asking : Calc → ℤ → List (List ℕ) → List (List ℕ) → State → Asking
-names_asking calc size names [] s = none s
-names_asking calc size names (name ∷ texts) s =
-    then_ask (name_asking calc size names name s) (names_asking calc size names texts)
+abbrev pub names_asking : Calc → ℤ → List (List ℕ) → List (List ℕ) → State → Asking
+names_asking calc size names texts s = each_asking (name_asking calc size names) texts s
 
 -- THE COMPUTATIONS for them
 abbrev pub risk_calls : Calc → Standing → ℤ → List (List ℕ) → List (ℕ × Outcome)

@@ -17,17 +17,22 @@ use Rattle.cash_flow_legs.specs.declared.live_flows.Flow.{Flow}
 use Rattle.cash_flow_legs.specs.Amount.{IndexView}
 use Rattle.cash_flow_legs.specs.Live.{live_flows}
 use Rattle.bump_model.specs.Quotes.{stands_on}
+use Rattle.risk_run.specs.declared.dues.Span as code
 use Rattle.risk_run.specs.declared.given.GivenCurve.{GivenCurve}
 use Rattle.risk_run.specs.Given.{curve_by}
 
 -- the day until which payments count, and the curves that engines and indexes give today and on that day
 pub record Span : Type 0 where
   pub day : ℤ
-  pub now : List GivenCurve
+  pub today : List GivenCurve
   pub later : List GivenCurve
 
 abbrev pub span_of : ℤ → List GivenCurve → List GivenCurve → Span
-span_of day now later = record { day = day; now = now; later = later }
+span_of day today later = record { day = day; today = today; later = later }
+
+-- the same of the code's
+abbrev pub span_in : code.Span → Span
+span_in span = span_of span.day span.today.now span.later.now
 
 -- an amount within the limit of prices: 10^24 units either way
 abbrev pub money_of : ℕ → ℤ → Result ℤ Cause
@@ -86,7 +91,8 @@ abbrev pub flows_due : Market → ℕ → FlowTerms → ℕ → Span → Result 
 flows_due market o flows engine span =
     if is_expired flows.flows market.today
     then Ok (pos 0)
-    else due_after market o flows (settled span.day (curve_by span.later engine)) span.now (curve_by span.now engine)
+    else due_after market o flows (settled span.day (curve_by span.later engine)) span.today (curve_by span.today
+    engine)
 
 -- ---- of instruments, in order of creation: what a composite names was made before it
 

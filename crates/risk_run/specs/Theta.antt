@@ -1,7 +1,7 @@
 -- THETA: what an instrument gains by the next business day where every quote stays (this project's profile). V(tomorrow) less V, and
 -- what V counts today and V(tomorrow) no longer counts, since it is paid in between: over a curve that begins some days after the
 -- evaluation date a payment leaves the price those days before it is paid.
-use Rattle.std.specs.Prelude.{ℕ, ℤ, ◌+ℤ◌, ◌-ℤ◌, ◌++◌, List, [], Option, None, Some, Result, Ok, Err}
+use Rattle.std.specs.Prelude.{ℕ, ℤ, ◌+ℤ◌, ◌-ℤ◌, List, [], Option, None, Some, Result, Ok, Err}
 use Rattle.desk_terms.specs.declared.cause.Cause.{Cause}
 use Rattle.desk_terms.specs.Reading.{Calc}
 use Rattle.desk_model.specs.Effect.{today_set}

@@ -11,7 +11,7 @@ ghost use Rattle.desk_model.specs.Links.{serves_as, IsRanged};
 ghost use Rattle.desk_model.specs.Uses.{index_at, index_in};
 ghost use Rattle.cash_flow_legs.specs.Amount.{views_of};
 ghost use Rattle.cash_flow_legs.specs.Live.{needs_curve};
-ghost use Rattle.risk_run.specs.Dues.{span_of, settled, money_of, paid_until, due_over, due_on, due_named, flows_due, member_due, weighted, is_member, due_in, due_of, due_beneath, paid};
+ghost use Rattle.risk_run.specs.Dues.{span_in, settled, money_of, paid_until, due_over, due_on, due_named, flows_due, member_due, weighted, is_member, due_in, due_of, due_beneath, paid};
 
 use crate::given::{GivenCurve, curve_by};
 use crate::sums::{paid_until, settled, weighted};
@@ -25,33 +25,30 @@ use flow_terms::{FlowTerms, IndexUse, expired, needs_forecast};
 use lazy_objects::Desk;
 use std::alloc::{AllocError, Global};
 
+// The day until which payments count, and the curves that engines and indexes give today and on that day.
+#[derive(Clone, Copy)]
+pub(crate) struct Span<'a> {
+    pub(crate) day: Day,
+    pub(crate) today: &'a [GivenCurve],
+    pub(crate) later: &'a [GivenCurve],
+}
+
 // What an instrument pays.
 pub(crate) fn paid(
     alloc: Global,
     desk: &mut Desk,
     object: ObjId,
-    day: Day,
-    now: &[GivenCurve],
-    later: &[GivenCurve],
+    span: &Span<'_>,
 ) -> Result<Result<Amount, Cause>, AllocError>
-    ensures due { IfOk result (λ due. due ≡ paid desk.old.market object (span_of day now.now later.now)) }
+    ensures due { IfOk result (λ due. due ≡ paid desk.old.market object (span_in span.now)) }
     ensures same { desk.new ≡ desk.old }
 {
     let mut dues = Vec::new(alloc);
     for number in 0..object.0 {
-        let due = due_beneath(
-            alloc,
-            desk,
-            object,
-            ObjId(number),
-            day,
-            now,
-            later,
-            dues.as_slice(),
-        )?;
+        let due = due_beneath(alloc, desk, object, ObjId(number), span, dues.as_slice())?;
         dues.push(due)?;
     }
-    due_of(alloc, desk, object, day, now, later, dues.as_slice())
+    due_of(alloc, desk, object, span, dues.as_slice())
 }
 
 // What an object beneath an instrument pays, by what those before it do; nothing where it is none.
@@ -60,16 +57,14 @@ fn due_beneath(
     desk: &mut Desk,
     above: ObjId,
     object: ObjId,
-    day: Day,
-    now: &[GivenCurve],
-    later: &[GivenCurve],
+    span: &Span<'_>,
     before: &[Result<Amount, Cause>],
 ) -> Result<Result<Amount, Cause>, AllocError>
-    ensures due { IfOk result (λ due. due ≡ due_beneath desk.old.market above object (span_of day now.now later.now) before.now) }
+    ensures due { IfOk result (λ due. due ≡ due_beneath desk.old.market above object (span_in span.now) before.now) }
     ensures same { desk.new ≡ desk.old }
 {
     if is_member(desk, above, object) {
-        due_of(alloc, desk, object, day, now, later, before)
+        due_of(alloc, desk, object, span, before)
     } else {
         Ok(Ok(Amount(0)))
     }
@@ -97,24 +92,13 @@ fn due_of(
     alloc: Global,
     desk: &Desk,
     object: ObjId,
-    day: Day,
-    now: &[GivenCurve],
-    later: &[GivenCurve],
+    span: &Span<'_>,
     before: &[Result<Amount, Cause>],
 ) -> Result<Result<Amount, Cause>, AllocError>
-    ensures { IfOk result (λ due. due ≡ due_of desk.now.market object (span_of day now.now later.now) before.now) }
+    ensures { IfOk result (λ due. due ≡ due_of desk.now.market object (span_in span.now) before.now) }
 {
     desk.shape();
-    due_in(
-        alloc,
-        desk,
-        object,
-        desk.terms(object),
-        day,
-        now,
-        later,
-        before,
-    )
+    due_in(alloc, desk, object, desk.terms(object), span, before)
 }
 
 // The same of an object with these terms; a stock pays nothing.
@@ -123,18 +107,16 @@ fn due_in(
     desk: &Desk,
     object: ObjId,
     terms: Option<&Terms>,
-    day: Day,
-    now: &[GivenCurve],
-    later: &[GivenCurve],
+    span: &Span<'_>,
     before: &[Result<Amount, Cause>],
 ) -> Result<Result<Amount, Cause>, AllocError>
     requires { IsRanged (option_copied terms) }
-    ensures { IfOk result (λ due. due ≡ due_in desk.now.market object (span_of day now.now later.now) before.now (option_copied terms.entry)) }
+    ensures { IfOk result (λ due. due ≡ due_in desk.now.market object (span_in span.now) before.now (option_copied terms.entry)) }
 {
     match terms {
         Some(Terms::Composite(parts)) => Ok(weighted(object, parts.items(), before)),
         Some(Terms::Flows(flows, Some(engine))) => {
-            flows_due(alloc, desk, object, flows, *engine, day, now, later)
+            flows_due(alloc, desk, object, flows, *engine, span)
         }
         Some(Terms::Flows(_, None)) => Ok(Ok(Amount(0))),
         None
@@ -158,21 +140,27 @@ fn flows_due(
     object: ObjId,
     terms: &FlowTerms,
     engine: ObjId,
-    day: Day,
-    now: &[GivenCurve],
-    later: &[GivenCurve],
+    span: &Span<'_>,
 ) -> Result<Result<Amount, Cause>, AllocError>
     requires { AreFlowsInRange terms.now }
-    ensures { IfOk result (λ due. due ≡ flows_due desk.now.market object terms.now engine (span_of day now.now later.now)) }
+    ensures { IfOk result (λ due. due ≡ flows_due desk.now.market object terms.now engine (span_in span.now)) }
 {
     if expired(terms, desk.today()) {
         return Ok(Ok(Amount(0)));
     }
-    let Some(curve) = curve_by(now, engine) else {
+    let Some(curve) = curve_by(span.today, engine) else {
         return Ok(Err(Cause::Unpriced(object)));
     };
-    let until = settled(day, curve_by(later, engine));
-    due_named(alloc, desk, object, terms, curve.reference(), until, now)
+    let until = settled(span.day, curve_by(span.later, engine));
+    due_named(
+        alloc,
+        desk,
+        object,
+        terms,
+        curve.reference(),
+        until,
+        span.today,
+    )
 }
 
 // What flows pay, by what their index gives.

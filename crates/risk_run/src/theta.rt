@@ -10,7 +10,7 @@ ghost use Rattle.bump_model.specs.Sides.{worth};
 ghost use Rattle.risk_run.specs.Given.{naming_in, curves_given, curves_asking};
 ghost use Rattle.risk_run.specs.Theta.{gain_of, gain_by, theta_of, on_day, later_asking, day_asking, asking_on, theta_asking};
 
-use crate::dues::paid;
+use crate::dues::{Span, paid};
 use crate::given::{GivenCurve, curves_given, naming_beneath};
 use crate::tomorrow::tomorrow;
 use bump_ladder::{LadderFault, ladder};
@@ -99,14 +99,12 @@ fn gain_by<B: Bench>(
     let names = naming_beneath(alloc, desk, object)?;
     let now = curves_given(alloc, desk, names.items(), bench)?;
     let later = later_on(alloc, desk, size, object, names.items(), day, bench)?;
-    let due = paid(
-        alloc,
-        desk,
-        object,
+    let span = Span {
         day,
-        now.as_slice(),
-        later.curves.as_slice(),
-    )?;
+        today: now.as_slice(),
+        later: later.curves.as_slice(),
+    };
+    let due = paid(alloc, desk, object, &span)?;
     Ok(gain_of(base, later.amount, due))
 }
 

@@ -1,13 +1,13 @@
-use Rattle.std.proofs.Common.{◌≡◌, ◌++◌, ◌∷◌, [], List, Result, ℤ, refl, sym, ◌∙◌, ap}
+use Rattle.std.proofs.Common.{◌++◌, ◌∷◌, [], List, Result, ℤ, refl, sym, ◌∙◌, ap}
 use Rattle.desk_terms.specs.declared.cause.Cause.{Cause}
 use Rattle.desk_model.specs.State.{State}
-use Rattle.risk_run.specs.Dues.{Span, span_of, due_beneath, dues}
+use Rattle.risk_run.specs.Dues.{Span, span_in, due_beneath, dues}
 use Rattle.risk_run.proofs.Paying.{dues_next, dues_none}
 use Rattle.risk_run.proofs.dues.paid.Goals as goal
 
 pub loop-number-init : goal.loop-number-init
 loop-number-init c = record {
-  dues = c.new-dues.ensures.items ∙ sym (dues_none c.args.desk.now.market c.args.object (span_of c.args.day c.args.now.now c.args.later.now));
+  dues = c.new-dues.ensures.items ∙ sym (dues_none c.args.desk.now.market c.args.object (span_in c.args.span.now));
   same = refl;
 }
 
@@ -15,7 +15,7 @@ pub loop-number-preserved : goal.loop-number-preserved
 loop-number-preserved c =
     let m = c.args.desk.now.market in
     let o = c.args.object in
-    let span : Span = span_of c.args.day c.args.now.now c.args.later.now in
+    let span : Span = span_in c.args.span.now in
     let n = c.loop-number.number in
     record {
       dues = c.in_ok-push.ensures.items

@@ -1,15 +1,17 @@
-use Rattle.std.proofs.Common.{ℕ, ◌+◌, ◌++◌, List, Option, length, drop, refl, sym, ◌∙◌, ap, subst}
+use Rattle.std.proofs.Common.{◌++◌, List, Result, refl, sym, ◌∙◌, ap, subst}
 use Rattle.std.proofs.Math.ListN.{drop_of_length-le}
 use Rattle.std.proofs.lemmas.Result.{err_from_is_err_and}
 use Rattle.curve_points.specs.Curve.{Curve}
+use Rattle.desk_terms.specs.declared.cause.Cause.{Cause}
 use Rattle.desk_terms.specs.Reading.{Calc}
 use Rattle.desk_model.specs.Sound.{IsSound}
-use Rattle.bump_model.proofs.Calls.{progress_none, progress_more, progress_front, progress_stops, last_next, last_made}
+use Rattle.bump_model.proofs.Each.{far_none, far_more, far_stops, far_front, far_ended}
+use Rattle.bump_ladder.specs.Curves.{given_asking}
 use Rattle.bump_ladder.proofs.Answered.{front_asks}
 use Rattle.bump_ladder.proofs.Climbing.{next_item}
 use Rattle.risk_run.specs.declared.given.GivenCurve.{GivenCurve}
-use Rattle.risk_run.specs.Given.{where_given, curves_given, given_asking, curves_asking}
-use Rattle.risk_run.proofs.Giving.{asking_step, asking_ended, did_then, front_then, curves_step, curves_ended}
+use Rattle.risk_run.specs.Given.{where_given, curves_given}
+use Rattle.risk_run.proofs.Giving.{curves_step, curves_ended}
 use Rattle.risk_run.proofs.given.curves_given.Goals as goal
 
 pub loop-name-init : goal.loop-name-init
@@ -17,7 +19,8 @@ loop-name-init g c =
     let calc : Calc = g.B.Bench.calc c.args.bench.now in
     record {
       same = refl;
-      progress = (0, progress_none (curves_asking calc c.args.names.now c.args.desk.now) (g.B.Bench.count c.args.bench.now) (g.B.Bench.log c.args.bench.now));
+      progress = far_none given_asking calc c.args.names.now c.args.desk.now (g.B.Bench.count c.args.bench.now)
+          (g.B.Bench.log c.args.bench.now);
       curves = ap (λ (l : List GivenCurve). l ++ curves_given calc c.args.desk.now.market c.args.names.now) c.new-curves.ensures.items;
       market = refl;
       sound = c.requires.sound;
@@ -41,19 +44,14 @@ loop-name-preserved g c =
     let s = c.loop-name.desk in
     let t = c.curve_given.new.desk in
     let steps = next_item names i x c.loop-name-test.true c.name-item.is in
-    let did = did_then calc k c.loop-name.invariant.same x s t (g.B.Bench.count c.loop-name.bench) (g.B.Bench.count c.curve_given.new.bench) (g.B.Bench.log c.loop-name.bench) (g.B.Bench.log c.curve_given.new.bench)
-    c.in_ok-given.ensures.asks in
     record {
       same = c.curve_given.ensures.same ∙ c.loop-name.invariant.same;
-      progress = (
-        _,
-        progress_more (curves_asking calc names c.args.desk.now) (curves_asking calc (drop i names) s) (given_asking calc x s) (curves_asking calc (drop (i + 1) names))
-            (asking_step calc _ _ x steps s) _ (g.B.Bench.count c.args.bench.now) (g.B.Bench.count c.loop-name.bench) (g.B.Bench.count c.curve_given.new.bench)
-            (g.B.Bench.log c.args.bench.now) (g.B.Bench.log c.loop-name.bench) (g.B.Bench.log c.curve_given.new.bench) c.loop-name.invariant.progress.1
-            t did.0 did.1 (length (given_asking calc x s).calls) refl,
-      );
+      progress = far_more given_asking calc _ _ k c.loop-name.invariant.same _ _ x steps s _ _ _ _ _ _
+          c.loop-name.invariant.progress
+          t c.in_ok-given.ensures.asks;
       curves = curves_step calc k c.loop-name.invariant.same x market s.market _ _ c.loop-name.curves.items _ c.loop-name.invariant.market steps
-          (c.in_ok-push_given.ensures ∙ ap (λ (v : Option Curve). c.loop-name.curves.items ++ where_given x v) c.in_ok-given.ensures.value)
+          (c.in_ok-push_given.ensures ∙ ap (λ (v : Result Curve Cause). c.loop-name.curves.items ++ where_given x v)
+          c.in_ok-given.ensures.value)
           ∙ c.loop-name.invariant.curves;
       market = c.curve_given.ensures.market ∙ c.loop-name.invariant.market;
       sound = subst (λ (h : Calc). IsSound h t) c.loop-name.invariant.same c.curve_given.ensures.sound;
@@ -63,18 +61,12 @@ loop-name-preserved g c =
 pub returns-in_err-given-clause-asks : goal.returns-in_err-given-clause-asks
 returns-in_err-given-clause-asks g c =
     let p = err_from_is_err_and c.from_residual.result c.from_residual.ensures.1 in
-    let calc : Calc = g.B.Bench.calc c.args.bench.now in
-    let names = c.args.names.now in
-    let x = c.name-item.result in
-    let i = c.loop-name.name-index in
-    let s = c.loop-name.desk in
-    let steps = next_item names i x c.loop-name-test.true c.name-item.is in
-    front_asks (curves_asking calc names c.args.desk.now) c.from_residual.result c.curve_given.new.desk (g.B.Bench.count c.args.bench.now) (g.B.Bench.count c.curve_given.new.bench) (g.B.Bench.log c.args.bench.now) (g.B.Bench.log c.curve_given.new.bench) p.0 p.1
-    (progress_front (curves_asking calc names c.args.desk.now) (curves_asking calc (drop i names) s) (given_asking calc x s) (curves_asking calc (drop (i + 1) names))
-    (asking_step calc _ _ x steps s) _ (g.B.Bench.count c.args.bench.now) (g.B.Bench.count c.loop-name.bench) (g.B.Bench.count c.curve_given.new.bench)
-    (g.B.Bench.log c.args.bench.now) (g.B.Bench.log c.loop-name.bench) (g.B.Bench.log c.curve_given.new.bench) c.loop-name.invariant.progress.1
-    (front_then calc (g.B.Bench.calc c.loop-name.bench) c.loop-name.invariant.same x s (g.B.Bench.count c.loop-name.bench) (g.B.Bench.count c.curve_given.new.bench) (g.B.Bench.log c.loop-name.bench) (g.B.Bench.log c.curve_given.new.bench)
-    c.in_err-given.ensures.asks))
+    let steps = next_item c.args.names.now c.loop-name.name-index c.name-item.result c.loop-name-test.true
+        c.name-item.is in
+    front_asks _ _ _ _ _ _ _ _ p.1
+    (far_front given_asking (g.B.Bench.calc c.args.bench.now) _ _ (g.B.Bench.calc c.loop-name.bench)
+    c.loop-name.invariant.same _ _ c.name-item.result steps
+    c.loop-name.desk _ _ _ _ _ _ c.loop-name.invariant.progress c.in_err-given.ensures.asks)
 
 pub returns-in_err-given-clause-same : goal.returns-in_err-given-clause-same
 returns-in_err-given-clause-same g c = c.curve_given.ensures.same ∙ c.loop-name.invariant.same
@@ -89,22 +81,12 @@ returns-in_err-given-clause-sound g c =
 pub returns-in_err-push_given-clause-asks : goal.returns-in_err-push_given-clause-asks
 returns-in_err-push_given-clause-asks g c =
     let p = err_from_is_err_and c.from_residual-in_err-push_given.result c.from_residual-in_err-push_given.ensures.1 in
-    let calc : Calc = g.B.Bench.calc c.args.bench.now in
-    let k : Calc = g.B.Bench.calc c.loop-name.bench in
-    let names = c.args.names.now in
-    let x = c.name-item.result in
-    let i = c.loop-name.name-index in
-    let s = c.loop-name.desk in
-    let t = c.curve_given.new.desk in
-    let steps = next_item names i x c.loop-name-test.true c.name-item.is in
-    let did = did_then calc k c.loop-name.invariant.same x s t (g.B.Bench.count c.loop-name.bench) (g.B.Bench.count c.curve_given.new.bench) (g.B.Bench.log c.loop-name.bench) (g.B.Bench.log c.curve_given.new.bench)
-    c.in_ok-given.ensures.asks in
-    front_asks (curves_asking calc names c.args.desk.now) c.from_residual-in_err-push_given.result t (g.B.Bench.count c.args.bench.now) (g.B.Bench.count c.curve_given.new.bench) (g.B.Bench.log c.args.bench.now) (g.B.Bench.log c.curve_given.new.bench) p.0 p.1
-    (progress_stops (curves_asking calc names c.args.desk.now) (curves_asking calc (drop (i + 1) names) t) _ (g.B.Bench.count c.args.bench.now) (g.B.Bench.count c.curve_given.new.bench) (g.B.Bench.log c.args.bench.now) (g.B.Bench.log c.curve_given.new.bench)
-    (progress_more (curves_asking calc names c.args.desk.now) (curves_asking calc (drop i names) s) (given_asking calc x s) (curves_asking calc (drop (i + 1) names))
-    (asking_step calc _ _ x steps s) _ (g.B.Bench.count c.args.bench.now) (g.B.Bench.count c.loop-name.bench) (g.B.Bench.count c.curve_given.new.bench)
-    (g.B.Bench.log c.args.bench.now) (g.B.Bench.log c.loop-name.bench) (g.B.Bench.log c.curve_given.new.bench) c.loop-name.invariant.progress.1
-    t did.0 did.1 (length (given_asking calc x s).calls) refl))
+    let steps = next_item c.args.names.now c.loop-name.name-index c.name-item.result c.loop-name-test.true
+        c.name-item.is in
+    front_asks _ _ _ _ _ _ _ _ p.1
+    (far_stops given_asking (g.B.Bench.calc c.args.bench.now) _ _ (g.B.Bench.calc c.loop-name.bench)
+    c.loop-name.invariant.same _ _ c.name-item.result steps
+    c.loop-name.desk _ _ _ _ _ _ c.loop-name.invariant.progress c.curve_given.new.desk c.in_ok-given.ensures.asks)
 
 pub returns-in_err-push_given-clause-same : goal.returns-in_err-push_given-clause-same
 returns-in_err-push_given-clause-same g c = c.curve_given.ensures.same ∙ c.loop-name.invariant.same
@@ -123,10 +105,6 @@ returns-clause-curves g c =
 
 pub returns-clause-asks : goal.returns-clause-asks
 returns-clause-asks g c =
-    let calc : Calc = g.B.Bench.calc c.args.bench.now in
-    let whole = curves_asking calc c.args.names.now c.args.desk.now in
-    let rest = curves_asking calc (drop c.loop-name.name-index c.args.names.now) c.loop-name.desk in
-    let ended = asking_ended calc _ c.loop-name.desk (drop_of_length-le c.args.names.now c.loop-name-test.false) in (
-      sym (last_next whole rest c.loop-name.desk ended _ (g.B.Bench.count c.args.bench.now) (g.B.Bench.count c.loop-name.bench) (g.B.Bench.log c.args.bench.now) (g.B.Bench.log c.loop-name.bench) c.loop-name.invariant.progress.1),
-      last_made whole rest c.loop-name.desk ended _ (g.B.Bench.count c.args.bench.now) (g.B.Bench.count c.loop-name.bench) (g.B.Bench.log c.args.bench.now) (g.B.Bench.log c.loop-name.bench) c.loop-name.invariant.progress.1,
-    )
+    far_ended given_asking (g.B.Bench.calc c.args.bench.now) _ _ _ c.loop-name.desk _ _ _ _ (drop_of_length-le
+    c.args.names.now c.loop-name-test.false)
+    c.loop-name.invariant.progress

@@ -2,7 +2,7 @@ use Rattle.std.proofs.Common.{◌≡◌, ◌++◌, ℕ, List, refl, sym, subst}
 use Rattle.std.specs.Prelude.{OnOk}
 use Rattle.bump_model.specs.Asking.{Asking, Asks}
 use Rattle.bump_model.proofs.Calls.{made_none}
-use Rattle.risk_run.proofs.Chaining.{asks_any}
+use Rattle.bump_ladder.proofs.Answered.{asks_any}
 use Rattle.risk_run.proofs.Naming.{named_asking, named_text}
 use Rattle.risk_run.proofs.names.name_rows.Goals as goal
 

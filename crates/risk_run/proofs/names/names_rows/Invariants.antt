@@ -1,10 +1,11 @@
-use Rattle.std.proofs.Common.{◌≡◌, ℕ, ◌++◌, drop}
+use Rattle.std.proofs.Common.{◌≡◌, ◌++◌, drop}
 use Rattle.std.specs.Prelude.{map}
 use Rattle.std.specs.String.{string_bytes}
+use Rattle.desk_terms.specs.Reading.{Calc}
 use Rattle.desk_model.specs.Sound.{IsSound}
 use Rattle.desk_model.specs.Unheld.{HoldsNothing}
-use Rattle.bump_model.proofs.Calls.{Progress}
-use Rattle.risk_run.specs.Asking.{names_asking}
+use Rattle.bump_model.proofs.Each.{Far}
+use Rattle.risk_run.specs.Asking.{name_asking}
 use Rattle.risk_run.specs.Lines.{names_text}
 use Rattle.risk_run.proofs.names.names_rows.Given as goal
 
@@ -12,8 +13,9 @@ use Rattle.risk_run.proofs.names.names_rows.Given as goal
 abbrev pub invariant-loop-text : goal.invariant-loop-text
 invariant-loop-text g l = record {
   same : g.B.Bench.calc l.bench ≡ g.B.Bench.calc l.initial.bench;
-  progress : (n : ℕ) × Progress (names_asking (g.B.Bench.calc l.initial.bench) l.size l.namer.names.now (map string_bytes l.texts) l.initial.desk)
-      (names_asking (g.B.Bench.calc l.initial.bench) l.size l.namer.names.now (map string_bytes (drop l.text-index l.texts)) l.desk) n
+  progress : Far (λ (h : Calc). name_asking h l.size l.namer.names.now) (g.B.Bench.calc l.initial.bench) (map
+      string_bytes l.texts) l.initial.desk
+      (map string_bytes (drop l.text-index l.texts)) l.desk
       (g.B.Bench.count l.initial.bench) (g.B.Bench.count l.bench) (g.B.Bench.log l.initial.bench) (g.B.Bench.log l.bench);
   lines : l.lines.items ++ names_text (g.B.Bench.calc l.initial.bench) l.size l.initial.desk.market l.namer.names.now l.namer.of_object.now (map string_bytes (drop l.text-index l.texts))
       ≡ l.initial.lines.items ++ names_text (g.B.Bench.calc l.initial.bench) l.size l.initial.desk.market l.namer.names.now l.namer.of_object.now (map string_bytes l.texts);

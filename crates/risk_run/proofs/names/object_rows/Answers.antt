@@ -13,13 +13,14 @@ use Rattle.bump_model.specs.Asking.{Asking, Asks, MadeFront, none, ladder_asking
 use Rattle.std.proofs.lemmas.List.{length-map}
 use Rattle.bump_model.specs.Moves.{AreBumps}
 use Rattle.bump_model.specs.Sides.{bump_rung}
-use Rattle.bump_model.proofs.Calls.{front_first, front_none, front_whole, made_none}
-use Rattle.bump_ladder.proofs.Answered.{Did, front_asks}
+use Rattle.bump_model.proofs.Calls.{Did, front_first, front_none, front_whole, made_none}
+use Rattle.bump_ladder.proofs.Answered.{asks_any, front_asks}
 use Rattle.bump_model.specs.Sides.{worth}
+use Rattle.bump_ladder.proofs.Siding.{then_ok}
 use Rattle.risk_run.specs.Asking.{bumps_in, theta_behind, instrument_asking, AreFew}
 use Rattle.risk_run.specs.Lines.{ladder_rows as ladder_rows_in}
 use Rattle.risk_run.specs.Theta.{theta_asking}
-use Rattle.risk_run.proofs.Chaining.{asks_any, asks_behind, did_behind, on_ok}
+use Rattle.risk_run.proofs.Chaining.{asks_behind, on_ok}
 use Rattle.risk_run.proofs.Rungs.{asking_over, asking_worth, asking_refused, ladder_text, refused_text}
 use Rattle.risk_run.proofs.names.object_rows.Goals as goal
 
@@ -123,8 +124,10 @@ returns-in-Err-Base-clause-asks g c =
     asks_any (instrument_asking calc c.args.size c.args.object c.args.desk.now) c.refused_row.result c.ladder.new.desk (g.B.Bench.count c.args.bench.now) (g.B.Bench.count c.ladder.new.bench) (g.B.Bench.log c.args.bench.now) (g.B.Bench.log c.ladder.new.bench)
     (subst (λ (a : Asking). Did a c.ladder.new.desk (g.B.Bench.count c.args.bench.now) (g.B.Bench.count c.ladder.new.bench) (g.B.Bench.log c.args.bench.now) (g.B.Bench.log c.ladder.new.bench))
     (sym (asking_refused calc c.args.size names of_object c.args.object c.args.desk.now c.bumps_of.new.desk _ c.bumps_of.ensures.same are _ _ answer))
-    (did_behind first none c.ladder.new.desk (g.B.Bench.count c.args.bench.now) (g.B.Bench.count c.ladder.new.bench) (g.B.Bench.log c.args.bench.now) (g.B.Bench.log c.ladder.new.bench) did
-    c.ladder.new.desk (g.B.Bench.count c.ladder.new.bench) (g.B.Bench.log c.ladder.new.bench) (refl, made_none (g.B.Bench.count c.ladder.new.bench) (g.B.Bench.log c.ladder.new.bench))))
+    (then_ok first none c.ladder.new.desk c.ladder.new.desk (g.B.Bench.count c.args.bench.now) (g.B.Bench.count
+    c.ladder.new.bench) (g.B.Bench.count c.ladder.new.bench) (g.B.Bench.log c.args.bench.now) (g.B.Bench.log
+    c.ladder.new.bench) (g.B.Bench.log c.ladder.new.bench) did
+    (refl, made_none (g.B.Bench.count c.ladder.new.bench) (g.B.Bench.log c.ladder.new.bench))))
 
 pub returns-clause-asks : goal.returns-clause-asks
 unfolding instrument_asking

@@ -12,9 +12,9 @@ use Rattle.desk_model.specs.Told.{forwards, told, tell}
 use Rattle.desk_model.specs.Effect.{made, notified, revised, quote_set, today_set}
 use Rattle.market_desk.specs.Making.{with_made}
 use Rattle.bump_model.specs.Moves.{with_values, all_set}
-use Rattle.bump_model.specs.Asking.{rung_asking, rungs_asking, ladder_asking}
+use Rattle.bump_model.specs.Asking.{each_asking, rung_asking, rungs_asking, ladder_asking}
 use Rattle.bump_model.specs.Quotes.{quotes_below}
-use Rattle.risk_run.specs.Asking.{instrument_asking, names_asking}
+use Rattle.risk_run.specs.Asking.{instrument_asking}
 use Rattle.risk_run.specs.Curves.{curves_below}
 use Rattle.risk_run.specs.Lines.{figure_row, sum_rows, shift_rows, bump_rows, bumps_rows, theta_row, refused_row, unnamed_row, name_text, names_text, risk_text}
 use Rattle.day_number.specs.Day.{date_in_year, date_after, date_of}
@@ -23,12 +23,12 @@ use Rattle.day_shift.specs.Business.{first_from, next}
 use Rattle.holiday_calendars.specs.Calendar.{is_business_day}
 use Rattle.cash_flow_legs.specs.Live.{with_amounts}
 use Rattle.risk_run.specs.Dues.{dues}
-use Rattle.risk_run.specs.Given.{naming_below, curves_given, curves_asking}
+use Rattle.risk_run.specs.Given.{naming_below, curves_given}
 use Rattle.risk_run.specs.Theta.{day_asking, theta_asking}
 use Rattle.risk_run.proofs.rows.a_small_market_is_worked_through.Goals as goal
 
 pub returns : goal.returns
-unfolding digits date_in_year date_after date_of days_after advanced first_from next is_business_day with_amounts dues naming_below curves_given curves_asking day_asking theta_asking instrument_asking has_text place_of decimal_text below_by reaches input_by input_at answer_by fresh is_frozen is_source is_late held_outcome seen_outcome now visit_by runs stored asked forwards told tell made notified revised quote_set today_set with_made with_values all_set rung_asking rungs_asking ladder_asking quotes_below names_asking curves_below figure_row sum_rows shift_rows bump_rows bumps_rows theta_row refused_row unnamed_row name_text names_text risk_text
+unfolding digits date_in_year date_after date_of days_after advanced first_from next is_business_day with_amounts dues naming_below curves_given each_asking day_asking theta_asking instrument_asking has_text place_of decimal_text below_by reaches input_by input_at answer_by fresh is_frozen is_source is_late held_outcome seen_outcome now visit_by runs stored asked forwards told tell made notified revised quote_set today_set with_made with_values all_set rung_asking rungs_asking ladder_asking quotes_below curves_below figure_row sum_rows shift_rows bump_rows bumps_rows theta_row refused_row unnamed_row name_text names_text risk_text
 returns c = record {
   stock = refl;
   refused = refl;

@@ -1,10 +1,10 @@
-use Rattle.std.proofs.Common.{◌≡◌, ◌≤◌, ◌<◌, ◌+◌, ◌*◌, ◌^◌, ◌∙◌, arith, sym, ap, subst, ℤ, ◌+ℤ◌, unsigned_abs, to_z, to_z-of_z, FitsSigned}
+use Rattle.std.proofs.Common.{◌≡◌, ◌≤◌, ◌<◌, ◌+◌, ◌^◌, ◌∙◌, arith, sym, ap, subst, ℤ, ◌+ℤ◌, unsigned_abs, to_z, to_z-of_z, FitsSigned}
 use Rattle.std.specs.Int.{w128}
 use Rattle.std.proofs.lemmas.Int.{fits_signed_from_abs}
 use Rattle.std.proofs.lemmas.List.Elements.{All-get_or}
 use Rattle.desk_terms.specs.declared.terms.Part.{Part}
 use Rattle.desk_terms.specs.Parts.{IsWeight}
-use Rattle.risk_run.specs.Dues.{product, summed}
+use Rattle.risk_run.specs.Dues.{product}
 use Rattle.risk_run.proofs.Summing.{one_more, refused, finished, is_refused, weights_are}
 use Rattle.risk_run.proofs.sums.summed.Goals as goal
 

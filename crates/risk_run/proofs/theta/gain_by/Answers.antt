@@ -3,11 +3,11 @@ use Rattle.std.proofs.lemmas.Result.{err_from_is_err_and}
 use Rattle.desk_terms.specs.Reading.{Calc}
 use Rattle.desk_model.specs.State.{State}
 use Rattle.bump_model.specs.Asking.{Asking, MadeFront, then_ask}
-use Rattle.bump_model.proofs.Calls.{front_first}
-use Rattle.bump_ladder.proofs.Answered.{Did, front_asks}
+use Rattle.bump_model.proofs.Calls.{Did, front_first}
+use Rattle.bump_ladder.proofs.Answered.{asks_any, front_asks}
 use Rattle.risk_run.specs.Given.{naming_in, curves_asking}
 use Rattle.risk_run.specs.Theta.{day_asking}
-use Rattle.risk_run.proofs.Chaining.{asks_any, did_behind, front_behind}
+use Rattle.bump_ladder.proofs.Siding.{then_ok, then_front}
 use Rattle.risk_run.proofs.theta.gain_by.Goals as goal
 
 pub returns-in_err-now-clause-asks : goal.returns-in_err-now-clause-asks
@@ -37,10 +37,12 @@ returns-in_err-later-clause-asks g c =
     ∙ ap (λ (l : List ℕ). day_asking calc c.args.size c.args.object l c.args.day t) (c.items-2.ensures ∙ c.in_ok-names.ensures.found) in
     front_asks (then_ask (curves_asking calc names c.args.desk.now) (day_asking calc c.args.size c.args.object names c.args.day)) c.from_residual-in_err-later.result c.later_on.new.desk
     (g.B.Bench.count c.args.bench.now) (g.B.Bench.count c.later_on.new.bench) (g.B.Bench.log c.args.bench.now) (g.B.Bench.log c.later_on.new.bench) p.0 p.1
-    (front_behind (curves_asking calc names c.args.desk.now) (day_asking calc c.args.size c.args.object names c.args.day) t
-    (g.B.Bench.count c.args.bench.now) (g.B.Bench.count c.curves_given.new.bench) (g.B.Bench.log c.args.bench.now) (g.B.Bench.log c.curves_given.new.bench)
+    (then_front (curves_asking calc names c.args.desk.now) (day_asking calc c.args.size c.args.object names
+    c.args.day) t c.later_on.new.desk
+    (g.B.Bench.count c.args.bench.now) (g.B.Bench.count c.curves_given.new.bench) (g.B.Bench.count
+    c.later_on.new.bench) (g.B.Bench.log c.args.bench.now) (g.B.Bench.log c.curves_given.new.bench) (g.B.Bench.log
+    c.later_on.new.bench)
     (subst (λ (a : Asking). Did a t (g.B.Bench.count c.args.bench.now) (g.B.Bench.count c.curves_given.new.bench) (g.B.Bench.log c.args.bench.now) (g.B.Bench.log c.curves_given.new.bench)) same c.in_ok-now.ensures.asks)
-    (g.B.Bench.count c.later_on.new.bench) (g.B.Bench.log c.later_on.new.bench)
     (subst (λ (a : Asking). MadeFront a.calls (g.B.Bench.count c.curves_given.new.bench) (g.B.Bench.count c.later_on.new.bench) (g.B.Bench.log c.curves_given.new.bench) (g.B.Bench.log c.later_on.new.bench))
     then_same c.in_err-later.ensures.asks))
 
@@ -56,10 +58,12 @@ returns-clause-asks g c =
     ∙ ap (λ (l : List ℕ). day_asking calc c.args.size c.args.object l c.args.day t) (c.items-2.ensures ∙ c.in_ok-names.ensures.found) in
     subst (λ (u : State). Did (then_ask (curves_asking calc names c.args.desk.now) (day_asking calc c.args.size c.args.object names c.args.day)) u
     (g.B.Bench.count c.args.bench.now) (g.B.Bench.count c.later_on.new.bench) (g.B.Bench.log c.args.bench.now) (g.B.Bench.log c.later_on.new.bench)) (sym c.paid.ensures.same)
-    (did_behind (curves_asking calc names c.args.desk.now) (day_asking calc c.args.size c.args.object names c.args.day) t
-    (g.B.Bench.count c.args.bench.now) (g.B.Bench.count c.curves_given.new.bench) (g.B.Bench.log c.args.bench.now) (g.B.Bench.log c.curves_given.new.bench)
+    (then_ok (curves_asking calc names c.args.desk.now) (day_asking calc c.args.size c.args.object names c.args.day) t
+    c.later_on.new.desk
+    (g.B.Bench.count c.args.bench.now) (g.B.Bench.count c.curves_given.new.bench) (g.B.Bench.count
+    c.later_on.new.bench) (g.B.Bench.log c.args.bench.now) (g.B.Bench.log c.curves_given.new.bench) (g.B.Bench.log
+    c.later_on.new.bench)
     (subst (λ (a : Asking). Did a t (g.B.Bench.count c.args.bench.now) (g.B.Bench.count c.curves_given.new.bench) (g.B.Bench.log c.args.bench.now) (g.B.Bench.log c.curves_given.new.bench)) same c.in_ok-now.ensures.asks)
-    c.later_on.new.desk (g.B.Bench.count c.later_on.new.bench) (g.B.Bench.log c.later_on.new.bench)
     (subst (λ (a : Asking). Did a c.later_on.new.desk (g.B.Bench.count c.curves_given.new.bench) (g.B.Bench.count c.later_on.new.bench) (g.B.Bench.log c.curves_given.new.bench) (g.B.Bench.log c.later_on.new.bench))
     then_same c.in_ok-later.ensures.asks))
 
@@ -77,9 +81,11 @@ returns-in_err-due-clause-asks g c =
     (g.B.Bench.count c.args.bench.now) (g.B.Bench.count c.later_on.new.bench) (g.B.Bench.log c.args.bench.now) (g.B.Bench.log c.later_on.new.bench)
     (subst (λ (u : State). Did (then_ask (curves_asking calc names c.args.desk.now) (day_asking calc c.args.size c.args.object names c.args.day)) u
     (g.B.Bench.count c.args.bench.now) (g.B.Bench.count c.later_on.new.bench) (g.B.Bench.log c.args.bench.now) (g.B.Bench.log c.later_on.new.bench)) (sym c.paid.ensures.same)
-    (did_behind (curves_asking calc names c.args.desk.now) (day_asking calc c.args.size c.args.object names c.args.day) t
-    (g.B.Bench.count c.args.bench.now) (g.B.Bench.count c.curves_given.new.bench) (g.B.Bench.log c.args.bench.now) (g.B.Bench.log c.curves_given.new.bench)
+    (then_ok (curves_asking calc names c.args.desk.now) (day_asking calc c.args.size c.args.object names c.args.day) t
+    c.later_on.new.desk
+    (g.B.Bench.count c.args.bench.now) (g.B.Bench.count c.curves_given.new.bench) (g.B.Bench.count
+    c.later_on.new.bench) (g.B.Bench.log c.args.bench.now) (g.B.Bench.log c.curves_given.new.bench) (g.B.Bench.log
+    c.later_on.new.bench)
     (subst (λ (a : Asking). Did a t (g.B.Bench.count c.args.bench.now) (g.B.Bench.count c.curves_given.new.bench) (g.B.Bench.log c.args.bench.now) (g.B.Bench.log c.curves_given.new.bench)) same c.in_ok-now.ensures.asks)
-    c.later_on.new.desk (g.B.Bench.count c.later_on.new.bench) (g.B.Bench.log c.later_on.new.bench)
     (subst (λ (a : Asking). Did a c.later_on.new.desk (g.B.Bench.count c.curves_given.new.bench) (g.B.Bench.count c.later_on.new.bench) (g.B.Bench.log c.curves_given.new.bench) (g.B.Bench.log c.later_on.new.bench))
     then_same c.in_ok-later.ensures.asks)))

@@ -1,4 +1,4 @@
-use Rattle.std.proofs.Common.{◌≡◌, ◌∙◌, true, ℤ, Result, sym, ap, subst}
+use Rattle.std.proofs.Common.{◌≡◌, ◌∙◌, true, ℤ, sym, ap, subst}
 use Rattle.std.specs.Prelude.{IfOk}
 use Rattle.desk_terms.specs.declared.kind.Wanted.TheVariants.{Member}
 use Rattle.desk_model.specs.Effect.{today_set}

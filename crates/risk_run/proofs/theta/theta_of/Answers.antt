@@ -2,8 +2,8 @@ use Rattle.std.proofs.Common.{◌∙◌, None, Some, sym, ap, subst}
 use Rattle.std.proofs.lemmas.Result.{err_from_is_err_and}
 use Rattle.desk_terms.specs.Reading.{Calc}
 use Rattle.bump_model.specs.Asking.{Asking, MadeFront}
-use Rattle.bump_model.proofs.Calls.{made_none}
-use Rattle.bump_ladder.proofs.Answered.{Did, front_asks}
+use Rattle.bump_model.proofs.Calls.{Did, made_none}
+use Rattle.bump_ladder.proofs.Answered.{front_asks}
 use Rattle.risk_run.specs.Theta.{asking_on, theta_asking}
 use Rattle.risk_run.proofs.Days.{asking_tomorrow}
 use Rattle.risk_run.proofs.theta.theta_of.Goals as goal

@@ -98,8 +98,8 @@ summed = made (Stock 3) (made (Derived false 1 2) (quoted (Some (neg_ℤ (pos (1
 
 pub record IsTogether : Type 0 where
   pub rungs : rungs_in summed.market 4 (neg_ℤ (pos 999_999_999_999_999_993)) (1 ∷ 2 ∷ []) ≡
-      rung (Some 1) (Moved (pos 100_000)) (NoPrice (Refused (TooLarge 3))) ∷ rung (Some 2) (Moved (pos 100_000))
-      (NoPrice Limit)
+      rung (Some 1) (Moved (pos 100_000)) (NoPrice (Refused (TooLarge 3)))
+      ∷ rung (Some 2) (Moved (pos 100_000)) (NoPrice Limit)
       ∷ rung None (Moved (pos 200_000)) (NoPrice Limit) ∷ []
   pub runs : length (asking 4 (1 ∷ 2 ∷ []) summed).calls ≡ 4
   pub calls : log_of (asking 4 (1 ∷ []) summed).calls ≡ (4, true) ∷ (4, true) ∷ (4, true) ∷ []

@@ -20,8 +20,8 @@ rung label up down = record { label = label; up = up; down = down }
 abbrev pub rungs : List Rung
 rungs =
     rung (Some 1) (Moved (negsuc 2_722)) (Moved (pos 2_723)) ∷ rung (Some 3) Unset Unset
-    ∷ rung (Some 3) (NoPrice Limit) (NoPrice (Refused (TooLarge 2))) ∷ rung None (Moved (negsuc 2_722)) (Moved (pos
-        2_723)) ∷ []
+    ∷ rung (Some 3) (NoPrice Limit) (NoPrice (Refused (TooLarge 2)))
+    ∷ rung None (Moved (negsuc 2_722)) (Moved (pos 2_723)) ∷ []
 
 pub record AreWorked : Type 0 where
   pub ladder : ladder_lines four_names four_objects 2 (pos 99_009_901) rungs 10 ≡

@@ -23,8 +23,8 @@ module _ (f g : ℤ → ℤ → ℤ) (base : ℤ) (same : (u d : ℤ) → g (u -
   by_worths (Err cause) (Err other) = refl
 
   by_limits : (b c : Bool) (up down : Result ℤ Cause)
-      → figure_in g (both_in (if b then side.NoPrice Limit else gain base up) (if c then side.NoPrice Limit else gain
-          base down))
+      → figure_in g
+      (both_in (if b then side.NoPrice Limit else gain base up) (if c then side.NoPrice Limit else gain base down))
       ≡ figure_of f (if b then Err Limit else price_of up) (if c then Err Limit else price_of down)
   by_limits true true up down = refl
   by_limits true false up down = refl

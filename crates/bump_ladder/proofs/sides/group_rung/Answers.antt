@@ -31,7 +31,7 @@ pub returns-clause-market : goal.returns-clause-market
 returns-clause-market g c =
     ap (λ (u : State). u.market) c.set_back.ensures.back
     ∙ set_back_same c.args.group.now c.args.desk.now.market c.both_sides-step.new.desk c.requires.quoted
-        c.both_sides-step.ensures.differ
+    c.both_sides-step.ensures.differ
 
 pub returns-clause-sound : goal.returns-clause-sound
 returns-clause-sound g c = c.set_back.ensures.sound (g.B.Bench.calc c.args.bench.now) c.both_sides-step.ensures.sound

@@ -62,7 +62,7 @@ pub returns-in_err-given-clause-asks : goal.returns-in_err-given-clause-asks
 returns-in_err-given-clause-asks g c =
     let p = err_from_is_err_and c.from_residual.result c.from_residual.ensures.1 in
     let steps = next_item c.args.names.now c.loop-name.name-index c.name-item.result c.loop-name-test.true
-        c.name-item.is in
+    c.name-item.is in
     front_asks _ _ _ _ _ _ _ _ p.1
     (far_front given_asking (g.B.Bench.calc c.args.bench.now) _ _ (g.B.Bench.calc c.loop-name.bench)
     c.loop-name.invariant.same _ _ c.name-item.result steps
@@ -82,7 +82,7 @@ pub returns-in_err-push_given-clause-asks : goal.returns-in_err-push_given-claus
 returns-in_err-push_given-clause-asks g c =
     let p = err_from_is_err_and c.from_residual-in_err-push_given.result c.from_residual-in_err-push_given.ensures.1 in
     let steps = next_item c.args.names.now c.loop-name.name-index c.name-item.result c.loop-name-test.true
-        c.name-item.is in
+    c.name-item.is in
     front_asks _ _ _ _ _ _ _ _ p.1
     (far_stops given_asking (g.B.Bench.calc c.args.bench.now) _ _ (g.B.Bench.calc c.loop-name.bench)
     c.loop-name.invariant.same _ _ c.name-item.result steps

@@ -60,7 +60,7 @@ pub returns-in_err-name_rows-clause-asks : goal.returns-in_err-name_rows-clause-
 returns-in_err-name_rows-clause-asks g c =
     let p = err_from_is_err_and c.from_residual.result c.from_residual.ensures.1 in
     let steps = ap (map string_bytes) (next_item c.args.texts.now c.loop-text.text-index c.text-item.result
-        c.loop-text-test.true c.text-item.is) in
+    c.loop-text-test.true c.text-item.is) in
     front_asks _ _ _ _ _ _ _ _ p.1
     (far_front (λ (h : Calc). name_asking h c.args.size c.args.namer.now.names.now) (g.B.Bench.calc c.args.bench.now)
     _ _ (g.B.Bench.calc c.loop-text.bench) c.loop-text.invariant.same

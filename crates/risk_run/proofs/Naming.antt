@@ -1,5 +1,5 @@
 -- Names, one behind another: the asks for them, and what is written.
-use Rattle.std.proofs.Common.{◌≡◌, ℕ, List, [], ◌∷◌, ◌++◌, Result, Ok, Err, ℤ, sym, ◌∙◌, ap}
+use Rattle.std.proofs.Common.{◌≡◌, ℕ, List, [], ◌∷◌, ◌++◌, Result, ℤ, sym, ◌∙◌, ap}
 use Rattle.std.proofs.lemmas.List.{append-nil, append_assoc}
 use Rattle.desk_terms.specs.declared.kind.Wanted.TheVariants.{Member}
 use Rattle.desk_terms.specs.Reading.{Calc}

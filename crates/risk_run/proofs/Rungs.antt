@@ -16,7 +16,7 @@ use Rattle.bump_model.specs.declared.ladder.Rung.{Rung}
 use Rattle.bump_model.specs.Moves.{value_at}
 use Rattle.bump_model.specs.Quotes.{stands_on, beneath}
 use Rattle.bump_model.specs.Sides.{worth, rung_for, bump_rung, rungs_of}
-use Rattle.bump_model.specs.Asking.{Asking, IsLadder, IsRefused, none, then_ask, ladder_asking}
+use Rattle.bump_model.specs.Asking.{IsLadder, IsRefused, none, then_ask, ladder_asking}
 use Rattle.risk_model.specs.declared.figures.Figure.{Figure}
 use Rattle.risk_model.specs.Figures.{delta_of, gamma_of, delta_in, gamma_in}
 use Rattle.risk_model.proofs.Prices.{rung_delta, rung_gamma}

@@ -1,5 +1,5 @@
 -- What is moved for an instrument, and what is computed for names.
-use Rattle.std.specs.Prelude.{◌≤◌, ◌^◌, length, ℕ, ℤ, List, [], ◌∷◌, ◌++◌, map, Some, Result, Ok, Err}
+use Rattle.std.specs.Prelude.{◌≤◌, ◌^◌, length, ℕ, ℤ, List, ◌++◌, map, Some, Result, Ok, Err}
 use Rattle.std.specs.List.{All}
 use Rattle.desk_terms.specs.declared.cause.Cause.{Cause}
 use Rattle.desk_terms.specs.declared.kind.Wanted.TheVariants.{Member}

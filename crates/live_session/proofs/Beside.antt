@@ -1,12 +1,12 @@
 -- What was said stands beside its session.
-use Rattle.std.proofs.Common.{◌≡◌, ◌∙◌, ℕ, Bool, true, false, cond, List, [], ◌∷◌, ◌++◌, length, None, refl, sym, ap, subst, inl, inr}
+use Rattle.std.proofs.Common.{◌≡◌, ◌∙◌, ℕ, Bool, true, cond, List, [], ◌∷◌, ◌++◌, length, None, refl, sym, ap, subst, inl, inr}
 use Rattle.std.proofs.lemmas.Bool.{cases_Bool}
 use Rattle.desk_names.specs.Names.{has_text, with_text}
 use Rattle.session_model.specs.Course.{Running}
 use Rattle.session_model.specs.Grown.{learn_in, interned_in}
 use Rattle.live_session.specs.Lines.{Lines, StandBy, IsFollowed}
 use Rattle.live_session.specs.Standing.{IsCopy, BlockFits}
-use Rattle.live_session.proofs.Learnt.{empty_copy, none_learnt, one_learnt, interned_new, still_fits}
+use Rattle.live_session.proofs.Learnt.{empty_copy, one_learnt, interned_new, still_fits}
 
 -- nothing was said yet
 pub begins_beside : (P : Type 0) (r : Running P) (begun : List (List ℕ)) (l : Lines)
@@ -33,7 +33,7 @@ module _ (P : Type 0) (r new : Running P) (text : List ℕ) (is : new ≡ intern
   interned_fits l fits = elim (cases_Bool (has_text r.standing.names text)) [
     | inl has ↦ subst (λ (x : Running P). BlockFits l.block (length x.standing.names) (length l.begun) (length x.standing.actions))
         (sym (is ∙ ap (λ (b : Bool). cond b r (learn_in text r)) has)) fits
-    | inr none ↦ still_fits P r new (one_learnt P r r new text (is ∙ interned_new text r none) (none_learnt P r)) l.block (length l.begun) fits
+    | inr none ↦ still_fits P (text ∷ []) r new (one_learnt P r new text (is ∙ interned_new text r none)) l.block (length l.begun) fits
   ]
 
   -- it stands beside a session that interned a text, where what lines are read over followed it

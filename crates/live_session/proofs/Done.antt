@@ -4,6 +4,7 @@ use Rattle.std.specs.Prelude.{All, OnOk, OnErr}
 use Rattle.std.proofs.lemmas.List.Elements.{All-nil, All-cons, All-head, All-tail, All-push}
 use Rattle.session_commands.specs.declared.command.Command.{Command}
 use Rattle.session_commands.specs.Whole.{IsCommand}
+use Rattle.session_lang.proofs.AddedNames.{any_err}
 use Rattle.session_model.specs.Course.{Running, Meaning}
 use Rattle.session_model.proofs.Growing.{command_grows}
 use Rattle.session_rounds.specs.Goes.{Output, Halts}
@@ -39,11 +40,6 @@ module _ (names more begun : ℕ) (le : names ≤ more) where
 pub ended_begun : {P : Type 0} → (block : Option Block) (s : Live P) → (block_ended block s).begun ≡ s.begun
 ended_begun None s = refl
 ended_begun (Some block) s = refl
-
--- what holds anyhow holds of a fault
-pub any_err : {T E Q : Type 0} (r : Result T E) → Q → OnErr r Q
-any_err (Ok x) q = tt
-any_err (Err e) q = q
 
 pub put_halts : {P T E : Type 0} → (m : Meaning P) (r : Running P) (begun : List (List ℕ)) (block : Option Block) (c : Command) (res : Result T E) (out : Output)
     → OnErr res ((line : ℕ) → Halts P (as_course (commanded m block (live r begun block line) c)) out out)

@@ -1,6 +1,6 @@
 -- Names behind others, learnt in order.
 use Rattle.std.proofs.Common.{◌≡◌, ℕ, ◌+◌, ◌<◌, ◌≤◌, Bool, true, false, cond, List, [], ◌∷◌, ◌++◌, length, drop, get_or, Option, Some, refl, sym, ap, subst, ◌∙◌, append_assoc, arith, inl, inr}
-use Rattle.std.specs.Prelude.{slice_get}
+use Rattle.std.specs.Prelude.{◌⊎◌, slice_get}
 use Rattle.std.proofs.lemmas.Bool.{cases_Bool}
 use Rattle.std.proofs.lemmas.List.{append-nil, length-append, get_or_append_left, drop_all, nil_from_length}
 use Rattle.std.proofs.lemmas.Option.{slice_get-get_or, get_or_from_slice_get}
@@ -101,15 +101,37 @@ unfolding learnt
 learnt_stopped [] r = refl
 learnt_stopped (text ∷ more) r = learnt_stopped more (learn_in text r)
 
-pub none_learnt : (P : Type 0) (r : Running P) → HasLearnt P r r
+pub none_learnt : (P : Type 0) (names : List (List ℕ)) (r : Running P) → HasLearnt P names r r
 unfolding learnt
-none_learnt P r = record { more = []; whole = refl }
+none_learnt P names r = record { front = []; rest = names; all = refl; whole = refl }
 
-pub one_learnt : (P : Type 0) (old r new : Running P) (text : List ℕ) → new ≡ learn_in text r → HasLearnt P old r → HasLearnt P old new
-one_learnt P old r new text is has = record {
-  more = has.more ++ text ∷ [];
-  whole = is ∙ ap (λ (x : Running P). learn_in text x) has.whole ∙ sym (learnt_more has.more text old);
-}
+pub one_learnt : (P : Type 0) (old new : Running P) (text : List ℕ) → new ≡ learn_in text old → HasLearnt P (text ∷ []) old new
+unfolding learnt
+one_learnt P old new text is = record { front = text ∷ []; rest = []; all = refl; whole = is }
+
+-- the first of the names behind its own is learnt by a session that learnt the names in front of them
+pub more_learnt : (P : Type 0) (names : List (List ℕ)) (old r new : Running P) → Grows r.standing.names names
+    → length r.standing.names < length names → new ≡ learn_in (get_or names (length r.standing.names) []) r
+    → HasLearnt P (drop (length old.standing.names) names) old r → HasLearnt P (drop (length old.standing.names) names) old new
+more_learnt P names old r new g less is has =
+    let n = next_of r.standing.names names g less in
+    let behind : r.standing.names ≡ old.standing.names ++ has.front =
+    ap (λ (x : Running P). x.standing.names) has.whole ∙ learnt_names has.front old in
+    record {
+      front = has.front ++ n.text ∷ [];
+      rest = n.rest;
+      all = ap (drop (length old.standing.names)) (n.whole ∙ ap (λ (l : List (List ℕ)). l ++ n.text ∷ n.rest) behind
+          ∙ append_assoc old.standing.names has.front (n.text ∷ n.rest))
+          ∙ drop-append_seam old.standing.names (has.front ++ n.text ∷ n.rest) ∙ sym (append_assoc has.front (n.text ∷ []) n.rest);
+      whole = is ∙ ap (λ (t : List ℕ). learn_in t r) (next_at r.standing.names names n)
+          ∙ ap (λ (x : Running P). learn_in n.text x) has.whole ∙ sym (learnt_more has.front n.text old);
+    }
+
+-- it is as it was then, or it is stopped
+pub still_learnt : (P : Type 0) (names : List (List ℕ)) (old r new : Running P) → HasLearnt P names old r
+    → (new ≡ r) ⊎ (new.standing.stopped ≡ true) → HasLearnt P names old new ⊎ (new.standing.stopped ≡ true)
+still_learnt P names old r new has (inl same) = inl (subst (HasLearnt P names old) (sym same) has)
+still_learnt P names old r new has (inr stops) = inr stops
 
 -- a text that is new is learnt
 pub interned_new : {P : Type 0} → (text : List ℕ) (r : Running P) → has_text r.standing.names text ≡ false → interned_in text r ≡ learn_in text r
@@ -159,17 +181,17 @@ pub empty_copy : (copy names : List (List ℕ)) → copy ≡ [] → IsCopy copy 
 empty_copy copy names none = λ same. none ∙ sym (nil_from_length names (sym same ∙ ap length none))
 
 -- WHAT STAYS of a session that learnt names
-module _ (P : Type 0) (old new : Running P) (has : HasLearnt P old new) where
+module _ (P : Type 0) (names : List (List ℕ)) (old new : Running P) (has : HasLearnt P names old new) where
   pub still_sound : (calc : Calc) → IsSound calc old.standing.state → IsSound calc new.standing.state
-  still_sound calc sound = subst (IsSound calc) (sym (ap (λ (r : Running P). r.standing.state) has.whole ∙ learnt_state has.more old)) sound
+  still_sound calc sound = subst (IsSound calc) (sym (ap (λ (r : Running P). r.standing.state) has.whole ∙ learnt_state has.front old)) sound
 
   pub still_running : old.standing.stopped ≡ false → new.standing.stopped ≡ false
-  still_running goes = ap (λ (r : Running P). r.standing.stopped) has.whole ∙ learnt_stopped has.more old ∙ goes
+  still_running goes = ap (λ (r : Running P). r.standing.stopped) has.whole ∙ learnt_stopped has.front old ∙ goes
 
   pub still_fits : (block : Option Block) (begun : ℕ) → BlockFits block (length old.standing.names) begun (length old.standing.actions)
       → BlockFits block (length new.standing.names) begun (length new.standing.actions)
   still_fits block begun fits =
-      let longer = ap (λ (r : Running P). length r.standing.names) has.whole ∙ ap length (learnt_names has.more old) ∙ length-append old.standing.names has.more in
-      let same : length new.standing.actions ≡ length old.standing.actions = ap (λ (r : Running P). length r.standing.actions) has.whole ∙ ap length (learnt_actions has.more old) in
+      let longer = ap (λ (r : Running P). length r.standing.names) has.whole ∙ ap length (learnt_names has.front old) ∙ length-append old.standing.names has.front in
+      let same : length new.standing.actions ≡ length old.standing.actions = ap (λ (r : Running P). length r.standing.actions) has.whole ∙ ap length (learnt_actions has.front old) in
       subst (λ (n : ℕ). BlockFits block (length new.standing.names) begun n) (sym same)
       (fits_wider (length old.standing.names) (length new.standing.names) begun (omega (arith, longer)) block (length old.standing.actions) fits)

@@ -2,6 +2,5 @@ pub mod Beside
 mod Done
 mod Learnt
 mod LinesRead
-mod Meant
 mod Said
 mod Told

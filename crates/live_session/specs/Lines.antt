@@ -1,5 +1,5 @@
 -- What was said to a session, beside the session.
-use Rattle.std.specs.Prelude.{◌≡◌, true, ℕ, Bool, List, length, Option}
+use Rattle.std.specs.Prelude.{◌≡◌, true, ℕ, Bool, List, Option}
 use Rattle.desk_names.specs.Names.{with_text}
 use Rattle.session_model.specs.Course.{Running}
 use Rattle.live_model.specs.Live.{Block, Live}

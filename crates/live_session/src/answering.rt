@@ -3,7 +3,7 @@ ghost use Rattle.std.specs.Prelude.{◌≡◌, ◌⊎◌, ◌+◌, ◌<◌, ◌^
 ghost use Rattle.desk_model.specs.Sound.{IsSound};
 ghost use Rattle.session_rounds.specs.Goes.{Halts};
 ghost use Rattle.live_model.specs.Live.{said};
-ghost use Rattle.live_session.specs.Saying.{IsSaid, as_course, HasLearnt};
+ghost use Rattle.live_session.specs.Saying.{IsSaid, as_course, HasLearnt, new_in};
 ghost use Rattle.live_session.specs.Standing.{Stands};
 
 use crate::blocks::Blocks;
@@ -45,7 +45,8 @@ pub(crate) fn answer<'a, P: Picker, B: Bench>(
         (record { lines = out.old.items; count = B.count bench.old; log = B.log bench.old })
         (record { lines = out.new.items; count = B.count bench.new; log = B.log bench.new })) }
     ensures kept { OnErr result (blocks.new ≡ blocks.old) }
-    ensures halted { OnErr result (HasLearnt P session.old session.new ⊎ (session.new.standing.stopped ≡ true)) }
+    ensures halted { OnErr result (HasLearnt P (new_in (record { running = session.old; begun = blocks.old.begun; block = blocks.old.block; line = before }) line.now)
+        session.old session.new ⊎ (session.new.standing.stopped ≡ true)) }
     ensures running { OnOk result (session.new.standing.stopped ≡ false) }
     ensures stands { Stands P (record { running = session.new; begun = blocks.new.begun; block = blocks.new.block; line = before })
         reader.new.names reader.new.begun }

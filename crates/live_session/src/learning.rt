@@ -21,7 +21,7 @@ pub(crate) fn learn<P: Picker>(
     requires more { Grows session.old.standing.names names.now }
     ensures learnt { OnOk result (session.new ≡ learnt (drop (length session.old.standing.names) names.now) session.old) }
     ensures names { OnOk result (session.new.standing.names ≡ names.now) }
-    ensures some { HasLearnt P session.old session.new }
+    ensures some { HasLearnt P (drop (length session.old.standing.names) names.now) session.old session.new }
     ensures kept { IsCopy names.now session.new.standing.names }
 {
     while session.session().names().len() < names.len() {

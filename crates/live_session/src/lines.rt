@@ -140,7 +140,7 @@ impl Lines {
             (live_of session.old self.old) line.now))
             (record { lines = out.old.items; count = B.count bench.old; log = B.log bench.old })
             (record { lines = out.new.items; count = B.count bench.new; log = B.log bench.new }) }
-        ensures cut { IsErrOf result SayFault.NoMemory → IsCutShort P (live_of session.old self.old) (live_of session.new self.new) }
+        ensures cut { IsErrOf result SayFault.NoMemory → IsCutShort P line.now (live_of session.old self.old) (live_of session.new self.new) }
         ensures runs { OnOk result (session.new.standing.stopped ≡ false) }
         ensures sound { IsSound (B.calc bench.old) session.new.standing.state }
         ensures stands { StandBy P session.new self.new }

@@ -126,7 +126,7 @@ impl<P: Picker> LineSession<P> {
     ///
     /// Lines are counted from 1. A session that is stopped takes none, and none is taken behind line 2^64 - 1. After want of
     /// memory the line is not counted: a front of its lines was appended, and the session is stopped, where memory ran out in
-    /// a round; else nothing was appended, and it is as it was, but for names that are new.
+    /// a round; else nothing was appended, and it is as it was, but for the first of the names that are new in the line.
     pub fn say<'a, B: Bench>(
         &mut self,
         line: &'a [u8],
@@ -143,7 +143,7 @@ impl<P: Picker> LineSession<P> {
         ensures halts { IsErrOf result SayFault.NoMemory → Halts P (as_course (said (record { calc = B.calc bench.old; at = P.at; after = P.after }) self.old line.now))
             (record { lines = out.old.items; count = B.count bench.old; log = B.log bench.old })
             (record { lines = out.new.items; count = B.count bench.new; log = B.log bench.new }) }
-        ensures cut { IsErrOf result SayFault.NoMemory → IsCutShort P self.old self.new }
+        ensures cut { IsErrOf result SayFault.NoMemory → IsCutShort P line.now self.old self.new }
         ensures runs { OnOk result (self.new.running.standing.stopped ≡ false) }
         ensures sound { IsSound (B.calc bench.old) self.new.running.standing.state }
         // It is not tried in these cases exactly, and then changes nothing.

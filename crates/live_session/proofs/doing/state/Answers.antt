@@ -2,7 +2,8 @@ use Rattle.std.proofs.Common.{rules, ◌≡◌, sym, ap, ◌∙◌}
 use Rattle.std.proofs.lemmas.Result.{on_ok_weaker}
 use Rattle.session_rounds.proofs.Going.{halts_at_once}
 use Rattle.live_model.specs.Live.{Live}
-use Rattle.live_session.proofs.Done.{ended_begun, any_err}
+use Rattle.session_lang.proofs.AddedNames.{any_err}
+use Rattle.live_session.proofs.Done.{ended_begun}
 use Rattle.live_session.proofs.doing.state.Goals as goal
 
 pub returns-in-Begin-clause-err : goal.returns-in-Begin-clause-err

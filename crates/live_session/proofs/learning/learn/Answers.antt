@@ -1,11 +1,10 @@
-use Rattle.std.proofs.Common.{rules, ◌<◌, ◌≤◌, length, refl, sym, ◌∙◌, subst, arith}
-use Rattle.session_model.specs.Course.{Running}
+use Rattle.std.proofs.Common.{rules, ◌<◌, ◌≤◌, length, drop, refl, sym, ◌∙◌, subst, arith}
 use Rattle.live_session.specs.Saying.{HasLearnt}
-use Rattle.live_session.proofs.Learnt.{none_learnt, one_learnt, one_step, all_learnt, grows_copy}
+use Rattle.live_session.proofs.Learnt.{none_learnt, more_learnt, one_step, all_learnt, grows_copy}
 use Rattle.live_session.proofs.learning.learn.Goals as goal
 
 pub loop-session-init : goal.loop-session-init
-loop-session-init g c = record { grows = c.requires.more; left = refl; some = none_learnt g.row.P.Denot c.args.session.now }
+loop-session-init g c = record { grows = c.requires.more; left = refl; some = none_learnt g.row.P.Denot _ c.args.session.now }
 
 pub learn_next-requires-clause-more : goal.learn_next-requires-clause-more
 learn_next-requires-clause-more g c = c.loop-session.invariant.grows
@@ -24,13 +23,13 @@ loop-session-preserved g c =
     c.in_ok-learn_next.ensures.ok in record {
       grows = step.grows;
       left = step.left ∙ c.loop-session.invariant.left;
-      some = one_learnt g.row.P.Denot c.args.session.now c.loop-session.session c.learn_next.new.session step.text step.is
-          c.loop-session.invariant.some;
+      some = more_learnt g.row.P.Denot c.args.names.now c.args.session.now c.loop-session.session c.learn_next.new.session
+          c.loop-session.invariant.grows less c.in_ok-learn_next.ensures.ok c.loop-session.invariant.some;
     }
 
 pub returns-in_err-learn_next-clause-some : goal.returns-in_err-learn_next-clause-some
 returns-in_err-learn_next-clause-some g c =
-    subst (λ (r : Running g.row.P.Denot). HasLearnt g.row.P.Denot c.args.session.now r) (sym c.in_err-learn_next.ensures.err)
+    subst (HasLearnt g.row.P.Denot (drop (length c.args.session.now.standing.names) c.args.names.now) c.args.session.now) (sym c.in_err-learn_next.ensures.err)
     c.loop-session.invariant.some
 
 pub returns-clause-learnt : goal.returns-clause-learnt

@@ -9,7 +9,7 @@ invariant-loop-session g l = record {
   grows : Grows l.session.standing.names l.names;
   left : learnt (drop (length l.session.standing.names) l.names) l.session
       ≡ learnt (drop (length l.initial.session.standing.names) l.names) l.initial.session;
-  some : HasLearnt g.row.P.Denot l.initial.session l.session;
+  some : HasLearnt g.row.P.Denot (drop (length l.initial.session.standing.names) l.names) l.initial.session l.session;
 }
 
 abbrev pub decreases-loop-session : goal.decreases-loop-session

@@ -68,11 +68,11 @@ pub record Says (line : List ℕ) (old new : Kept) : Type 0 where
   pub next : new.session.live ≡ (said ordered old.session.live line).next
   pub text : new.text.items ≡ (said ordered old.session.live line).lines
 
--- memory ran out in it: a front of its lines, and the session as it was but for names, or stopped
+-- memory ran out in it: a front of its lines, and the session as it was but for a front of the line's new names, or stopped
 pub record IsCutOff (line : List ℕ) (old new : Kept) : Type 0 where
   pub rest : List ℕ
   pub text : (said ordered old.session.live line).lines ≡ new.text.items ++ rest
-  pub session : IsCutShort Order old.session.live new.session.live
+  pub session : IsCutShort Order line old.session.live new.session.live
 
 -- the number of a name
 abbrev pub number_of : List ℕ → Kept → ℕ

@@ -123,7 +123,7 @@ impl<P: Picker + Drop, B: Bench + Drop> LiveSession<P, B> {
         ensures halts { IsErrOf result SayFault.NoMemory → Halts P (as_course (said (record { calc = B.calc self.old.bench; at = P.at; after = P.after }) self.old.live line.now))
             (record { lines = out.old.items; count = B.count self.old.bench; log = B.log self.old.bench })
             (record { lines = out.new.items; count = B.count self.new.bench; log = B.log self.new.bench }) }
-        ensures cut { IsErrOf result SayFault.NoMemory → IsCutShort P self.old.live self.new.live }
+        ensures cut { IsErrOf result SayFault.NoMemory → IsCutShort P line.now self.old.live self.new.live }
         // It is not tried in these cases exactly, and then changes nothing.
         ensures stopped { IsErrOf result SayFault.Stopped ↔ (self.old.live.running.standing.stopped ≡ true) }
         ensures many { IsErrOf result SayFault.TooManyLines

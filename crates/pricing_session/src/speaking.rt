@@ -32,7 +32,7 @@ impl<P: Picker + Drop, B: Bench + Drop> PricingSession<P, B> {
             (live_of self.old.running lines.old) line.now))
             (record { lines = out.old.items; count = B.count self.old.bench; log = B.log self.old.bench })
             (record { lines = out.new.items; count = B.count self.new.bench; log = B.log self.new.bench }) }
-        ensures cut { IsErrOf result SayFault.NoMemory → IsCutShort P (live_of self.old.running lines.old) (live_of self.new.running lines.new) }
+        ensures cut { IsErrOf result SayFault.NoMemory → IsCutShort P line.now (live_of self.old.running lines.old) (live_of self.new.running lines.new) }
         ensures stopped { IsErrOf result SayFault.Stopped ↔ (self.old.running.standing.stopped ≡ true) }
         ensures many { IsErrOf result SayFault.TooManyLines
             ↔ ((self.old.running.standing.stopped ≡ false) × (lines.old.line ≡ 2 ^ 64 - 1)) }

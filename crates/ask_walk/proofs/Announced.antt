@@ -28,7 +28,7 @@ use Rattle.ask_walk.specs.Asks.{MayAsk, Stays}
 use Rattle.ask_walk.specs.Recalcs.{Recalcs, Reprices, IsRepriced, refused_as}
 use Rattle.ask_walk.proofs.Loop.{fit_of, values_of}
 use Rattle.ask_walk.proofs.Restarts.{source_stored}
-use Rattle.object_store.proofs.Telling.{IsNotice, notified_state, tells_shape}
+use Rattle.object_store.proofs.Telling.{IsNotice, notified_state}
 
 same_source : (k : Kept) (r : Outcome) → (recalced_kept k r).source ≡ k.source
 same_source k (Ok value) = refl
@@ -125,6 +125,3 @@ module _ (calc : Calc) (today : ℤ) (slots : List Slot) (first second third las
           sound = sound_recalced calc s x may.whole may.kinds may.lazy fit may.sound early values own;
         });
       }
-
-  pub done_shape : last.shape ≡ first.shape
-  done_shape = tells_shape x third last tells ∙ third_shape

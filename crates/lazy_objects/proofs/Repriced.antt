@@ -306,9 +306,6 @@ module _ (today : ℤ) (slots : List Slot) (i : ℕ) (flows : FlowTerms) (held :
   observed : (y : ℕ) → ((y ≡ 0) ⊎ (flows.index ≡ Some y)) ⊎ (held ≡ Some y) → Among y (observed_by old.shape i)
   observed y p = (joined.pairs i y (terms_watch (slice_index_or slots i Free) (terms_of.Flows flows held) is)).1 (subst (λ (t : Option Terms). Among y (edges_of t)) (sym is) ((flows_edges flows held y).1 p))
 
-  pub instrument_there : is_some (role_at old.shape i) ≡ true
-  instrument_there = ap is_some (joined.roles i ∙ flows_role (slice_index_or slots i Free) flows held is)
-
   pub engine_watched : (x : ℕ) → held ≡ Some x → Among x (observed_by old.shape i)
   engine_watched x e = observed x (inr e)
 

@@ -5,7 +5,7 @@ use Rattle.market_tables.proofs.Sorted.{IsOf}
 use Rattle.market_fields.specs.declared.field.Field.{Field}
 use Rattle.market_fields.specs.declared.field.Field.TheVariants as field
 use Rattle.market_fields.specs.declared.keys.ObjectPlace.{ObjectPlace}
-use Rattle.market_fields.specs.Field.{must, name_in, object_in, named_in, day_in, count_in, tenor_in, notional_in, rate_in, parts_in, helpers_in}
+use Rattle.market_fields.specs.Field.{must, name_in, object_in, named_in, count_in, tenor_in, parts_in, helpers_in}
 use Rattle.market_file.proofs.Given.{Given}
 
 -- of what is there
@@ -82,27 +82,6 @@ module _ (Of : ObjectPlace → Field → Type 0) (p : ObjectPlace) where
   named_so (Some (field.Rate rate)) h = tt
   named_so (Some (field.Sign sign)) h = tt
 
-  pub day_so : (f : Option Field) → IsOf Of p f → Given (IfThere (λ day. Of p (field.Day day))) (day_in f)
-  day_so None h = tt
-  day_so (Some (field.Name name)) h = tt
-  day_so (Some (field.Object object)) h = tt
-  day_so (Some (field.Named named)) h = tt
-  day_so (Some (field.Target target)) h = tt
-  day_so (Some (field.Day day)) h = h
-  day_so (Some (field.Weight weight)) h = tt
-  day_so (Some (field.Parts parts)) h = tt
-  day_so (Some (field.Calendar calendar)) h = tt
-  day_so (Some (field.Count count)) h = tt
-  day_so (Some (field.Helpers helpers)) h = tt
-  day_so (Some (field.Tenor tenor)) h = tt
-  day_so (Some (field.Rule rule)) h = tt
-  day_so (Some (field.Convention convention)) h = tt
-  day_so (Some (field.Flag flag)) h = tt
-  day_so (Some (field.Counter counter)) h = tt
-  day_so (Some (field.Notional notional)) h = tt
-  day_so (Some (field.Rate rate)) h = tt
-  day_so (Some (field.Sign sign)) h = tt
-
   pub count_so : (f : Option Field) → IsOf Of p f → Given (IfThere (λ count. Of p (field.Count count))) (count_in f)
   count_so None h = tt
   count_so (Some (field.Name name)) h = tt
@@ -144,48 +123,6 @@ module _ (Of : ObjectPlace → Field → Type 0) (p : ObjectPlace) where
   tenor_so (Some (field.Notional notional)) h = tt
   tenor_so (Some (field.Rate rate)) h = tt
   tenor_so (Some (field.Sign sign)) h = tt
-
-  pub notional_so : (f : Option Field) → IsOf Of p f → Given (IfThere (λ notional. Of p (field.Notional notional))) (notional_in f)
-  notional_so None h = tt
-  notional_so (Some (field.Name name)) h = tt
-  notional_so (Some (field.Object object)) h = tt
-  notional_so (Some (field.Named named)) h = tt
-  notional_so (Some (field.Target target)) h = tt
-  notional_so (Some (field.Day day)) h = tt
-  notional_so (Some (field.Weight weight)) h = tt
-  notional_so (Some (field.Parts parts)) h = tt
-  notional_so (Some (field.Calendar calendar)) h = tt
-  notional_so (Some (field.Count count)) h = tt
-  notional_so (Some (field.Helpers helpers)) h = tt
-  notional_so (Some (field.Tenor tenor)) h = tt
-  notional_so (Some (field.Rule rule)) h = tt
-  notional_so (Some (field.Convention convention)) h = tt
-  notional_so (Some (field.Flag flag)) h = tt
-  notional_so (Some (field.Counter counter)) h = tt
-  notional_so (Some (field.Notional notional)) h = h
-  notional_so (Some (field.Rate rate)) h = tt
-  notional_so (Some (field.Sign sign)) h = tt
-
-  pub rate_so : (f : Option Field) → IsOf Of p f → Given (IfThere (λ rate. Of p (field.Rate rate))) (rate_in f)
-  rate_so None h = tt
-  rate_so (Some (field.Name name)) h = tt
-  rate_so (Some (field.Object object)) h = tt
-  rate_so (Some (field.Named named)) h = tt
-  rate_so (Some (field.Target target)) h = tt
-  rate_so (Some (field.Day day)) h = tt
-  rate_so (Some (field.Weight weight)) h = tt
-  rate_so (Some (field.Parts parts)) h = tt
-  rate_so (Some (field.Calendar calendar)) h = tt
-  rate_so (Some (field.Count count)) h = tt
-  rate_so (Some (field.Helpers helpers)) h = tt
-  rate_so (Some (field.Tenor tenor)) h = tt
-  rate_so (Some (field.Rule rule)) h = tt
-  rate_so (Some (field.Convention convention)) h = tt
-  rate_so (Some (field.Flag flag)) h = tt
-  rate_so (Some (field.Counter counter)) h = tt
-  rate_so (Some (field.Notional notional)) h = tt
-  rate_so (Some (field.Rate rate)) h = h
-  rate_so (Some (field.Sign sign)) h = tt
 
   pub parts_so : (f : Option Field) → IsOf Of p f → Given (IfThere (λ parts. Of p (field.Parts parts))) (parts_in f)
   parts_so None h = tt

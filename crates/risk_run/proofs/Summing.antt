@@ -69,9 +69,6 @@ flow_more until flows at flow sum within is =
     ap (λ (l : List Flow). sum +ℤ amounts until l) (next flows at flow within is)
     ∙ sym (+ℤ_assoc sum (amount_by until flow) (amounts until (drop (at + 1) flows)))
 
-pub flows_end : (until : ℤ) (flows : List Flow) (at : ℕ) (sum : ℤ) → length flows ≤ at → sum +ℤ amounts until (drop at flows) ≡ sum
-flows_end until flows at sum past = rw (drop_of_length-le flows past) (nothing_behind sum)
-
 -- ---- numbers of the code
 
 pub amount_bound : (a : ℤ) → neg_ℤ (pos (10 ^ 26)) ≤ℤ a → a ≤ℤ pos (10 ^ 26) → unsigned_abs a ≤ 10 ^ 26

@@ -1,11 +1,11 @@
 -- What a round that was done, or in which memory ran out, leaves outside when its lines are written.
-use Rattle.std.proofs.Common.{◌≡◌, ◌∙◌, ◌<◌, ◌≤◌, ℕ, Bool, List, [], length, take, Option, sym, ap, subst, arith, length-append}
+use Rattle.std.proofs.Common.{◌≡◌, ◌∙◌, ◌≤◌, ℕ, Bool, List, [], length, take, Option, sym, ap, subst, arith, length-append}
 use Rattle.std.proofs.lemmas.List.{take-append-le}
 use Rattle.desk_edge.specs.Sink.{appended}
 use Rattle.session_model.specs.Course.{Running, Course}
 use Rattle.session_rounds.specs.Goes.{Output, Does, Halts}
 use Rattle.session_play.specs.Early.{outside}
-use Rattle.session_play.specs.Round.{IsPlayed, IsUnwritten, IsStopped}
+use Rattle.session_play.specs.Round.{IsPlayed, IsStopped}
 
 -- what a session has put out that begins with no lines
 abbrev pub begun_with : ℕ → Option (List (ℕ × Bool)) → Output
@@ -16,17 +16,6 @@ module _ {P : Type 0} (t : Course P) (old new : Option (List ℕ)) (count : ℕ)
       → IsPlayed t (outside old count log) (outside new out.count out.log)
   played next does wrote = record {
     bytes = wrote ∙ ap (λ (o : Output). appended o.lines old) does.out;
-    count = ap (λ (o : Output). o.count) does.out;
-    log = ap (λ (o : Output). o.log) does.out;
-  }
-
-  pub unwritten : (next : Running P) → Does P t next (begun_with count log) out
-      → (n : ℕ) × (n < length out.lines) × (new ≡ appended (take n out.lines) old)
-      → IsUnwritten t (outside old count log) (outside new out.count out.log)
-  unwritten next does front = record {
-    part = front.0;
-    short = subst (λ (o : Output). front.0 < length o.lines) does.out front.1;
-    bytes = front.2 ∙ ap (λ (o : Output). appended (take front.0 o.lines) old) does.out;
     count = ap (λ (o : Output). o.count) does.out;
     log = ap (λ (o : Output). o.log) does.out;
   }

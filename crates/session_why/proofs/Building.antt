@@ -1,7 +1,6 @@
 -- The workings of composites and of curves that are built, by their terms.
-use Rattle.std.proofs.Common.{◌≡◌, inl, inr, ℕ, ℤ, ◌<◌, List, [], ◌∷◌, length, Option, Some, Result, Ok, refl, sym, ◌∙◌}
+use Rattle.std.proofs.Common.{◌≡◌, inl, inr, ℕ, ℤ, ◌<◌, List, [], ◌∷◌, length, Option, Some, Ok, refl, sym, ◌∙◌}
 use Rattle.std.proofs.Common.{ap, subst}
-use Rattle.std.specs.Prelude.{IsOk}
 use Rattle.std.specs.List.{All}
 use Rattle.std.proofs.lemmas.List.Elements.{All-nil, All-cons}
 use Rattle.walks.specs.Walk.{Among}
@@ -14,8 +13,6 @@ use Rattle.desk_terms.specs.declared.terms.Terms.TheVariants.{Curve, Composite}
 use Rattle.desk_terms.specs.declared.kind.Kind as kind
 use Rattle.desk_terms.specs.declared.value.Value.{Value}
 use Rattle.desk_terms.specs.declared.value.Value.TheVariants as value
-use Rattle.desk_terms.specs.declared.value.Input as input
-use Rattle.desk_terms.specs.declared.cause.Cause.{Cause}
 use Rattle.desk_terms.specs.Parts.{IsWeight}
 use Rattle.desk_terms.specs.Terms.{helper_references}
 use Rattle.desk_model.specs.Market.{Market, slot_at, terms_at, kind_at, named, edges_of}
@@ -27,7 +24,7 @@ use Rattle.session_model.specs.Standing.{Standing}
 use Rattle.why_model.specs.Workings.{NodeRate}
 use Rattle.why_model.specs.Answer.{nodes_of, node_rates_text}
 use Rattle.why_model.specs.Answer.{named as name_of}
-use Rattle.session_why.specs.Lasts.{CanWork, last_inputs, workings_in, parts_by, helper_quotes, quotes_in, rates_by}
+use Rattle.session_why.specs.Lasts.{CanWork, last_inputs, workings_in, helper_quotes, quotes_in, rates_by}
 use Rattle.session_why.specs.Lasts.{nodes_with, nodes_in}
 use Rattle.session_why.proofs.Lasting.{nodes_read}
 use Rattle.session_why.proofs.ByKind.{terms_of_kind, working}
@@ -41,17 +38,8 @@ module _ (p : Standing) (o : ℕ) (parts : List Part) (are : terms_at p.state.ma
       ap (λ (f : Option Terms). inputs_by (last_answer p.state) (uses_of (input_at p.state.market) p.state.market o f))
       are
 
-  pub parts_given : IsOk (last_inputs p.state o) → IsOk (inputs_by (last_answer p.state) (member_entries parts))
-  parts_given ok = subst (λ (r : Result (List input.Input) Cause). IsOk r) inputs_are ok
-
   pub parts_weighed : AreRanged p.state.market → All (λ part. IsWeight part.weight) parts
   parts_weighed ranged = each_weight parts (subst IsRanged are (ranged o)).each
-
-  pub parts_worked : CanWork p.state o → parts_by p o parts (inputs_by (last_answer p.state) (member_entries parts))
-      ≡ workings_in p o (terms_at p.state.market o) (kept_at p.state o).last
-  parts_worked can =
-      let w = working p o (Composite parts) are can in
-      ap (parts_by p o parts) (sym inputs_are ∙ w.given) ∙ sym w.text
 
 -- ---- curves
 

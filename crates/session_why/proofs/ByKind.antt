@@ -19,7 +19,7 @@ use Rattle.desk_terms.specs.Kind.{role}
 use Rattle.desk_terms.specs.Terms.{kind_of}
 use Rattle.desk_model.specs.declared.slot.Slot.{Slot}
 use Rattle.desk_model.specs.declared.slot.Slot.TheVariants as slot
-use Rattle.desk_model.specs.Market.{slot_at, terms_in, terms_at, kind_in, kind_at, is_lazy}
+use Rattle.desk_model.specs.Market.{terms_in, terms_at, kind_in, is_lazy}
 use Rattle.desk_model.specs.State.{kept_at}
 use Rattle.session_model.specs.Standing.{Standing}
 use Rattle.why_model.specs.Answer.{workings_over, workings_by}
@@ -143,7 +143,3 @@ module _ (p : Standing) (o : ℕ) where
   in_none slot.Watcher l is = refl
   in_none (slot.Live t) None is = refl
   in_none (slot.Live t) (Some v) is = by_none t v (last_inputs p.state o) is
-
-  pub text_absent : (k : Option Kind) → kind_at p.state.market o ≡ k → has_workings k ≡ false
-      → workings_in p o (terms_at p.state.market o) (kept_at p.state o).last ≡ []
-  text_absent k is none = in_none (slot_at p.state.market o) (kept_at p.state o).last (ap has_workings is ∙ none)

@@ -17,7 +17,7 @@ use Rattle.session_why.specs.declared.products.Over.{Over}
 use Rattle.session_why.specs.Curves.{curves_in}
 use Rattle.session_why.specs.Lasts.{CanWork, workings_in}
 use Rattle.session_why.specs.Over.{IsFit, Reads, products_over, read_curves}
-use Rattle.session_why.proofs.Flowing.{text_none, text_unread}
+use Rattle.session_why.proofs.Flowing.{text_unread}
 use Rattle.session_why.proofs.Reading.{fit_is, text_over}
 use Rattle.session_why.proofs.Lasting.{reading_formed}
 use Rattle.session_why.proofs.ByKind.{Working, working, terms_of_kind}
@@ -45,14 +45,6 @@ module _ (p : Standing) (o : ℕ) (is : kind_at p.state.market o ≡ Some kind.F
   stored_text =
       ap (λ (t : Option Terms). workings_in p o t (kept_at p.state o).last) f.are
       ∙ ap (workings_in p o (Some (Flows f.flows f.engine))) f.work.last
-
-  -- no curves are read
-  pub nothing_read : (old : List ℕ) → None ≡ curves_in (uses p.state.market o)
-      → old ≡ old ++ workings_in p o (terms_at p.state.market o) (kept_at p.state o).last
-  nothing_read old none =
-      sym (append-nil old)
-      ∙ sym (ap (λ (l : List ℕ). old ++ l)
-      (stored_text ∙ text_none p o f.flows f.engine f.work.shown f.work.inputs f.are f.work.given (sym none)))
 
   module _ (curves : Curves) (some : curves_in (uses p.state.market o) ≡ Some curves) where
     -- one of them is no curve

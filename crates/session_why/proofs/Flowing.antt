@@ -1,6 +1,6 @@
 -- The workings of flows by what is stored.
-use Rattle.std.proofs.Common.{◌≡◌, ℕ, ℤ, true, false, Bool, List, [], ◌∷◌, length, ◌≤◌, Option, Some, None, Result, Ok}
-use Rattle.std.proofs.Common.{Err, refl, sym, ◌∙◌, ap, arith}
+use Rattle.std.proofs.Common.{◌≡◌, ℕ, ℤ, true, false, Bool, List, [], ◌∷◌, Option, Some, None, Result, Ok}
+use Rattle.std.proofs.Common.{Err, refl, sym, ◌∙◌, ap}
 use Rattle.std.specs.Prelude.{if◌then◌else◌, option_map}
 use Rattle.curve_points.specs.Curve.{Curve}
 use Rattle.desk_terms.specs.declared.terms.Terms.TheVariants.{Flows}
@@ -19,9 +19,9 @@ use Rattle.discount_engines.specs.Flows.{view_read}
 use Rattle.desk_model.specs.declared.entry.Entry.{Entry}
 use Rattle.desk_model.specs.declared.entry.Entry.TheVariants.{Gives, Needs, Refuses}
 use Rattle.desk_model.specs.Market.{Market, terms_at}
-use Rattle.desk_model.specs.Uses.{input_at, index_in, index_at, fixings_in, forecast_entries, engine_entries, uses}
+use Rattle.desk_model.specs.Uses.{input_at, index_at, fixings_in, forecast_entries, engine_entries, uses}
 use Rattle.desk_model.specs.Uses.{uses_of}
-use Rattle.desk_model.specs.Fresh.{and_inputs, and_value, inputs_by}
+use Rattle.desk_model.specs.Fresh.{and_value, inputs_by}
 use Rattle.desk_model.specs.State.{State, kept_at, last_of, last_answer}
 use Rattle.session_model.specs.Standing.{Standing}
 use Rattle.why_model.specs.Workings.{FlowProduct, flow_products, flows_over, flows_at}
@@ -89,59 +89,13 @@ module _ (s : State) (o : ℕ) (fs : List FlowTerm) (today : ℤ) (index : Optio
       two_read x y (kept_at s x).last (kept_at s y).last inputs is
       ∙ ap (λ (c : Curves). by_read (read_curves s c)) (some_is (record { discount = x; forecast = Some y }) curves are)
   curves_read (Needs x ∷ Needs y ∷ e ∷ u) curves inputs are is = absurd (cc)
-
   -- ---- no curves are read
-
-  a_rate : (rate : ℤ) (r : Result (List input.Input) Cause) (inputs : List input.Input)
-      → and_inputs (input.TheVariants.Rate rate) r ≡ Ok inputs → over inputs ≡ Err (TooLarge o)
-  a_rate rate (Ok rest) inputs is = ap over_of (sym is)
-  a_rate rate (Err cause) inputs is = absurd (cc)
-
-  then_rate : (rate : ℤ) (v : Outcome) (r : Result (List input.Input) Cause) (inputs : List input.Input)
-      → and_value v (and_inputs (input.TheVariants.Rate rate) r) ≡ Ok inputs → over inputs ≡ Err (TooLarge o)
-  then_rate rate (Ok (value.Money amount)) (Ok rest) inputs is = ap over_of (sym is)
-  then_rate rate (Ok (value.Curve curve)) (Ok rest) inputs is = ap over_of (sym is)
-  then_rate rate (Ok (value.Money amount)) (Err cause) inputs is = absurd (cc)
-  then_rate rate (Ok (value.Curve curve)) (Err cause) inputs is = absurd (cc)
-  then_rate rate (Err cause) r inputs is = absurd (cc)
-
-  then_none : (cause : Cause) (v : Outcome) (inputs : List input.Input) → and_value v (Err cause) ≡ Ok inputs → ⊥
-  then_none cause (Ok v) inputs is = cc
-  then_none cause (Err other) inputs is = cc
-
-  pub none_read : (u : List Entry) (inputs : List input.Input) → length u ≤ 2 → curves_in u ≡ None
-      → inputs_by last u ≡ Ok inputs
-      → over inputs ≡ Err (TooLarge o)
-  none_read [] inputs few none is = ap over_of (sym is)
-  none_read (Gives rate ∷ u) inputs few none is = a_rate rate (inputs_by last u) inputs is
-  none_read (Refuses cause ∷ u) inputs few none is = absurd (cc)
-  none_read (Needs x ∷ []) inputs few none is = absurd (cc)
-  none_read (Needs x ∷ Gives rate ∷ u) inputs few none is = then_rate rate (last x) (inputs_by last u) inputs is
-  none_read (Needs x ∷ Refuses cause ∷ u) inputs few none is = absurd (then_none cause (last x) inputs is)
-  none_read (Needs x ∷ Needs y ∷ []) inputs few none is = absurd (cc)
-  none_read (Needs x ∷ Needs y ∷ e ∷ u) inputs few none is = absurd (omega arith)
 
 -- ---- what an object of flows uses
 
 module _ (m : Market) (o : ℕ) (flows : FlowTerms) (engine : Option ℕ) where
   abbrev read : ℕ → Entry
   read = input_at m
-
-  pub uses_few : length (uses_of read m o (Some (Flows flows engine))) ≤ 2
-  uses_few = by (is_expired flows.flows m.today) engine flows.index
-    where
-      need : (b : Bool) (x : ℕ) → length (if b then read x ∷ [] else []) ≤ 1
-      need true x = omega arith
-      need false x = omega arith
-
-      by : (b : Bool) (engine index : Option ℕ)
-          → length (if b then [] else engine_entries read o engine (forecast_entries read m flows.flows index)) ≤ 2
-      by true engine index = omega arith
-      by false None index = omega arith
-      by false (Some e) None = omega arith
-      by false (Some e) (Some x) =
-          let n =
-          need (needs_forecast flows.flows (fixings_in (index_in x (terms_at m x))) m.today) x in omega (arith, n)
 
 -- by what names the curves
 abbrev pub curves_by : (ℕ → Entry) → Option ℕ → Option ℕ → Option Curves
@@ -196,21 +150,6 @@ module _ (p : Standing) (o : ℕ) (flows : FlowTerms) (engine : Option ℕ) (sho
       ≡ (if is_expired flows.flows p.state.market.today then [] else sum_text (named p o)
       (flows_at p.state.market o flows inputs))
   whole_text = ap (workings_by p o (Flows flows engine) shown) is
-
-  -- no curves are read
-  pub text_none : curves_in (uses p.state.market o) ≡ None
-      → workings_in p o (Some (Flows flows engine)) (Some shown) ≡ []
-  text_none none =
-      whole_text ∙ by (is_expired flows.flows p.state.market.today)
-      (ap (sum_text (named p o))
-      (none_read p.state o flows.flows p.state.market.today (view_read (index_at p.state.market flows.index))
-      (uses_of (input_at p.state.market) p.state.market o (Some (Flows flows engine))) inputs
-      (uses_few p.state.market o flows engine)
-      (ap curves_in (sym uses_are) ∙ none) inputs_are))
-    where
-      by : (b : Bool) {text : List ℕ} → text ≡ [] → (if b then [] else text) ≡ []
-      by true e = refl
-      by false e = e
 
   -- an object whose flows are all paid reads none
   unpaid : (curves : Curves) → curves_in (uses p.state.market o) ≡ Some curves

@@ -1,5 +1,5 @@
 -- The parts of a composite, one behind another.
-use Rattle.std.proofs.Common.{◌≡◌, ℕ, ℤ, ◌+◌, ◌<◌, List, [], ◌∷◌, ◌++◌, length, get_or, drop, Some, None, refl, sym}
+use Rattle.std.proofs.Common.{◌≡◌, ℕ, ℤ, ◌+◌, ◌<◌, List, [], ◌∷◌, ◌++◌, length, get_or, drop, Some, refl, sym}
 use Rattle.std.proofs.Common.{◌∙◌, ap, subst, append_assoc}
 use Rattle.std.specs.Prelude.{IsOk}
 use Rattle.std.specs.List.{All}
@@ -16,7 +16,7 @@ use Rattle.session_model.specs.Standing.{Standing}
 use Rattle.why_model.specs.Workings.{part_product}
 use Rattle.why_model.specs.Answer.{named, parts_text}
 use Rattle.session_why.specs.Lasts.{parts_by}
-use Rattle.session_why.proofs.Lasting.{part_first, part_curve, part_none}
+use Rattle.session_why.proofs.Lasting.{part_first, part_curve}
 
 -- what is still to be written of some parts
 abbrev pub left : Standing → ℕ → List Part → List ℕ
@@ -60,6 +60,3 @@ module _ (p : Standing) (o : ℕ) (parts : List Part) (at : ℕ) (part : Part) (
   -- a member that shows a curve, or nothing
   pub curve_stops : (curve : Curve) → (kept_at p.state part.member).last ≡ Some (value.Curve curve) → old ≡ whole
   curve_stops curve shown = nothing (part_curve p o part (drop (at + 1) parts) curve shown)
-
-  pub none_stops : (kept_at p.state part.member).last ≡ None → old ≡ whole
-  none_stops shown = nothing (part_none p o part (drop (at + 1) parts) shown)

@@ -85,10 +85,6 @@ module _ (p : Standing) (name : List ℕ) (nodes : List CurveNode) (quotes : Lis
       ended none =
           sym (append-nil old) ∙ ap (λ (l : List NodeRate). old ++ node_rates_text p name l) (sym none) ∙ so_far
 
-      pub nodes_end : length nodes ≤ at → old ≡ whole
-      nodes_end past =
-          ended (ap (λ (l : List CurveNode). nodes_with l (drop at quotes) (drop at rates)) (drop_all at nodes past))
-
       pub quotes_end : length quotes ≤ at → old ≡ whole
       quotes_end past =
           ended (ap (λ (l : List ℕ). nodes_with (drop at nodes) l (drop at rates)) (drop_all at quotes past) ∙ no_quotes

@@ -125,13 +125,6 @@ run_more tally = cond_both (tally.runs + 1 == 0) 1 0 (λ n. n ≡ 0) (λ e. let 
 
 module _ (tallies : List Tally) (names : List ℕ) (name : ℕ) (low : name < length tallies)
     (tracked : IsTracked tallies names) where
-  -- there is room to list a name that has not run
-  pub room_for : (get_or tallies name blank).runs ≡ 0 → length names < length tallies
-  room_for none =
-      let total = sum_by-set unrun tallies name (one_more (get_or tallies name blank)) blank low in
-      let one = unrun_of (get_or tallies name blank) none in let room = tracked.room in
-      let more = run_more (get_or tallies name blank) in omega arith
-
   pub tracked_first : (get_or tallies name blank).runs ≡ 0
       → IsTracked (slice_set tallies name (one_more (get_or tallies name blank))) (names ++ name ∷ [])
   tracked_first none = record {

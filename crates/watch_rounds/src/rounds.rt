@@ -1,5 +1,5 @@
 // The due watchers of a round, and the runs of each name.
-ghost use Rattle.std.specs.Prelude.{◌≡◌, ℕ, true, ◌+◌, ◌<◌, ◌≤◌, ◌*◌, ◌==◌, length, OnOk, OnErr, OnSome, if◌then◌else◌, ◌++◌, replicate, vec_capacity, slice_index_or, slice_set, max};
+ghost use Rattle.std.specs.Prelude.{◌≡◌, ◌↔◌, ℕ, IsTrue, true, ◌+◌, ◌<◌, ◌≤◌, ◌*◌, ◌==◌, length, OnOk, OnErr, OnSome, if◌then◌else◌, ◌++◌, replicate, vec_capacity, slice_index_or, slice_set, max};
 ghost use Rattle.watch_rounds.specs.declared.notice.Notice.TheVariants.{Due};
 ghost use Rattle.watch_rounds.specs.Due.{IsOnly, IsRising, IsPlace, with_due, without, is_at};
 ghost use Rattle.watch_rounds.specs.Round.{no_rounds, grown, roomy, with_name, begun, tally_at, with_notice, notice_of, watcher_at, with_run, gone, runs_left, IsRound, blank, one_more};

@@ -1,5 +1,5 @@
-// The calls of the objects of a session that change something, or may: what is made, set, linked, taken out, watched, told,
-// frozen, held back and computed.
+// The calls of the objects of a session by `&mut self`: what is made, set, linked, taken out, watched, told, frozen, held back and
+// computed.
 ghost use Rattle.std.specs.Prelude.{◌≡◌, ◌≢◌, ◌↔◌, ℕ, ℤ, List, Option, Err, ◌⊎◌, ◌<◌, ◌^◌, ◌==◌, not, if◌then◌else◌, true, false, pos, Some, None, length, IsOk, IfOk, OnOk, OnErr, ◌≤◌, unsigned_abs, slice_index_or, ◌||◌, [], ◌∷◌, is_some, IfSome, IfNone};
 ghost use Rattle.desk_terms.specs.Reading.{Calc, AreInRange, IsFitting};
 ghost use Rattle.desk_model.specs.Market.{kind_at, terms_at, slot_at, is_given, is_watcher, is_observable, least_user};
@@ -31,8 +31,6 @@ ghost use Rattle.object_store.specs.Shape.{registrations_of, IsJoined};
 ghost use Rattle.object_store.specs.Store.{HasNoMarkWhereOff};
 ghost use Rattle.desk_terms.specs.declared.value.Value as priced;
 ghost use Rattle.ask_walk.specs.Asks.{Asks, Stops, AnswersIdly, held_answer};
-ghost use Rattle.desk_terms.specs.declared.kind.Kind.TheVariants as kind;
-ghost use Rattle.desk_terms.specs.declared.terms.Terms.TheVariants as terms;
 
 use crate::Desk;
 use crate::links::{link_of, watch_instead};

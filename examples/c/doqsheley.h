@@ -101,8 +101,8 @@ static inline uint32_t desk_open(desk *d, desk_bytes market, desk_bytes quotes, 
  * writes, `fault LINE KIND` for a line that is none, is laid into `out`, as much of it as fits; `size` is how many bytes it has,
  * and desk_text gives what did not fit. Lines are counted from 1, and one of more than 65,536 bytes has a fault.
  *
- * DESK_DONE: it was taken. DESK_NO_MEMORY: a front of its lines was written, and the session is as it was, but for new names, or
- * it is stopped. DESK_STOPPED and DESK_CLOSED: the session is as it was, the text empty, `size` 0. DESK_NULL. */
+ * DESK_DONE: it was taken. DESK_NO_MEMORY: a front of its lines was written, and the session is as it was, but for a front of
+ * the line's new names, or it is stopped. DESK_STOPPED and DESK_CLOSED: the session is as it was, the text empty, `size` 0. DESK_NULL. */
 static inline uint32_t desk_say(desk *d, desk_bytes line, desk_room out, size_t *size) {
     if (!d || !DESK_IS_THERE(line) || !DESK_IS_THERE(out) || !size)
         return DESK_NULL;

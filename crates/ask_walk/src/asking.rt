@@ -136,8 +136,8 @@ impl Books {
         entry
     }
 
-    // The walk of an ask, of an object that is neither held nor current. Those that wait stand where those of the last walk
-    // did, which costs no memory but for more of them.
+    // The walk of an ask, of an object that is neither frozen nor late nor current. Those that wait stand where those of the
+    // last walk did, which costs no memory but for more of them.
     pub(crate) fn walk<B: Bench>(
         &mut self,
         market: &Market,

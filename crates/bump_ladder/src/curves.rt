@@ -1,4 +1,4 @@
-// What a curve is worth now.
+// What a curve is worth now, and the curve that an object gives.
 ghost use Rattle.std.specs.Prelude.{◌≡◌, ◌<◌, ◌≤◌, length, true, IfOk, option_copied};
 ghost use Rattle.desk_terms.specs.Asked.{Shows};
 ghost use Rattle.desk_terms.specs.Reading.{Outcome};

@@ -10,7 +10,7 @@ pub enum SayFault {
     /// As many lines were said as can be counted, 2^64 - 1. Nothing is changed.
     #[error("too many lines")]
     TooManyLines,
-    /// Memory ran out. The session is stopped where it did in a round, and else as it was, but for the first of the line's new
+    /// Memory ran out. The session is stopped where it did in a round, and else as it was, but for a front of the line's new
     /// names.
     #[error("out of memory")]
     NoMemory,

@@ -126,7 +126,7 @@ impl<P: Picker> LineSession<P> {
     ///
     /// Lines are counted from 1. A session that is stopped takes none, and none is taken behind line 2^64 - 1. After want of
     /// memory the line is not counted: a front of its lines was appended, and the session is stopped, where memory ran out in
-    /// a round; else nothing was appended, and it is as it was, but for the first of the names that are new in the line.
+    /// a round; else nothing was appended, and it is as it was, but for a front of the names that are new in the line.
     pub fn say<'a, B: Bench>(
         &mut self,
         line: &'a [u8],

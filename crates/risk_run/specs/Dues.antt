@@ -91,8 +91,8 @@ abbrev pub flows_due : Market → ℕ → FlowTerms → ℕ → Span → Result 
 flows_due market o flows engine span =
     if is_expired flows.flows market.today
     then Ok (pos 0)
-    else due_after market o flows (settled span.day (curve_by span.later engine)) span.today (curve_by span.today
-    engine)
+    else due_after market o flows (settled span.day (curve_by span.later engine)) span.today
+    (curve_by span.today engine)
 
 -- ---- of instruments, in order of creation: what a composite names was made before it
 

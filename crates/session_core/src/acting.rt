@@ -231,7 +231,7 @@ impl Session {
 
     // Makes a change, by itself or in a turn. What is dropped leaves its name free.
     #[inline(always)]
-    pub(crate) fn apply(&mut self, change: Change)
+    fn apply(&mut self, change: Change)
         requires may { MayChange self.old.state change }
         ensures set { self.new ≡ with_state (changed change self.old.state) self.old }
         ensures keeps { KeepsCurrent self.old.state self.new.state }
@@ -246,7 +246,7 @@ impl Session {
     }
 
     // Makes a change that is stored beside what is there. After want of memory the session is as it was.
-    pub(crate) fn grow(&mut self, growth: Growth) -> Result<(), AllocError>
+    fn grow(&mut self, growth: Growth) -> Result<(), AllocError>
         requires may { MayGrow self.old.state growth }
         ensures set { OnOk result (self.new ≡ with_state (grown growth self.old.state) self.old) }
         ensures err { OnErr result (self.new ≡ self.old) }

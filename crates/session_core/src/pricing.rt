@@ -48,7 +48,7 @@ impl Session {
     }
 
     // Asks a lazy object, or prices it whatever its flags say.
-    pub(crate) fn answer<B: Bench>(
+    fn answer<B: Bench>(
         &mut self,
         object: ObjId,
         how: &How,
@@ -88,11 +88,7 @@ impl Session {
     }
 
     // Prices a lazy object that is not late, whatever its flags say.
-    pub(crate) fn recalc<B: Bench>(
-        &mut self,
-        object: ObjId,
-        bench: &mut B,
-    ) -> Result<Asked, AllocError>
+    fn recalc<B: Bench>(&mut self, object: ObjId, bench: &mut B) -> Result<Asked, AllocError>
         requires may { MayRecalc self.old.state object }
         requires sound { IsSound (B.calc bench.old) self.old.state }
         ensures same { B.calc bench.new ≡ B.calc bench.old }
@@ -111,7 +107,7 @@ impl Session {
     }
 
     // Writes the line of an object that was priced.
-    pub(crate) fn report(
+    fn report(
         &self,
         name: NameId,
         object: ObjId,

@@ -139,7 +139,7 @@ impl Session {
 
     // Whether there is no room for one object more.
     #[tactic(auto, unfolding(session_model::specs::Standing::is_full))]
-    pub(crate) fn is_full(&self) -> bool
+    fn is_full(&self) -> bool
         ensures { result ≡ is_full self.now.state.market }
     {
         self.live >= MOST_LIVE || self.desk.len() >= MOST_NUMBERS

@@ -209,11 +209,10 @@ impl Session {
         self.desk.given(object)
     }
 
-    /// How many numbers were given to objects. Each live watcher has one of them, and a name that no other live one has.
+    /// How many numbers were given to objects.
     pub fn numbers(&self) -> u32
         ensures numbers { result ≡ length self.now.of_object }
         ensures limit { result ≤ 2 ^ 16 }
-        ensures watchers { AreWatchers self.now }
     {
         let _ = &self.of_name;
         self.desk.numbers()

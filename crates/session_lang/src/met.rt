@@ -1,6 +1,7 @@
 // The names that were met lately, so that one that is met again is compared and not sought.
 ghost use Rattle.std.specs.Prelude.{◌≡◌, ◌<◌, Some, true, slice_get, replicate, IfSome};
 ghost use Rattle.desk_names.specs.Names.{IsNames};
+ghost use Rattle.session_lang.specs.declared.met.TheConstants.{MOST_MET};
 
 use desk_names::{NameId, Names};
 
@@ -16,7 +17,7 @@ pub struct Met {
 impl Met {
     /// No name was met yet: each place has the first number, which is looked at as any other is.
     pub fn new() -> Met
-        ensures { result.names ≡ replicate 64 0 }
+        ensures { result.names ≡ replicate MOST_MET 0 }
     {
         Met {
             names: [NameId(0); MOST_MET],

@@ -193,8 +193,9 @@ fn read_text(alloc: Global, text: &[u8], names: &mut Names) -> Result<Script, Sc
 /// The script that a text says, or its first fault with the line, counted from 1 (this project's profile).
 ///
 /// The names of its lines get numbers in order of first use, those of actions too. A line with a fault adds no name:
-/// behind it the names are those after the lines above it. After want of memory the first of the names of its lines may have
-/// been added, and no other; the old ones keep their numbers however it ends. The numbers in a script that is read stand for names and actions that are there.
+/// behind it the names are those after the lines above it. After want of memory a front of the names of its lines may have been
+/// added, and no other; the old ones keep their numbers however it ends. The numbers in a script that is read stand for names
+/// and actions that are there.
 /// It takes time in proportion to the text, with a few look-ups of a name for each word.
 pub fn read_script(alloc: Global, text: &[u8], names: &mut Names) -> Result<Script, ScriptFault>
     ensures gives { GivesAt (λ s. (s, names.new)) result (script_meaning names.old text.now) }

@@ -315,7 +315,7 @@ fn words_line(
 }
 
 /// What a line says, or its first fault. The names of a line without a fault get numbers, in order; one with a fault
-/// adds none, and want of memory may leave the first of them added. `begun` are the names of the actions so far, to which a
+/// adds none, and want of memory may leave a front of them added. `begun` are the names of the actions so far, to which a
 /// line that begins one adds its own, and no other answer adds any. `words` is room for the words of the line: a vector for
 /// all lines is made once, as is `met`. An ask or a set of known names is read at once.
 #[tactic(auto, using(script_words::proofs::Interning::grows_same, crate::proofs::AddedNames::adds_none))]

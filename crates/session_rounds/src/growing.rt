@@ -97,6 +97,7 @@ impl<P: Picker> WatchedSession<P> {
     {
         self.settled = false;
         self.heard = false;
+        self.session.watchers();
         self.session.free(name)?;
         self.session.room()?;
         self.rounds.grow(0, self.session.numbers() + 2)?;

@@ -47,6 +47,6 @@ invariant_of-self-2 g c =
     let nodes = grown.1 in let numbers = c.numbers.ensures.numbers in (
       subst (λ (z : Round). Fits g.row.P.Denot (record r { standing = c.make.new.self; round = z }) c.grow.new.self.nodes) (sym grown.0)
           (fits_making r c.self.inside.rounds.nodes c.make.new.self c.make.result c.self.invariant.0 c.grow.new.self.nodes c.args.name c.args.terms
-          c.numbers.ensures.watchers (omega (arith, nodes)) (omega (arith, nodes, numbers)) c.make.ensures.made c.make.ensures.same),
+          c.watchers.ensures (omega (arith, nodes)) (omega (arith, nodes, numbers)) c.make.ensures.made c.make.ensures.same),
       (λ on. absurd (false≢true on), λ on. absurd (false≢true on)),
     )

@@ -16,12 +16,12 @@ use Rattle.session_rounds.proofs.Staying.{due_watched}
 use Rattle.session_rounds.proofs.Taken.{does_taken, halts_taken, fits_acted, stopped_or_same, quiet_numbers}
 use Rattle.session_rounds.proofs.session.WatchedSession.act.Goals as goal
 
-pub make_room-requires-clause-room : goal.make_room-requires-clause-room
-make_room-requires-clause-room g c =
+pub make_room-requires : goal.make_room-requires
+make_room-requires g c =
     let long = acted_long (g.B.Bench.calc c.args.bench.now) c.self.inside.session c.args.command.now in
     let same = ap (λ (p : Standing). length p.of_object) c.in-Ok.ensures.acts.next in
     let spare = c.self.invariant.0.spare (ap (λ (r : Running g.row.P.Denot). r.standing.stopped) c.self.view_is ∙ c.requires.running) in
-    let nodes = ap (λ (v : RoundsView). v.nodes) c.settle.ensures.undue in omega arith
+    let nodes = ap (λ (v : RoundsView). v.nodes) c.settle.ensures.undue in record { room = omega arith }
 
 pub invariant_of-self : goal.invariant_of-self
 invariant_of-self g c =

@@ -6,7 +6,7 @@ use Rattle.desk_model.specs.Sound.{IsSound}
 use Rattle.session_model.specs.Standing.{Standing}
 use Rattle.session_model.specs.Course.{Running, heard}
 use Rattle.session_rounds.specs.Fits.{IsSettled}
-use Rattle.session_rounds.specs.Goes.{Goes, lines_alone}
+use Rattle.session_rounds.specs.Goes.{Does, Goes, lines_alone}
 use Rattle.session_rounds.proofs.Going.{goes_start}
 use Rattle.session_rounds.proofs.Hearing.{heard_more, heard_halts, heard_ends, silent_notice}
 use Rattle.session_rounds.proofs.Fitting.{fits_leaving}
@@ -75,12 +75,17 @@ returns-clause-ok g c =
     let r : Running g.row.P.Denot = record { standing = c.self.inside.session; round = c.self.inside.rounds.round; picker = c.self.inside.picker } in
     let so_far = subst (λ (z : Running g.row.P.Denot). Goes g.row.P.Denot (heard c.args.self.now) (heard z)
     (lines_alone c.args.lines.now.items) (lines_alone c.loop-watcher.lines.items)) (sym c.self.view_is) c.loop-watcher.invariant.goes in
-    rw (c.in_default.ensures.none.1) (heard_ends (heard c.args.self.now) r (lines_alone c.args.lines.now.items)
-    (lines_alone c.loop-watcher.lines.items) so_far c.in_default.ensures.none.0)
+    let ended = heard_ends (heard c.args.self.now) r (lines_alone c.args.lines.now.items)
+    (lines_alone c.loop-watcher.lines.items) so_far c.in_default.ensures.none.0 in
+    subst (λ (z : Running g.row.P.Denot). Does g.row.P.Denot (heard c.args.self.now) z (lines_alone c.args.lines.now.items)
+    (lines_alone c.loop-watcher.lines.items)) (sym c.self-2.view_is)
+    (subst (λ (p : Standing). Does g.row.P.Denot (heard c.args.self.now) (record r { standing = p }) (lines_alone c.args.lines.now.items)
+    (lines_alone c.loop-watcher.lines.items)) (sym c.in_default.ensures.none.1) ended)
 
 pub returns-clause-sound : goal.returns-clause-sound
-returns-clause-sound g c = λ calc is. c.next_told.ensures.sound calc (subst (λ (z : Running g.row.P.Denot). IsSound calc z.standing.state)
-    (sym c.self.view_is) (c.loop-watcher.invariant.sound calc is))
+returns-clause-sound g c = λ calc is. subst (λ (z : Running g.row.P.Denot). IsSound calc z.standing.state) (sym c.self-2.view_is)
+    (c.next_told.ensures.sound calc (subst (λ (z : Running g.row.P.Denot). IsSound calc z.standing.state)
+    (sym c.self.view_is) (c.loop-watcher.invariant.sound calc is)))
 
 pub returns-in_err-notice-clause-ready : goal.returns-in_err-notice-clause-ready
 returns-in_err-notice-clause-ready g c = λ silent.

@@ -7,8 +7,9 @@ use Rattle.desk_terms.specs.Reading.{Calc}
 use Rattle.desk_model.specs.Market.{Market}
 use Rattle.bump_model.specs.declared.moves.Quoted.{Quoted}
 use Rattle.bump_model.specs.declared.ladder.Bump.{Bump}
+use Rattle.bump_model.specs.declared.ladder.Bump.TheVariants.{One, Together}
 use Rattle.bump_model.specs.declared.ladder.Side.TheVariants as side
-use Rattle.bump_model.specs.Moves.{moved, quoted, with_values, is_limit}
+use Rattle.bump_model.specs.Moves.{moved, value_at, quoted, quoted_in, with_values, is_limit}
 use Rattle.bump_model.specs.Sides.{worth, gain, side_of, rung_for, bump_rung}
 use Rattle.bump_model.specs.declared.ladder.Missing.TheVariants.{Limit}
 use Rattle.risk_model.specs.declared.figures.Figure.TheVariants.{Is}
@@ -42,6 +43,11 @@ module _ (f g : ℤ → ℤ → ℤ) (base : ℤ) (same : (u d : ℤ) → g (u -
         → figure_in g (both_in (rung_for calc size m o base q found).up (rung_for calc size m o base q found).down) ≡ figure_for f calc size m o q found
     quote_figure q None = refl
     quote_figure q (Some value) = group_figure (quoted q value ∷ [])
+
+    rung_figure : (bump : Bump)
+        → figure_in g (both_in (bump_rung calc size m o base bump).up (bump_rung calc size m o base bump).down) ≡ bump_figure f calc size m o bump
+    rung_figure (One q) = quote_figure q (value_at m q)
+    rung_figure (Together label quotes) = group_figure (quoted_in m quotes)
 
 pub rung_delta : (calc : Calc) (size : ℤ) (m : Market) (o : ℕ) (base : ℤ) (bump : Bump)
     → figure_in difference (both_in (bump_rung calc size m o base bump).up (bump_rung calc size m o base bump).down)

@@ -2,3 +2,4 @@ pub mod AppendLemmas
 pub mod LiveLemmas
 pub mod PartsLemmas
 pub mod PeriodLemmas
+pub mod Products

@@ -1,5 +1,5 @@
 -- What the end of a feed and a failure give.
-use Rattle.std.proofs.Common.{◌≡◌, ◌∙◌, ap, sym, subst, refl, ℕ, ◌==◌, true, false, ◌<◌, Result, Ok, Err, OnOk, OnErr, List, [], ◌∷◌, ◌++◌, length, append-nil, arith, Option, None, Some, IfSome}
+use Rattle.std.proofs.Common.{◌≡◌, ◌∙◌, ap, sym, subst, refl, ℕ, ◌==◌, true, false, ◌<◌, Result, Ok, Err, OnOk, OnErr, List, [], ◌∷◌, ◌++◌, length, take, append-nil, arith, Option, None, Some, IfSome}
 use Rattle.std.proofs.lemmas.Bool.Decides.{nat_tests}
 use Rattle.std.proofs.lemmas.List.{length-take}
 use Rattle.std.proofs.lemmas.List.Elements.{All-nil}
@@ -35,18 +35,24 @@ pub is_nil : (l : List ℕ) → (length l == 0) ≡ true → l ≡ []
 is_nil [] none = refl
 is_nil (x ∷ l) none = absurd (grind (arith, nat_tests, none))
 
+-- what is kept of a line that is some is some
+kept_some : (n : ℕ) (part kept : List ℕ) → kept ≡ take n part → 0 < n → (0 < length part → 0 < length kept) × (0 < length kept → 0 < length part)
+kept_some n part kept cut some =
+    let long = ap (λ (l : List ℕ). length l) cut ∙ length-take n part in
+    ((λ h. omega (arith, long, h, some)), (λ h. omega (arith, long, h)))
+
 -- no line stands open
 pub open_none : (kept : List ℕ) → kept ≡ [] → IsOpen [] kept
 open_none kept none = record { unended = All-nil (λ (b : ℕ). (b == 10) ≡ false); cut = none ∙ sym (take_all most_kept [] (omega arith)) }
+
+pub open_some : (part kept : List ℕ) → IsOpen part kept → 0 < length kept → 0 < length part
+open_some part kept h some = (kept_some most_kept part kept h.cut (omega arith)).1 some
 
 -- a line of which nothing is kept is empty
 pub open_empty : (part kept : List ℕ) → IsOpen part kept → kept ≡ [] → part ≡ []
 open_empty [] kept h none = refl
 open_empty (x ∷ part) kept h none =
-    absurd (omega (arith, ap (λ (l : List ℕ). length l) (sym none ∙ h.cut), length-take most_kept (x ∷ part)))
-
-open_some : (part kept : List ℕ) → IsOpen part kept → 0 < length kept → 0 < length part
-open_some part kept h some = omega (arith, some, ap (λ (l : List ℕ). length l) h.cut, length-take most_kept part)
+    absurd (omega (arith, ap (λ (l : List ℕ). length l) none, (kept_some most_kept (x ∷ part) kept h.cut (omega arith)).0 (omega arith)))
 
 -- the last line lacks its end
 pub ended_line : (told : Told) (called : Called) (part kept : List ℕ) → IsOpen part kept → 0 < length kept

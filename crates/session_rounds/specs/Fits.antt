@@ -44,29 +44,6 @@ IsHeard heard state = heard ≡ true → state.noticed ≡ []
 
 -- a command that may leave a watcher without a registration
 abbrev pub may_idle : Command → Bool
-may_idle (command.Quote name value) = false
-may_idle (command.Sum name a b) = false
-may_idle (command.Difference name a b) = false
-may_idle (command.Handle name is_curve) = false
-may_idle (command.Stock name q) = false
-may_idle (command.Composite name) = false
-may_idle (command.Member k i weight) = false
-may_idle (command.Set q value) = false
-may_idle (command.Unset q) = false
-may_idle (command.Link h t) = false
-may_idle (command.Unlink h) = false
-may_idle (command.Engine i e) = false
-may_idle (command.Today day) = false
-may_idle (command.Fixing x day rate) = false
-may_idle (command.Freeze o) = false
-may_idle (command.Thaw o) = false
-may_idle (command.Recalc o) = false
-may_idle (command.Forward o is_on) = false
-may_idle command.Defer = false
-may_idle command.Resume = false
-may_idle (command.Watch w action) = false
-may_idle (command.Register w o) = false
 may_idle (command.Unregister w o) = true
 may_idle (command.Drop o) = true
-may_idle (command.Ask o) = false
-may_idle (command.Df c day) = false
+may_idle other = false

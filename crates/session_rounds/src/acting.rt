@@ -178,33 +178,7 @@ fn make_room(rounds: &mut Rounds, session: &mut Session) -> Result<(), AllocErro
 fn may_idle(command: &Command) -> bool
     ensures { result ≡ may_idle command.now }
 {
-    match command {
-        Command::Quote(_, _)
-        | Command::Sum(_, _, _)
-        | Command::Difference(_, _, _)
-        | Command::Handle(_, _)
-        | Command::Stock(_, _)
-        | Command::Composite(_)
-        | Command::Member(_, _, _)
-        | Command::Set(_, _)
-        | Command::Unset(_)
-        | Command::Link(_, _)
-        | Command::Unlink(_)
-        | Command::Engine(_, _)
-        | Command::Today(_)
-        | Command::Fixing(_, _, _)
-        | Command::Freeze(_)
-        | Command::Thaw(_)
-        | Command::Recalc(_)
-        | Command::Forward(_, _)
-        | Command::Defer
-        | Command::Resume
-        | Command::Watch(_, _)
-        | Command::Register(_, _)
-        | Command::Ask(_)
-        | Command::Df(_, _) => false,
-        Command::Unregister(_, _) | Command::Drop(_) => true,
-    }
+    matches!(command, Command::Unregister(_, _) | Command::Drop(_))
 }
 
 // Whether each due watcher is known to have a registration also after a command.

@@ -68,6 +68,13 @@ terms_of_kind slot.Watcher k is lazy =
 terms_of_kind (slot.Live t) k is lazy =
     (t, refl, subst (λ (z : Kind). OfKind z t) (same_kind (kind_of t) k is) (of_kind t))
 
+-- what stands at a number that has terms
+pub slot_live : (s : Slot) (t : Terms) → terms_in s ≡ Some t → s ≡ slot.Live t
+slot_live slot.Free t is = absurd (cc)
+slot_live slot.Today t is = absurd (cc)
+slot_live slot.Watcher t is = absurd (cc)
+slot_live (slot.Live held) t is = let same : held ≡ t = cc in ap slot.Live same
+
 -- what is there
 pub some_there : {A : Type 0} (o : Option A) → IsSome o → (x : A) × (o ≡ Some x)
 some_there None there = absurd (false≢true there)
@@ -99,47 +106,3 @@ working p o t are can =
           ∙ ap (workings_in p o (Some t)) v.1
           ∙ ap (workings_by p o t v.0) i.1;
     }
-
--- ---- an object that has none
-
-abbrev pub has_workings : Option Kind → Bool
-has_workings None = false
-has_workings (Some kind.Today) = false
-has_workings (Some kind.Quote) = false
-has_workings (Some kind.Derived) = false
-has_workings (Some kind.QuoteHandle) = false
-has_workings (Some kind.CurveHandle) = false
-has_workings (Some kind.Index) = false
-has_workings (Some kind.Engine) = false
-has_workings (Some kind.Curve) = true
-has_workings (Some kind.Implied) = true
-has_workings (Some kind.Stock) = false
-has_workings (Some kind.Composite) = true
-has_workings (Some kind.Flows) = true
-has_workings (Some kind.Watcher) = false
-
-module _ (p : Standing) (o : ℕ) where
-  over_none : (t : Terms) (v : Value) (inputs : List input.Input) → has_workings (Some (kind_of t)) ≡ false
-      → workings_over p o t v inputs ≡ []
-  over_none (terms.Quote value) v inputs is = refl
-  over_none (terms.Derived minus first second) v inputs is = refl
-  over_none (terms.Handle wanted target) v inputs is = refl
-  over_none (terms.Index index fixings) v inputs is = refl
-  over_none (terms.Engine curve) v inputs is = refl
-  over_none (terms.Curve curve) v inputs is = absurd (false≢true (sym is))
-  over_none (terms.Implied curve reference) v inputs is = absurd (false≢true (sym is))
-  over_none (terms.Stock quote) v inputs is = refl
-  over_none (terms.Composite parts) v inputs is = absurd (false≢true (sym is))
-  over_none (terms.Flows flows engine) v inputs is = absurd (false≢true (sym is))
-
-  by_none : (t : Terms) (v : Value) (r : Result (List input.Input) Cause) → has_workings (Some (kind_of t)) ≡ false
-      → workings_by p o t v r ≡ []
-  by_none t v (Ok inputs) is = over_none t v inputs is
-  by_none t v (Err cause) is = refl
-
-  in_none : (s : Slot) (l : Option Value) → has_workings (kind_in s) ≡ false → workings_in p o (terms_in s) l ≡ []
-  in_none slot.Free l is = refl
-  in_none slot.Today l is = refl
-  in_none slot.Watcher l is = refl
-  in_none (slot.Live t) None is = refl
-  in_none (slot.Live t) (Some v) is = by_none t v (last_inputs p.state o) is

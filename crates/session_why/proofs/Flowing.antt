@@ -89,13 +89,8 @@ module _ (s : State) (o : ℕ) (fs : List FlowTerm) (today : ℤ) (index : Optio
       two_read x y (kept_at s x).last (kept_at s y).last inputs is
       ∙ ap (λ (c : Curves). by_read (read_curves s c)) (some_is (record { discount = x; forecast = Some y }) curves are)
   curves_read (Needs x ∷ Needs y ∷ e ∷ u) curves inputs are is = absurd (cc)
-  -- ---- no curves are read
 
 -- ---- what an object of flows uses
-
-module _ (m : Market) (o : ℕ) (flows : FlowTerms) (engine : Option ℕ) where
-  abbrev read : ℕ → Entry
-  read = input_at m
 
 -- by what names the curves
 abbrev pub curves_by : (ℕ → Entry) → Option ℕ → Option ℕ → Option Curves

@@ -42,7 +42,8 @@ subjects_more p x xs = by (0 == x)
 
 -- ---- nodes with their quotes and rates
 
-next_at : {A : Type 0} (xs : List A) (at : ℕ) (x : A) → at < length xs → x ≡ get_or xs at x
+-- the first of those from a place on
+pub next_at : {A : Type 0} (xs : List A) (at : ℕ) (x : A) → at < length xs → x ≡ get_or xs at x
     → drop at xs ≡ x ∷ drop (at + 1) xs
 next_at xs at x within is = drop_more xs at x within ∙ ap (λ y. y ∷ drop (at + 1) xs) (sym is)
 

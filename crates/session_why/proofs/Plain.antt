@@ -18,6 +18,7 @@ use Rattle.object_store.specs.Objects.{bare}
 use Rattle.session_model.specs.Standing.{Standing}
 use Rattle.why_model.specs.Answer.{named, each_named, terms_word, rate_text, quote_text, passing_text, terms_text}
 use Rattle.why_model.specs.Answer.{slot_text, object_lines}
+use Rattle.session_why.proofs.ByKind.{slot_live}
 use Rattle.session_why.proofs.Lined.{short_pieces, passing_pieces}
 use Rattle.session_why.proofs.Told.{forwarder_told}
 
@@ -41,12 +42,6 @@ today_slot slot.Watcher is = absurd (cc)
 today_slot (slot.Live terms) is = absurd (live_today terms is)
 
 -- ---- what is written of an object that is not priced
-
-slot_live : (s : Slot) (terms : Terms) → terms_in s ≡ Some terms → s ≡ slot.Live terms
-slot_live slot.Free terms is = absurd (cc)
-slot_live slot.Today terms is = absurd (cc)
-slot_live slot.Watcher terms is = absurd (cc)
-slot_live (slot.Live held) terms is = let same : held ≡ terms = cc in ap (λ (t : Terms). slot.Live t) same
 
 module _ (calc : Calc) (p : Standing) (o : ℕ) where
   pub today_lines : kind_at p.state.market o ≡ Some kind.TheVariants.Today

@@ -10,12 +10,8 @@ use Rattle.cash_flow_legs.specs.Live.{is_live}
 use Rattle.why_model.specs.Workings.{FlowProduct}
 use Rattle.session_why.specs.declared.products.Over.{Over}
 use Rattle.session_why.specs.Over.{found, product_over, products_over}
+use Rattle.session_why.proofs.Pieces.{next_at}
 use Rattle.session_why.proofs.Worked.{Worked, worked_past, worked_next, worked_refused, worked_all, worked_some}
-
--- the first of those from a place on
-here : {A : Type 0} (xs : List A) (at : ℕ) (x : A) → at < length xs → x ≡ get_or xs at x
-    → drop at xs ≡ x ∷ drop (at + 1) xs
-here {A} xs at x within is = drop_more xs at x within ∙ ap (λ (y : A). y ∷ drop (at + 1) xs) (sym is)
 
 module _ (over : Over) (terms : List FlowTerm) (next : ℕ) (list : List Flow) (at : ℕ) (products : List FlowProduct)
     (w : Worked over (drop next terms) (drop at list) products) where
@@ -26,7 +22,7 @@ module _ (over : Over) (terms : List FlowTerm) (next : ℕ) (list : List Flow) (
 
   module _ (term : FlowTerm) (within : next < length terms) (is : term ≡ get_or terms next term) where
     first : Worked over (term ∷ drop (next + 1) terms) (drop at list) products
-    first = subst (λ (l : List FlowTerm). Worked over l (drop at list) products) (here terms next term within is) w
+    first = subst (λ (l : List FlowTerm). Worked over l (drop at list) products) (next_at terms next term within is) w
 
     -- a flow that is not to be paid any more
     pub step_past : is_live over.today over.discount.now.reference term ≡ false
@@ -48,7 +44,7 @@ module _ (over : Over) (terms : List FlowTerm) (next : ℕ) (list : List Flow) (
       both : Worked over (term ∷ drop (next + 1) terms) (flow ∷ drop (at + 1) list) products
       both =
           subst (λ (l : List Flow). Worked over (term ∷ drop (next + 1) terms) l products)
-          (here list at flow inside there) first
+          (next_at list at flow inside there) first
 
       pub step_next : (x : FlowProduct) → Ok x ≡ product_over over term flow.amount
           → Worked over (drop (next + 1) terms) (drop (at + 1) list) (products ++ x ∷ [])

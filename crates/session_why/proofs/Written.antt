@@ -26,14 +26,8 @@ use Rattle.session_why.specs.Lasts.{HasWorkings, priced_line, line_in, behind_in
 use Rattle.desk_terms.specs.declared.asked.Asked.{Asked}
 use Rattle.session_why.specs.Computed.{IsAsked}
 use Rattle.session_why.proofs.Alike.{with_state, lines_alike}
+use Rattle.session_why.proofs.ByKind.{slot_live}
 use Rattle.session_why.proofs.Behind.{fits, current_then, behind_is}
-
--- what stands at a number that is priced
-slot_live : (s : Slot) (terms : Terms) → terms_in s ≡ Some terms → s ≡ slot.Live terms
-slot_live slot.Free terms is = absurd (cc)
-slot_live slot.Today terms is = absurd (cc)
-slot_live slot.Watcher terms is = absurd (cc)
-slot_live (slot.Live held) terms is = let same : held ≡ terms = cc in ap slot.Live same
 
 pub lazy_terms : (found : Option Terms) → is_lazy (role_of found) ≡ true → (terms : Terms) × (found ≡ Some terms)
 lazy_terms None lazy = absurd (cc)

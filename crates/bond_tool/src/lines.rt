@@ -1,5 +1,5 @@
 // The lines of a name.
-ghost use Rattle.std.specs.Prelude.{◌≡◌, true, ◌≤◌, ◌++◌, ◌+ℤ◌, ◌≤ℤ◌, ◌*◌, pos, unsigned_abs, Err, OnOk, IfOk};
+ghost use Rattle.std.specs.Prelude.{◌≡◌, true, ◌≤◌, ◌++◌, ◌+ℤ◌, ◌≤ℤ◌, ◌*◌, pos, unsigned_abs, Err, OnOk};
 ghost use Rattle.jiff_core.specs.Calendar.{IsWithin};
 ghost use Rattle.desk_terms.specs.declared.terms.Terms.{Terms};
 ghost use Rattle.flow_terms.specs.declared.limits.TheConstants.{MOST_AMOUNT, MOST_FLOWS};
@@ -24,45 +24,47 @@ use fixed_amount::{Amount, Rate};
 use std::alloc::{AllocError, Global};
 use tool_run::OpenMarket;
 
-// The lines of a name in a market.
-pub(crate) fn name_lines<T: BondTool>(
+// Appends the lines of a name in a market.
+pub(crate) fn push_name<T: BondTool>(
     alloc: Global,
     market: &OpenMarket,
     name: &[u8],
     settle: Day,
     clean: Amount,
-) -> Result<Vec<u8>, AllocError>
+    out: &mut Vec<u8>,
+) -> Result<(), AllocError>
     requires ready { IsReady market.now.names market.now.made.items }
     requires taken { IsTaken market.now.made.items clean }
-    ensures { IfOk result (λ lines. lines.items ≡ text.name_text T.wording (market_in market.now) name.now settle clean) }
+    ensures { OnOk result (out.new.items ≡ out.old.items ++ text.name_text T.wording (market_in market.now) name.now settle clean) }
 {
     match place_named(&market.names, name) {
-        Place::Nowhere => unnamed_line::<T>(alloc, b"unknown", name),
-        Place::Today => unnamed_line::<T>(alloc, b"kind", name),
+        Place::Nowhere => push_unnamed::<T>(b"unknown", name, out),
+        Place::Today => push_unnamed::<T>(b"kind", name, out),
         Place::Object(place) => match market.made.get(place) {
-            Some((_, terms)) => terms_lines::<T>(alloc, market, terms, name, settle, clean),
-            None => unnamed_line::<T>(alloc, b"unknown", name),
+            Some((_, terms)) => push_terms::<T>(alloc, market, terms, name, settle, clean, out),
+            None => push_unnamed::<T>(b"unknown", name, out),
         },
     }
 }
 
-// The lines of an object by its terms: only a bond, a swap or a forward rate agreement has flows.
-fn terms_lines<T: BondTool>(
+// Appends the lines of an object by its terms: only a bond, a swap or a forward rate agreement has flows.
+fn push_terms<T: BondTool>(
     alloc: Global,
     market: &OpenMarket,
     terms: &Terms,
     name: &[u8],
     settle: Day,
     clean: Amount,
-) -> Result<Vec<u8>, AllocError>
+    out: &mut Vec<u8>,
+) -> Result<(), AllocError>
     requires ready { IsReady market.now.names market.now.made.items }
     requires limited { AreLimited terms.now }
     requires price { IsWithin most_price clean }
-    ensures { IfOk result (λ lines. lines.items ≡ text.terms_text T.wording (market_in market.now) terms.now name.now settle clean) }
+    ensures { OnOk result (out.new.items ≡ out.old.items ++ text.terms_text T.wording (market_in market.now) terms.now name.now settle clean) }
 {
     match terms {
         Terms::Flows(flows, engine) => {
-            bond_lines::<T>(alloc, market, *engine, flows, name, settle, clean)
+            push_bond::<T>(alloc, market, *engine, flows, name, settle, clean, out)
         }
         Terms::Quote(_)
         | Terms::Derived { .. }
@@ -72,12 +74,12 @@ fn terms_lines<T: BondTool>(
         | Terms::Index(..)
         | Terms::Engine { .. }
         | Terms::Stock { .. }
-        | Terms::Composite(_) => unnamed_line::<T>(alloc, b"kind", name),
+        | Terms::Composite(_) => push_unnamed::<T>(b"kind", name, out),
     }
 }
 
-// The lines of flows.
-fn bond_lines<T: BondTool>(
+// Appends the lines of flows.
+fn push_bond<T: BondTool>(
     alloc: Global,
     market: &OpenMarket,
     engine: Option<ObjId>,
@@ -85,21 +87,22 @@ fn bond_lines<T: BondTool>(
     name: &[u8],
     settle: Day,
     clean: Amount,
-) -> Result<Vec<u8>, AllocError>
+    out: &mut Vec<u8>,
+) -> Result<(), AllocError>
     requires ready { IsReady market.now.names market.now.made.items }
     requires range { AreFlowsInRange flows.now }
     requires price { IsWithin most_price clean }
-    ensures { IfOk result (λ lines. lines.items
-        ≡ text.bond_text T.wording (market_in market.now) engine name.now flows.now.flows settle clean) }
+    ensures { OnOk result (out.new.items ≡ out.old.items
+        ++ text.bond_text T.wording (market_in market.now) engine name.now flows.now.flows settle clean) }
 {
     match bond_yield(flows, settle, clean) {
-        Ok(y) => found_lines::<T>(alloc, market, engine, flows, name, settle, clean, y),
-        Err(fault) => fault_lines(alloc, flows, name, settle, clean, fault),
+        Ok(y) => push_found::<T>(alloc, market, engine, flows, name, settle, clean, y, out),
+        Err(fault) => push_fault(alloc, flows, name, settle, clean, fault, out),
     }
 }
 
-// The lines of a bond that has a yield, with what is said behind it.
-fn found_lines<T: BondTool>(
+// Appends the lines of a bond that has a yield, with what is said behind it.
+fn push_found<T: BondTool>(
     alloc: Global,
     market: &OpenMarket,
     engine: Option<ObjId>,
@@ -108,19 +111,20 @@ fn found_lines<T: BondTool>(
     settle: Day,
     clean: Amount,
     y: Rate,
-) -> Result<Vec<u8>, AllocError>
+    out: &mut Vec<u8>,
+) -> Result<(), AllocError>
     requires ready { IsReady market.now.names market.now.made.items }
     requires range { AreFlowsInRange flows.now }
     requires price { IsWithin most_price clean }
     requires fixed { is_fixed flows.now.flows ≡ true }
     requires low { pos 0 ≤ℤ y }
     requires high { unsigned_abs y ≤ MOST_YIELD }
-    ensures { IfOk result (λ lines. lines.items
-        ≡ text.yield_text name.now (accrual.accrued flows.now.flows settle) clean y
-        ++ T.wording.more (text.bond_at (market_in market.now) engine name.now flows.now.flows settle clean y)) }
+    ensures { OnOk result (out.new.items ≡ out.old.items
+        ++ (text.yield_text name.now (accrual.accrued flows.now.flows settle) clean y
+        ++ T.wording.more (text.bond_at (market_in market.now) engine name.now flows.now.flows settle clean y))) }
 {
     let interest = accrued(flows, settle);
-    let mut lines = yield_lines(alloc, name, interest, clean, y)?;
+    push_yield(alloc, name, interest, clean, y, out)?;
     let bond = Bond {
         market,
         engine,
@@ -130,110 +134,91 @@ fn found_lines<T: BondTool>(
         full: sum(clean, interest),
         y: y.units().unsigned_abs(),
     };
-    T::push_more(alloc, &bond, &mut lines)?;
-    Ok(lines)
+    T::push_more(alloc, &bond, out)
 }
 
-// The lines of flows that have no yield.
-fn fault_lines(
+// Appends the lines of flows that have no yield.
+fn push_fault(
     alloc: Global,
     flows: &FlowTerms,
     name: &[u8],
     settle: Day,
     clean: Amount,
     fault: YieldFault,
-) -> Result<Vec<u8>, AllocError>
+    out: &mut Vec<u8>,
+) -> Result<(), AllocError>
     requires range { AreFlowsInRange flows.now }
     requires price { IsWithin most_price clean }
     requires fault { yield_of flows.now.flows settle clean ≡ Err fault }
-    ensures { IfOk result (λ lines. lines.items ≡ text.fault_text name.now (accrual.accrued flows.now.flows settle) clean fault) }
+    ensures { OnOk result (out.new.items ≡ out.old.items
+        ++ text.fault_text name.now (accrual.accrued flows.now.flows settle) clean fault) }
 {
     match fault {
-        YieldFault::NotFixed => refused_line(alloc, name, b"notfixed"),
-        YieldFault::NoFlow => refused_line(alloc, name, b"noflow"),
+        YieldFault::NotFixed => push_refused(name, b"notfixed", out),
+        YieldFault::NoFlow => push_refused(name, b"noflow", out),
         YieldFault::Above(price) => {
-            beyond_lines(
-                alloc,
-                name,
-                accrued(flows, settle),
-                clean,
-                b"refused above",
-                price,
-            )
+            let interest = accrued(flows, settle);
+            push_beyond(alloc, name, interest, clean, b"refused above", price, out)
         }
         YieldFault::Below(price) => {
-            beyond_lines(
-                alloc,
-                name,
-                accrued(flows, settle),
-                clean,
-                b"refused below",
-                price,
-            )
+            let interest = accrued(flows, settle);
+            push_beyond(alloc, name, interest, clean, b"refused below", price, out)
         }
     }
 }
 
-// The lines of a bond that has a yield.
-fn yield_lines(
+// Appends the lines of a bond that has a yield.
+fn push_yield(
     alloc: Global,
     name: &[u8],
     interest: Amount,
     clean: Amount,
     y: Rate,
-) -> Result<Vec<u8>, AllocError>
+    out: &mut Vec<u8>,
+) -> Result<(), AllocError>
     requires price { IsWithin most_price clean }
     requires low { pos 0 ≤ℤ interest }
     requires high { interest ≤ℤ pos (MOST_FLOWS * MOST_AMOUNT) }
-    ensures { IfOk result (λ lines. lines.items ≡ text.yield_text name.now interest clean y) }
+    ensures { OnOk result (out.new.items ≡ out.old.items ++ text.yield_text name.now interest clean y) }
 {
-    let mut lines = priced_lines(alloc, name, interest, clean)?;
-    push_value(
-        alloc,
-        name,
-        b"yield",
-        i128::from(y.units()),
-        RATE_PLACES,
-        &mut lines,
-    )?;
-    Ok(lines)
+    push_priced(alloc, name, interest, clean, out)?;
+    push_rate(alloc, name, b"yield", y, out)
 }
 
-// The lines of a bond whose price no yield meets.
-fn beyond_lines(
+// Appends the lines of a bond whose price no yield meets.
+fn push_beyond(
     alloc: Global,
     name: &[u8],
     interest: Amount,
     clean: Amount,
     word: &[u8],
     price: Amount,
-) -> Result<Vec<u8>, AllocError>
+    out: &mut Vec<u8>,
+) -> Result<(), AllocError>
     requires price { IsWithin most_price clean }
     requires low { pos 0 ≤ℤ interest }
     requires high { interest ≤ℤ pos (MOST_FLOWS * MOST_AMOUNT) }
-    ensures { IfOk result (λ lines. lines.items ≡ text.beyond_text name.now interest clean word.now price) }
+    ensures { OnOk result (out.new.items ≡ out.old.items ++ text.beyond_text name.now interest clean word.now price) }
 {
-    let mut lines = priced_lines(alloc, name, interest, clean)?;
-    push_amount(alloc, name, word, price, &mut lines)?;
-    Ok(lines)
+    push_priced(alloc, name, interest, clean, out)?;
+    push_amount(alloc, name, word, price, out)
 }
 
-// The accrued interest, and the price with it.
-fn priced_lines(
+// Appends the accrued interest, and the price with it.
+fn push_priced(
     alloc: Global,
     name: &[u8],
     interest: Amount,
     clean: Amount,
-) -> Result<Vec<u8>, AllocError>
+    out: &mut Vec<u8>,
+) -> Result<(), AllocError>
     requires price { IsWithin most_price clean }
     requires low { pos 0 ≤ℤ interest }
     requires high { interest ≤ℤ pos (MOST_FLOWS * MOST_AMOUNT) }
-    ensures { IfOk result (λ lines. lines.items ≡ text.priced_text name.now interest clean) }
+    ensures { OnOk result (out.new.items ≡ out.old.items ++ text.priced_text name.now interest clean) }
 {
-    let mut lines = Vec::new(alloc);
-    push_amount(alloc, name, b"accrued", interest, &mut lines)?;
-    push_amount(alloc, name, b"full", sum(clean, interest), &mut lines)?;
-    Ok(lines)
+    push_amount(alloc, name, b"accrued", interest, out)?;
+    push_amount(alloc, name, b"full", sum(clean, interest), out)
 }
 
 // A clean price and accrued interest.
@@ -259,26 +244,35 @@ fn push_amount(
     push_value(alloc, name, word, amount.units(), MONEY_PLACES, out)
 }
 
-// The line of flows that have no yield whatever the price.
-fn refused_line(alloc: Global, name: &[u8], word: &[u8]) -> Result<Vec<u8>, AllocError>
-    ensures { IfOk result (λ line. line.items ≡ text.refused_line name.now word.now) }
+// Appends a line with a rate.
+fn push_rate(
+    alloc: Global,
+    name: &[u8],
+    word: &[u8],
+    rate: Rate,
+    out: &mut Vec<u8>,
+) -> Result<(), AllocError>
+    ensures { OnOk result (out.new.items ≡ out.old.items ++ text.value_line name.now word.now rate 9) }
 {
-    let mut line = Vec::new(alloc);
-    push_refused(name, word, &mut line)?;
-    Ok(line)
+    push_value(
+        alloc,
+        name,
+        word,
+        i128::from(rate.units()),
+        RATE_PLACES,
+        out,
+    )
 }
 
-// The line of a name that has no flows.
-fn unnamed_line<T: BondTool>(alloc: Global, word: &[u8], name: &[u8]) -> Result<Vec<u8>, AllocError>
-    ensures { IfOk result (λ line. line.items ≡ text.unnamed_line T.wording word.now name.now) }
+// Appends the line of a name that has no flows.
+fn push_unnamed<T: BondTool>(word: &[u8], name: &[u8], out: &mut Vec<u8>) -> Result<(), AllocError>
+    ensures { OnOk result (out.new.items ≡ out.old.items ++ text.unnamed_line T.wording word.now name.now) }
 {
-    let mut line = Vec::new(alloc);
-    line.extend_from_slice(b"refused ")?;
-    line.extend_from_slice(T::word())?;
-    line.extend_from_slice(b" ")?;
-    line.extend_from_slice(word)?;
-    line.extend_from_slice(b" ")?;
-    line.extend_from_slice(name)?;
-    line.extend_from_slice(b"\n")?;
-    Ok(line)
+    out.extend_from_slice(b"refused ")?;
+    out.extend_from_slice(T::word())?;
+    out.extend_from_slice(b" ")?;
+    out.extend_from_slice(word)?;
+    out.extend_from_slice(b" ")?;
+    out.extend_from_slice(name)?;
+    out.extend_from_slice(b"\n")
 }

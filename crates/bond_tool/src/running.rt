@@ -4,21 +4,22 @@ ghost use Rattle.std.specs.String.{string_bytes};
 ghost use Rattle.desk_edge.specs.Count.{Rose};
 ghost use Rattle.desk_edge.specs.Shelf.{files_of};
 ghost use Rattle.market_loader.specs.declared.faults.MarketRole.{MarketRole};
-ghost use Rattle.tool_run.specs.Market.{wanted_in};
+ghost use Rattle.tool_run.specs.Market.{market_in, wanted_in};
 ghost use Rattle.tool_run.specs.Run.{status_of, given_for, IsAccepted, IsThere};
 ghost use Rattle.tool_run.specs.Stage.{IsOutside, IsEarly, IsQuiet, Writes, faults_then};
 ghost use Rattle.tool_run.specs.Status.{stage_of};
 ghost use Rattle.market_file.specs.Standing.{IsReady};
+ghost use Rattle.bond_tool.specs.Lines.{market_text};
 ghost use Rattle.bond_tool.specs.Named.{IsTaken};
 ghost use Rattle.bond_tool.specs.Verdict.{Wanted as Asked, verdict_of, output_in, reading_calls};
 ghost use Rattle.bond_tool.specs.Words.{request_in, request_of};
 
 use crate::BondTool;
-use crate::lines::name_lines;
+use crate::lines::push_name;
 use crate::words::Request;
 use desk_edge::{Shelf, Sink, write_whole};
 use std::alloc::{AllocError, Global};
-use tool_run::{Found, MarketStatus, find};
+use tool_run::{Found, MarketStatus, OpenMarket, find};
 
 /// Does what the words ask a program about a bond for over the files of the shelf, writes the lines to `out`, and answers how that went. The
 /// words are those behind the program's name: the path of a market, the name of a bond, a settlement day and a clean
@@ -71,7 +72,7 @@ pub fn run_bond<T: BondTool, H: Shelf, K: Sink>(
         Ok(found) => found,
         Err(status) => return status,
     };
-    match lines_of::<T>(alloc, &found) {
+    match lines_of::<T>(alloc, found) {
         Ok(lines) => match write_whole(out, &lines) {
             Ok(()) => MarketStatus::Done,
             Err(_) => MarketStatus::WriteFault,
@@ -81,17 +82,34 @@ pub fn run_bond<T: BondTool, H: Shelf, K: Sink>(
 }
 
 // The lines of what is wanted.
-fn lines_of<T: BondTool>(alloc: Global, found: &Found<Request<'_>>) -> Result<Vec<u8>, AllocError>
-    requires ready { IsReady found.now.market.names found.now.market.made.items }
-    requires taken { IsTaken found.now.market.made.items found.now.request.clean }
-    ensures { IfOk result (λ lines. lines.items ≡ output_in T.wording (wanted_in request_in found.now)) }
+fn lines_of<T: BondTool>(alloc: Global, found: Found<Request<'_>>) -> Result<Vec<u8>, AllocError>
+    requires ready { IsReady found.market.names found.market.made.items }
+    requires taken { IsTaken found.market.made.items found.request.clean }
+    ensures { IfOk result (λ lines. lines.items ≡ output_in T.wording (wanted_in request_in found.entry)) }
 {
     let Found { market, request } = found;
-    name_lines::<T>(
+    lines_in::<T>(alloc, &market, request)
+}
+
+// The same in a market that is lent: who owns one lets it go at each exit.
+fn lines_in<T: BondTool>(
+    alloc: Global,
+    market: &OpenMarket,
+    request: Request<'_>,
+) -> Result<Vec<u8>, AllocError>
+    requires ready { IsReady market.now.names market.now.made.items }
+    requires taken { IsTaken market.now.made.items request.clean }
+    ensures { IfOk result (λ lines. lines.items
+        ≡ market_text T.wording (market_in market.now) request.entry.name.now request.entry.settle request.entry.clean) }
+{
+    let mut lines = Vec::new(alloc);
+    push_name::<T>(
         alloc,
         market,
         request.name.as_bytes(),
         request.settle,
         request.clean,
-    )
+        &mut lines,
+    )?;
+    Ok(lines)
 }

@@ -1,5 +1,5 @@
 -- The terms of an object of a kind, and what its workings are where they are written.
-use Rattle.std.proofs.Common.{◌≡◌, ℕ, ℤ, Bool, true, false, List, [], Option, Some, None, Result, Ok, Err, refl, sym}
+use Rattle.std.proofs.Common.{◌≡◌, ℕ, ℤ, true, List, Option, Some, None, Result, Ok, Err, refl, sym}
 use Rattle.std.proofs.Common.{◌∙◌, ap, subst}
 use Rattle.std.specs.Prelude.{IsSome, IsOk}
 use Rattle.std.proofs.lemmas.Bool.{false≢true}
@@ -14,7 +14,6 @@ use Rattle.desk_terms.specs.declared.kind.Kind.TheVariants as kind
 use Rattle.desk_terms.specs.declared.value.Value.{Value}
 use Rattle.desk_terms.specs.declared.value.Value.TheVariants as value
 use Rattle.desk_terms.specs.declared.value.Input as input
-use Rattle.desk_terms.specs.declared.cause.Cause.{Cause}
 use Rattle.desk_terms.specs.Kind.{role}
 use Rattle.desk_terms.specs.Terms.{kind_of}
 use Rattle.desk_model.specs.declared.slot.Slot.{Slot}

@@ -11,7 +11,7 @@ use Rattle.desk_terms.specs.Reading.{Calc}
 use Rattle.desk_terms.specs.Terms.{kind_of}
 use Rattle.desk_model.specs.declared.slot.Slot.{Slot}
 use Rattle.desk_model.specs.declared.slot.Slot.TheVariants as slot
-use Rattle.desk_model.specs.Market.{slot_at, terms_in, terms_at, kind_in, kind_at, role_of, is_forwarding, without}
+use Rattle.desk_model.specs.Market.{slot_at, terms_at, kind_in, kind_at, role_of, is_forwarding, without}
 use Rattle.desk_model.specs.Market.{edges_of}
 use Rattle.desk_model.specs.State.{State}
 use Rattle.object_store.specs.Objects.{bare}

@@ -1,8 +1,8 @@
 -- The products of flows from a place on.
 use Rattle.std.proofs.Common.{◌≡◌, inl, inr, ℕ, ◌+◌, ◌<◌, ◌≤◌, true, false, List, [], ◌∷◌, ◌++◌, length, get_or, drop}
-use Rattle.std.proofs.Common.{Some, None, Ok, Err, sym, ◌∙◌, ap, subst, arith}
+use Rattle.std.proofs.Common.{Some, None, Ok, Err, sym, subst, arith}
 use Rattle.std.proofs.lemmas.Bool.{cases_Bool}
-use Rattle.std.proofs.lemmas.List.{drop_more, drop_all, length_push}
+use Rattle.std.proofs.lemmas.List.{drop_all, length_push}
 use Rattle.desk_terms.specs.declared.cause.Cause.{Cause}
 use Rattle.flow_terms.specs.declared.flows.FlowTerm.{FlowTerm}
 use Rattle.cash_flow_legs.specs.declared.live_flows.Flow.{Flow}

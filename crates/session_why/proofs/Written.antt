@@ -10,9 +10,8 @@ use Rattle.desk_terms.specs.declared.cause.Cause.{Cause}
 use Rattle.desk_terms.specs.declared.asked.Mark.{Mark}
 use Rattle.desk_terms.specs.Asked.{Shows}
 use Rattle.desk_terms.specs.Reading.{Outcome, Calc}
-use Rattle.desk_model.specs.declared.slot.Slot.{Slot}
 use Rattle.desk_model.specs.declared.slot.Slot.TheVariants as slot
-use Rattle.desk_model.specs.Market.{Market, role_of, slot_at, terms_in, terms_at, is_lazy}
+use Rattle.desk_model.specs.Market.{Market, role_of, slot_at, terms_at, is_lazy}
 use Rattle.desk_model.specs.State.{State, kept_at, is_frozen, mark_of, held_outcome, shows}
 use Rattle.desk_model.specs.Sound.{IsSound}
 use Rattle.desk_model.specs.Links.{IsWhole, is_lazy_at}

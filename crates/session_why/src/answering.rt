@@ -1,5 +1,5 @@
 // The answer for a name.
-ghost use Rattle.std.specs.Prelude.{◌≡◌, ◌++◌, true, IfOk, OnOk};
+ghost use Rattle.std.specs.Prelude.{◌≡◌, ◌++◌, [], true, IfOk, OnOk};
 ghost use Rattle.desk_model.specs.Links.{is_lazy_at};
 ghost use Rattle.desk_model.specs.Sound.{IsSound};
 ghost use Rattle.session_model.specs.declared.act.How.TheVariants.{Ask};
@@ -12,10 +12,11 @@ ghost use Rattle.session_why.specs.Computed.{ask_each, asks_of, why_asking};
 
 use crate::asking::ask;
 use crate::lines::push_refused;
-use crate::listing::listing;
+use crate::listing::list_all;
 use crate::objects::push_object;
 use desk_names::{NameId, ObjId};
 use desk_terms::Bench;
+use indexmap::IndexSet;
 use price_report::asked_line;
 use session_rounds::WatchedSession;
 use std::alloc::{AllocError, Global};
@@ -93,8 +94,35 @@ fn push_answer<P: Picker, B: Bench>(
     ensures sound { IsSound (B.calc bench.old) session.new.standing.state }
     ensures same { B.calc bench.new ≡ B.calc bench.old }
 {
+    let mut list = IndexSet::new(alloc);
+    push_listed(alloc, session, name, object, bench, &mut list, out)
+}
+
+// The same with room for the list. It is lent: a function that owns one lets it go at each exit.
+fn push_listed<P: Picker, B: Bench>(
+    alloc: Global,
+    session: &mut WatchedSession<P>,
+    name: NameId,
+    object: ObjId,
+    bench: &mut B,
+    list: &mut IndexSet<u32>,
+    out: &mut Vec<u8>,
+) -> Result<(), AllocError>
+    requires lazy { is_lazy_at session.old.standing.state.market object ≡ true }
+    requires sound { IsSound (B.calc bench.old) session.old.standing.state }
+    requires empty { list.old.keys ≡ [] }
+    ensures text { OnOk result (out.new.items ≡ out.old.items
+        ++ line_of session.old.standing name object Ask (asking (B.calc bench.old) object session.old.standing.state)
+        ++ lines_of_each (B.calc bench.old) session.old.standing (listing session.old.standing.state object)) }
+    ensures asks { Asks (asks_of (B.calc bench.old) object session.old.standing.state) result session.new.standing.state
+        (B.count bench.old) (B.count bench.new) (B.log bench.old) (B.log bench.new) }
+    ensures stays { session.new ≡ record session.old { standing = record session.old.standing { state = session.new.standing.state } } }
+    ensures market { session.new.standing.state.market ≡ session.old.standing.state.market }
+    ensures sound { IsSound (B.calc bench.old) session.new.standing.state }
+    ensures same { B.calc bench.new ≡ B.calc bench.old }
+{
     session.session().shape();
-    let list = listing(alloc, session, object)?;
+    list_all(alloc, session, object, list)?;
     push_asked(alloc, session, name, object, bench, out)?;
     push_each(alloc, session, list.as_slice(), bench, out)
 }

@@ -1,5 +1,5 @@
 // Which objects an answer lists, and in which order.
-ghost use Rattle.std.specs.Prelude.{◌≡◌, ◌<◌, ◌++◌, length, reverse, IfOk, OnOk};
+ghost use Rattle.std.specs.Prelude.{◌≡◌, ◌<◌, ◌++◌, [], length, reverse, OnOk};
 ghost use Rattle.desk_model.specs.Market.{edges, is_lazy};
 ghost use Rattle.desk_model.specs.Links.{is_lazy_at};
 ghost use Rattle.desk_terms.specs.Kind.{role};
@@ -14,18 +14,19 @@ use session_rounds::WatchedSession;
 use std::alloc::{AllocError, Global};
 use watch_rounds::Picker;
 
-// The numbers of an object and of those on which it rests, depth first, each once.
-pub(crate) fn listing<P: Picker>(
+// Lists the numbers of an object and of those on which it rests, depth first, each once.
+pub(crate) fn list_all<P: Picker>(
     alloc: Global,
     session: &mut WatchedSession<P>,
     object: ObjId,
-) -> Result<IndexSet<u32>, AllocError>
+    list: &mut IndexSet<u32>,
+) -> Result<(), AllocError>
     requires within { object < length session.old.standing.state.market.objects }
-    ensures list { IfOk result (λ list. list.keys ≡ listing session.old.standing.state object) }
+    requires empty { list.old.keys ≡ [] }
+    ensures list { OnOk result (list.new.keys ≡ listing session.old.standing.state object) }
     ensures same { session.new ≡ session.old }
 {
     session.session().shape();
-    let mut list = IndexSet::new(alloc);
     let mut waiting: Vec<ObjId> = Vec::new(alloc);
     waiting.push(object)?;
     while let Some(next) = waiting.pop() {
@@ -34,7 +35,7 @@ pub(crate) fn listing<P: Picker>(
             push_rest(alloc, session, next, &mut waiting)?;
         }
     }
-    Ok(list)
+    Ok(())
 }
 
 // Puts what an object's value rests on onto a stack, the first on top.

@@ -2,7 +2,7 @@ use Rattle.std.proofs.Common.{◌≡◌, ◌+◌, length}
 use Rattle.why_model.specs.Listing.{rests_on}
 use Rattle.session_why.proofs.Walked.{open_cost}
 use Rattle.session_why.proofs.Waiting.{Walks}
-use Rattle.session_why.proofs.listing.listing.Given as goal
+use Rattle.session_why.proofs.listing.list_all.Given as goal
 
 -- what is listed, and behind it what waits as it is put there, is the listing
 abbrev pub invariant-loop-next : goal.invariant-loop-next

@@ -6,14 +6,14 @@ use Rattle.session_model.specs.Standing.{Standing}
 use Rattle.why_model.specs.Listing.{rests_on}
 use Rattle.session_why.proofs.Waiting.{walks_begin, walks_end, none_left, known_listed, new_listed, turn_known}
 use Rattle.session_why.proofs.Waiting.{turn_new, known_less, new_less}
-use Rattle.session_why.proofs.listing.listing.Goals as goal
+use Rattle.session_why.proofs.listing.list_all.Goals as goal
 
 pub loop-next-init : goal.loop-next-init
 loop-next-init g c = record {
   same = refl;
   walks = walks_begin c.args.session.now.standing.state
       (subst (λ (z : Standing). IsWhole z.state) c.session.ensures c.shape.ensures).links c.args.object _ _
-      c.new-list.ensures.empty
+      c.requires.empty
       (c.in_ok-push.ensures.items ∙ ap (λ (l : List ℕ). l ++ c.args.object ∷ []) c.new-waiting.ensures.items)
       c.requires.within;
 }

@@ -258,12 +258,17 @@ fn a_piece_that_is_not_handed_on_is_a_fault(rt: HostRuntime) {
 #[test]
 fn a_flush_sends_on_what_was_taken(rt: HostRuntime) -> Result<(), AllocError> {
     let mut sink = MemorySink::new(rt.alloc(), 64, 64, third_fails(rt.alloc())?)?;
-    holds(&rt, sink.put(b"ab") == Ok(2), "two bytes are taken");
-    holds(&rt, sink.sent().is_empty(), "none is sent on yet");
-    holds(&rt, sink.flush() == Ok(()), "they are flushed");
-    holds(&rt, sink.flush() == Err(Failed), "the third call fails");
-    holds(&rt, sink.sent() == b"ab".as_slice(), "both were sent on");
+    flush_sends_on(&rt, &mut sink);
     Ok(())
+}
+
+// Tells of a sink with nothing in it whose third call fails.
+fn flush_sends_on(rt: &impl Abort, sink: &mut MemorySink) {
+    holds(rt, sink.put(b"ab") == Ok(2), "two bytes are taken");
+    holds(rt, sink.sent().is_empty(), "none is sent on yet");
+    holds(rt, sink.flush() == Ok(()), "they are flushed");
+    holds(rt, sink.flush() == Err(Failed), "the third call fails");
+    holds(rt, sink.sent() == b"ab".as_slice(), "both were sent on");
 }
 
 // The third call, which fails.
@@ -310,26 +315,33 @@ fn a_reader_that_fails_is_a_fault(rt: HostRuntime) {
 // A feed in memory whose pieces are not of its sizes is refused here.
 #[test]
 fn a_feed_gives_pieces_of_its_sizes(rt: HostRuntime) -> Result<(), AllocError> {
-    let mut sizes = SizeList::new(rt.alloc());
+    let sizes = three_sizes(rt.alloc())?;
+    let fails = third_fails(rt.alloc())?;
+    let bytes = TEXT.to_vec(rt.alloc())?;
+    pieces_are_given(&rt, &mut MemoryFeed::new(bytes, sizes, fails));
+    Ok(())
+}
+
+// The sizes 2, 0 and 9.
+fn three_sizes(alloc: Global) -> Result<SizeList, AllocError> {
+    let mut sizes = SizeList::new(alloc);
     for size in [2usize, 0, 9] {
         sizes.push(size)?;
     }
-    let bytes = TEXT.to_vec(rt.alloc())?;
-    let mut feed = MemoryFeed::new(bytes, sizes, third_fails(rt.alloc())?);
-    holds(&rt, taken_by(&mut feed) == Ok(2), "two bytes come");
-    holds(&rt, taken_by(&mut feed) == Ok(1), "a size of 0 is one of 1");
+    Ok(sizes)
+}
+
+// Tells of a feed of the text with these sizes whose third call fails.
+fn pieces_are_given(rt: &impl Abort, feed: &mut MemoryFeed) {
+    holds(rt, taken_by(feed) == Ok(2), "two bytes come");
+    holds(rt, taken_by(feed) == Ok(1), "a size of 0 is one of 1");
+    holds(rt, taken_by(feed) == Err(Failed), "the third call fails");
     holds(
-        &rt,
-        taken_by(&mut feed) == Err(Failed),
-        "the third call fails",
-    );
-    holds(
-        &rt,
-        taken_by(&mut feed) == Ok(5),
+        rt,
+        taken_by(feed) == Ok(5),
         "no piece is larger than its room",
     );
-    holds(&rt, taken_by(&mut feed) == Ok(5), "no size is left");
-    holds(&rt, feed.calls() == 5, "five calls were made");
-    holds(&rt, feed.faults() == 1, "one of them failed");
-    Ok(())
+    holds(rt, taken_by(feed) == Ok(5), "no size is left");
+    holds(rt, feed.calls() == 5, "five calls were made");
+    holds(rt, feed.faults() == 1, "one of them failed");
 }

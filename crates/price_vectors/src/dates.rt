@@ -2,9 +2,9 @@
 mod calendar_text;
 mod counted;
 mod days;
+mod fault;
 mod moved;
 mod open_days;
-mod row;
 mod schedules;
 mod tables;
 mod target_days;

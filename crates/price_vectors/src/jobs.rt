@@ -1,44 +1,58 @@
-// The price of an instrument on a market's curve, by a bench that keeps a log of its calls.
+// Rows `market,terms,ql,profile,gap,why`: QuantLib's value of an instrument, cut to 12 places, the value in whole units
+// of 10^-6 over the same nodes, the gap between them in these units, and why they differ by more than roundings. The value is
+// the price of the instrument on a market's curve, by a bench that keeps a log of its calls.
 ghost use Rattle.std.specs.Prelude.{◌≡◌, IsTrue, option_copied};
 ghost use Rattle.std.specs.List.{list_all};
 ghost use Rattle.desk_terms.specs.Reading.{reading_of, IsWellFormed, IsIndexOf, index_reading, curve_count};
 ghost use Rattle.price_vectors.specs.Inputs.{is_curve};
 
-use crate::instruments::Instrument;
-use curve_points::{CurveValue, copy_curve};
+use crate::instruments::{INDEX, Instrument, instrument_of};
+use crate::numbers::{has_gap, whole_amount};
+use crate::tables::Agreed;
+use crate::words::next_three;
+use curve_points::copy_curve;
 use day_number::Day;
 use desk_bench::{ListBench, LogEntry};
 use desk_names::ObjId;
-use desk_terms::{Bench, BenchFault, Input, InputList, Job, Terms, Value};
+use desk_terms::{Bench, Input, InputList, Job, Terms, Value};
 use fixed_amount::Amount;
 use flow_terms::{Fixings, FlowTerms, IndexTerms, IndexUse, expired, needs_forecast};
 use instrument_terms::flows_terms;
-use row_markets::Market;
+use row_markets::{Market, Markets};
 use std::alloc::Global;
 
-// The numbers of the instrument, its index and its engine, and of a composite of the instrument alone.
+// The numbers of the instrument and its engine, and of a composite of the instrument alone.
 const INSTRUMENT: ObjId = ObjId(4);
-
-const INDEX: ObjId = ObjId(2);
 
 const ENGINE: ObjId = ObjId(3);
 
 const COMPOSITE: ObjId = ObjId(5);
 
-/// The value of an instrument on a market's curve, which discounts its flows and gives its index. None where it is
-/// refused.
-pub(crate) fn value_of(
-    alloc: Global,
-    market: &Market<'_>,
-    instrument: Instrument,
-) -> Option<Amount> {
-    let Instrument { flows, index } = instrument;
-    let named = match &index {
-        None => None,
-        Some(_) => Some(INDEX),
+/// Whether the instrument's value is the row's, and its gap to QuantLib's where the row gives no reason why it differs. None
+/// where the row cannot be read.
+pub(crate) fn value_agrees(alloc: Global, markets: &Markets<'_>, line: &str) -> Option<Agreed> {
+    let mut words = line.split(',');
+    let (market, terms, quantlib) = next_three(&mut words)?;
+    let (units, gap, why) = next_three(&mut words)?;
+    let market = markets.find(market)?;
+    let wanted = whole_amount(units)?;
+    let second = if why.is_empty() {
+        Some(has_gap(units, quantlib, gap)?)
+    } else {
+        None
     };
-    let terms = flows_terms(flows, named, Some(ENGINE)).ok()?;
-    value_on(alloc, market, &terms, index.as_ref())
+    let instrument = instrument_of(alloc, market, terms)?;
+    let first = Some(value_of(alloc, market, instrument) == Some(wanted));
+    Some(Agreed { first, second })
+}
+
+// The value of an instrument on a market's curve, which discounts its flows and gives its index. None where it is refused.
+fn value_of(alloc: Global, market: &Market<'_>, instrument: Instrument) -> Option<Amount> {
+    let Instrument { terms, index } = instrument;
+    match flows_terms(terms.flows, terms.index, Some(ENGINE)) {
+        Ok(terms) => value_on(alloc, market, &terms, index.as_ref()),
+        Err(_) => None,
+    }
 }
 
 // The value of terms of flows on a market's curve.
@@ -48,47 +62,42 @@ fn value_on(
     terms: &Terms,
     index: Option<&IndexTerms>,
 ) -> Option<Amount> {
-    let none = Fixings::new(alloc);
-    let count = curves_of(terms, market.today, &none)?;
-    let inputs = curves(alloc, &market.curve, count)?;
-    priced(alloc, market.today, terms, &inputs, index, &none)
-}
-
-// The value of terms of flows on an evaluation date.
-fn priced<'x>(
-    alloc: Global,
-    today: Day,
-    terms: &'x Terms,
-    inputs: &'x InputList,
-    index: Option<&'x IndexTerms>,
-    fixings: &'x Fixings,
-) -> Option<Amount> {
+    let fixings = Fixings::new(alloc);
+    let index = index_use(index, &fixings);
+    let inputs = curves(alloc, market, terms, index.as_ref())?;
     let job = Job {
         object: INSTRUMENT,
         terms,
-        inputs,
-        today,
-        index: index_use(index, fixings),
+        inputs: &inputs,
+        today: market.today,
+        index,
     };
-    if !is_well_formed(&job) {
+    priced(alloc, &job)
+}
+
+// The value of a job of flows.
+fn priced(alloc: Global, job: &Job<'_>) -> Option<Amount> {
+    if !is_well_formed(job) {
         return None;
     }
     let mut bench = ListBench::with_room(alloc, 1).ok()?;
-    let amount = match bench.price(alloc, &job).ok()? {
+    told(alloc, &mut bench, job)
+}
+
+// The value that a bench gives a composite which holds a job's instrument once. None where its log does not tell of the price
+// of the instrument, and then of that of the composite.
+fn told(alloc: Global, bench: &mut ListBench, job: &Job<'_>) -> Option<Amount>
+    requires { IsWellFormed (reading_of job.now) }
+{
+    let amount = match bench.price(alloc, job).ok()? {
         Value::Money(amount) => amount,
         Value::Curve(_) => return None,
     };
-    let value = once(&mut bench, amount).ok()?;
+    let value = bench.price_sum(COMPOSITE, amount.units()).ok()?;
     if tells_both(bench.log().as_slice()) {
-        Some(value)
-    } else {
-        None
+        return Some(value);
     }
-}
-
-// The value of a composite that holds an instrument of this value once.
-fn once(bench: &mut ListBench, amount: Amount) -> Result<Amount, BenchFault> {
-    bench.price_sum(COMPOSITE, amount.units())
+    None
 }
 
 // Whether a log tells of the price of the instrument, and then of that of the composite.
@@ -101,8 +110,11 @@ fn tells_both(log: &[LogEntry]) -> bool {
     }
 }
 
-// An index and its stored rates.
-fn index_use<'x>(index: Option<&'x IndexTerms>, fixings: &'x Fixings) -> Option<IndexUse<'x>> {
+/// An index and its stored rates.
+pub(crate) fn index_use<'x>(
+    index: Option<&'x IndexTerms>,
+    fixings: &'x Fixings,
+) -> Option<IndexUse<'x>> {
     match index {
         None => None,
         Some(terms) => Some(IndexUse {
@@ -113,25 +125,19 @@ fn index_use<'x>(index: Option<&'x IndexTerms>, fixings: &'x Fixings) -> Option<
     }
 }
 
-// How many curves the price of terms of flows takes: none where all are paid, and two where an index needs a forecast.
-fn curves_of(terms: &Terms, today: Day, fixings: &Fixings) -> Option<usize> {
+// As many copies of a market's curve as the price of terms of flows takes.
+fn curves(
+    alloc: Global,
+    market: &Market<'_>,
+    terms: &Terms,
+    index: Option<&IndexUse<'_>>,
+) -> Option<InputList> {
     let Terms::Flows(flows, _) = terms else {
         return None;
     };
-    if expired(flows, today) {
-        return Some(0);
-    }
-    if needs_forecast(flows, fixings, today) {
-        return Some(2);
-    }
-    Some(1)
-}
-
-// So many copies of a curve.
-fn curves(alloc: Global, curve: &CurveValue, count: usize) -> Option<InputList> {
     let mut inputs = InputList::new(alloc);
-    for _ in 0..count {
-        let copy = copy_curve(alloc, curve).ok()?;
+    for _ in 0..curve_count(flows, market.today, index) {
+        let copy = copy_curve(alloc, &market.curve).ok()?;
         inputs.push(Input::Curve(copy)).ok()?;
     }
     Some(inputs)
@@ -142,23 +148,13 @@ fn curves(alloc: Global, curve: &CurveValue, count: usize) -> Option<InputList> 
 fn is_well_formed(job: &Job<'_>) -> bool
     ensures { IsTrue result → IsWellFormed (reading_of job.now) }
 {
-    match job.terms {
-        Terms::Flows(flows, _) => {
-            flows.is_in_range()
-                && is_index_of(flows, job.index.as_ref())
-                && are_curves(job.inputs.items())
-                && job.inputs.len() == curve_count(flows, job.today, job.index.as_ref())
-        }
-        Terms::Quote(_)
-        | Terms::Derived { .. }
-        | Terms::Handle { .. }
-        | Terms::Curve(_)
-        | Terms::Implied { .. }
-        | Terms::Index(..)
-        | Terms::Engine { .. }
-        | Terms::Stock { .. }
-        | Terms::Composite(_) => false,
-    }
+    let Terms::Flows(flows, _) = job.terms else {
+        return false;
+    };
+    flows.is_in_range()
+        && is_index_of(flows, job.index.as_ref())
+        && are_curves(job.inputs.items())
+        && job.inputs.len() == curve_count(flows, job.today, job.index.as_ref())
 }
 
 // Whether an index is the one that flows name.

@@ -1,13 +1,11 @@
 // Helpers `kind:tenor:every:convention:eom:counter:rate`, separated by `;`: D a deposit, S a swap, the rate in 10^-9.
-use crate::curves::calendars::calendar_with_own;
-use crate::curves::rows::Row;
+use crate::words::{next_convention, next_counter, next_tenor};
 use curve_terms::{CurveStart, CurveTerms, Helper, HelperList};
-use day_number::{Convention, Tenor, read_tenor};
+use day_number::{Tenor, read_tenor};
 use desk_names::ObjId;
 use fixed_amount::{Rate, read_decimal};
-use row_markets::{convention_of, counter_of};
+use holiday_calendars::Calendar;
 use std::alloc::Global;
-use std::str::Split;
 
 /// The terms of a row, and the rates of its helpers.
 #[derive(Drop)]
@@ -17,24 +15,20 @@ pub(crate) struct Asked {
 }
 
 impl Asked {
-    /// The terms and rates of a row.
-    pub(crate) fn read(alloc: Global, row: &Row<'_>) -> Option<Asked> {
-        let start = CurveStart::Moving(row.settlement.parse().ok()?);
-        let cal = calendar_with_own(alloc, row.calendar)?;
-        let mut asked = Asked {
+    /// Terms without helpers.
+    pub(crate) fn new(alloc: Global, cal: Calendar, start: CurveStart) -> Asked {
+        Asked {
             terms: CurveTerms {
                 cal,
                 start,
                 helpers: HelperList::new(alloc),
             },
             rates: Vec::new(alloc),
-        };
-        asked.push(row.helpers)?;
-        Some(asked)
+        }
     }
 
-    // Adds the helpers of a text, each with its rate.
-    fn push(&mut self, helpers: &str) -> Option<()> {
+    /// Adds the helpers of a text, each with its rate.
+    pub(crate) fn push(&mut self, helpers: &str) -> Option<()> {
         for text in helpers.split(';') {
             let (helper, rate) = helper_of(text)?;
             self.terms.helpers.push(helper).ok()?;
@@ -47,23 +41,26 @@ impl Asked {
 // The helper of a text and its rate.
 fn helper_of(text: &str) -> Option<(Helper, Rate)> {
     let mut words = text.split(':');
-    let (tenor, every) = tenors_of(&mut words)?;
+    let (Some(kind), Some(tenor), Some(every), Some(conv), Some(eom), Some(counter), Some(rate)) = (
+        words.next(),
+        next_tenor(&mut words),
+        words.next(),
+        next_convention(&mut words),
+        words.next(),
+        next_counter(&mut words),
+        words.next(),
+    ) else {
+        return None;
+    };
     let helper = Helper {
         quote: ObjId(0),
         tenor,
-        every,
-        conv: convention_with_none(words.next()?)?,
-        eom: words.next()? == "1",
-        counter: counter_of(words.next()?)?,
+        every: every_of(kind, every)?,
+        conv,
+        eom: eom == "1",
+        counter,
     };
-    Some((helper, rate_of(words.next()?)?))
-}
-
-// The tenor of a helper whose kind, tenor and period the next words write, and how often it pays.
-fn tenors_of(words: &mut Split<'_, char>) -> Option<(Tenor, Option<Tenor>)> {
-    let kind = words.next()?;
-    let tenor = read_tenor(words.next()?.as_bytes())?;
-    Some((tenor, every_of(kind, words.next()?)?))
+    Some((helper, rate_of(rate)?))
 }
 
 // How often a helper of a kind pays: a deposit does so once.
@@ -82,12 +79,4 @@ fn rate_of(text: &str) -> Option<Rate> {
         return None;
     }
     Some(Rate(units))
-}
-
-// A convention: U unadjusted too.
-fn convention_with_none(name: &str) -> Option<Convention> {
-    match name {
-        "U" => Some(Convention::Unadjusted),
-        _ => convention_of(name),
-    }
 }

@@ -1,7 +1,7 @@
 // Calendars written in a row: N null, W weekends, T TARGET; a calendar of one's own as seven marks from Monday on, `x` a
 // holiday and `-` none, then `/` and its days YYYYMMDD with spaces between; a joint one as `H:` (holidays) or `B:` (business
 // days) and its parts with `+` between.
-use crate::dates::row::RowFault;
+use crate::dates::fault::RowFault;
 use day_number::{Day, DayList};
 use holiday_calendars::{Base, BaseList, Calendar, JointRule, bespoke, joint};
 use std::alloc::Global;
@@ -35,49 +35,51 @@ fn base_of(alloc: Global, text: &str) -> Result<Base, RowFault> {
         "W" => Ok(Base::Weekends),
         "T" => Ok(Base::Target),
         own => {
-            let (marks, days) = own.split_once('/').ok_or(RowFault::NotARow)?;
-            Ok(bespoke(alloc, weekend_of(marks)?, days_of(alloc, days)?)?)
+            let (marks, text) = own.split_once('/').ok_or(RowFault::NotARow)?;
+            let weekend = weekend_of(marks).ok_or(RowFault::NotARow)?;
+            let mut days = DayList::new(alloc);
+            add_days(&mut days, text)?;
+            Ok(bespoke(alloc, weekend, days)?)
         }
     }
 }
 
-fn weekend_of(marks: &str) -> Result<[bool; 7], RowFault> {
-    if marks.len() != 7 {
-        return Err(RowFault::NotARow);
-    }
+fn weekend_of(marks: &str) -> Option<[bool; 7]> {
     let mut weekend = [false; 7];
-    for (at, mark) in marks.bytes().enumerate() {
-        if at < 7 {
-            weekend[at] = is_marked(mark)?;
-        }
+    let mut marks = marks.bytes();
+    for at in 0..7 {
+        weekend[at] = is_marked(marks.next()?)?;
     }
-    Ok(weekend)
+    match marks.next() {
+        None => Some(weekend),
+        Some(_) => None,
+    }
 }
 
-fn is_marked(mark: u8) -> Result<bool, RowFault> {
+fn is_marked(mark: u8) -> Option<bool> {
     match mark {
-        b'x' => Ok(true),
-        b'-' => Ok(false),
-        _ => Err(RowFault::NotARow),
+        b'x' => Some(true),
+        b'-' => Some(false),
+        _ => None,
     }
 }
 
-fn days_of(alloc: Global, text: &str) -> Result<DayList, RowFault> {
-    let mut days = DayList::new(alloc);
+// Adds the days of a text.
+fn add_days(days: &mut DayList, text: &str) -> Result<(), RowFault> {
     if !text.is_empty() {
         for word in text.split(' ') {
-            days.push(short_day(word)?)?;
+            days.push(short_day(word).ok_or(RowFault::NotARow)?)?;
         }
     }
-    Ok(days)
+    Ok(())
 }
 
 /// The day of a number with the digits YYYYMMDD.
-pub(crate) fn short_day(text: &str) -> Result<Day, RowFault> {
-    let number: u32 = text.parse().ok().ok_or(RowFault::NotARow)?;
+pub(crate) fn short_day(text: &str) -> Option<Day> {
+    let number: u32 = text.parse().ok()?;
     if number > 99_999_999 {
-        return Err(RowFault::NotARow);
+        return None;
     }
     let (month, day) = (number / 100 % 100, number % 100);
-    Day::of((number / 10_000) as i32, month as u8, day as u8).ok_or(RowFault::NotARow)
+    Day::of((number / 10_000) as i32, month as u8, day as u8)
 }

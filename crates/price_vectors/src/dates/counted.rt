@@ -1,10 +1,12 @@
 // Days that counters count, by QuantLib 1.29.
 use crate::dates::calendar_text::calendar_of;
-use crate::dates::row::{Row, RowFault};
+use crate::dates::fault::RowFault;
+use crate::words::{next_day, next_number};
 use day_counters::fraction;
 use day_number::Day;
 use holiday_calendars::{Base, Calendar};
 use std::alloc::Global;
+use std::str::Split;
 use year_parts::Counter;
 
 // The parts of a day of a year of 360, of 365 and of 366 days, and of one of 252 business days.
@@ -18,53 +20,48 @@ const PARTS_OF_252: i64 = 44_530;
 
 /// `from,to,days,leap,other,bond,european`: the days from one day to another: all of them, those in leap years, the
 /// others, and those of 30/360 by Bond Basis and by the European rule.
-pub(crate) fn count_agrees(row: &mut Row<'_>) -> Result<bool, RowFault> {
-    let from = row.day()?;
-    let to = row.day()?;
-    let days = row.number()?;
-    let leap = row.number()?;
-    let other = row.number()?;
-    let bond = row.number()?;
-    let european = row.number()?;
+pub(crate) fn count_agrees(row: &mut Split<'_, char>) -> Option<bool> {
+    let (Some(from), Some(to), Some(days)) = (next_day(row), next_day(row), next_number(row)) else {
+        return None;
+    };
+    let leap = parts(next_number(row)?, PARTS_OF_366);
+    let other = parts(next_number(row)?, PARTS_OF_365);
+    let bond = next_number(row)?;
+    let european = next_number(row)?;
     if !(from <= to) {
-        return Err(RowFault::NotARow);
+        return None;
     }
-    let by_year = parts(leap, PARTS_OF_366).wrapping_add(parts(other, PARTS_OF_365));
+    let cases = [
+        (Counter::Act360, parts(days, PARTS_OF_360)),
+        (Counter::Act365, parts(days, PARTS_OF_365)),
+        (Counter::ActAct, leap.wrapping_add(other)),
+        (Counter::Thirty360, parts(bond, PARTS_OF_360)),
+        (Counter::ThirtyE360, parts(european, PARTS_OF_360)),
+        (Counter::Bus252, parts(days, PARTS_OF_252)),
+    ];
     let each = Calendar::one(Base::Null);
-    Ok(
-        has_parts(Counter::Act360, &each, from, to, parts(days, PARTS_OF_360))
-            && has_parts(Counter::Act365, &each, from, to, parts(days, PARTS_OF_365))
-            && has_parts(Counter::ActAct, &each, from, to, by_year)
-            && has_parts(
-                Counter::Thirty360,
-                &each,
-                from,
-                to,
-                parts(bond, PARTS_OF_360),
-            )
-            && has_parts(
-                Counter::ThirtyE360,
-                &each,
-                from,
-                to,
-                parts(european, PARTS_OF_360),
-            )
-            && has_parts(Counter::Bus252, &each, from, to, parts(days, PARTS_OF_252)),
-    )
+    let mut agrees = true;
+    for (counter, parts) in cases {
+        agrees &= has_parts(counter, &each, from, to, parts);
+    }
+    Some(agrees)
 }
 
 /// `calendar,from,to,count`: the business days from one day to another, over 252.
-pub(crate) fn business_agrees(alloc: Global, row: &mut Row<'_>) -> Result<bool, RowFault> {
-    let text = row.text()?;
-    let from = row.day()?;
-    let to = row.day()?;
-    let count = row.number()?;
+pub(crate) fn business_agrees(calendar: &Calendar, row: &mut Split<'_, char>) -> Option<bool> {
+    let from = next_day(row)?;
+    let to = next_day(row)?;
+    let count = next_number(row)?;
     if !(from <= to) {
-        return Err(RowFault::NotARow);
+        return None;
     }
-    let calendar = calendar_of(alloc, text)?;
-    let parts = parts(count, PARTS_OF_252);
-    Ok(has_parts(Counter::Bus252, &calendar, from, to, parts))
+    Some(has_parts(
+        Counter::Bus252,
+        calendar,
+        from,
+        to,
+        parts(count, PARTS_OF_252),
+    ))
 }
 
 fn parts(days: i32, each: i64) -> i64 {

@@ -1,15 +1,18 @@
 // The files of rows.
+use crate::dates::calendar_text::calendar_of;
 use crate::dates::counted::{business_agrees, count_agrees};
 use crate::dates::days::{
     date_agrees, day_agrees, easter_agrees, later_agrees, place_agrees, tenor_agrees,
 };
+use crate::dates::fault::RowFault;
 use crate::dates::moved::{adjusted_agrees, advanced_agrees};
 use crate::dates::open_days::{between_agrees, calendar_agrees};
-use crate::dates::row::{Row, RowFault};
 use crate::dates::schedules::schedule_agrees;
 use anyhow::{Result, bail};
+use holiday_calendars::Calendar;
 use row_markets::Tally;
 use std::alloc::Global;
+use std::str::Split;
 
 /// A file of rows.
 #[derive(Clone, Copy)]
@@ -67,28 +70,51 @@ impl Table {
 
     // Whether a line's answer is the one that it says.
     fn agrees(self, alloc: Global, line: &str) -> Result<bool, RowFault> {
-        let mut row = Row::new(line);
+        let mut row = line.split(',');
         let agrees = self.answer_agrees(alloc, &mut row)?;
-        row.end()?;
-        Ok(agrees)
+        match row.next() {
+            None => Ok(agrees),
+            Some(_) => Err(RowFault::NotARow),
+        }
     }
 
-    fn answer_agrees(self, alloc: Global, row: &mut Row<'_>) -> Result<bool, RowFault> {
-        match self {
-            Table::Days => day_agrees(alloc, row),
+    fn answer_agrees(self, alloc: Global, row: &mut Split<'_, char>) -> Result<bool, RowFault> {
+        let agrees = match self {
+            Table::Days => return day_agrees(alloc, row),
             Table::Dates => date_agrees(row),
             Table::Places => place_agrees(row),
             Table::Later => later_agrees(row),
             Table::Tenors => tenor_agrees(row),
             Table::Counts => count_agrees(row),
-            Table::Business => business_agrees(alloc, row),
             Table::Easter => easter_agrees(row),
-            Table::Calendars => calendar_agrees(alloc, row),
-            Table::Adjusted => adjusted_agrees(alloc, row),
-            Table::Advanced => advanced_agrees(alloc, row),
-            Table::Between => between_agrees(alloc, row),
-            Table::Schedules => schedule_agrees(alloc, row),
-        }
+            Table::Calendars => return calendar_agrees(alloc, row),
+            Table::Business
+            | Table::Adjusted
+            | Table::Advanced
+            | Table::Between
+            | Table::Schedules => {
+                let text = row.next().ok_or(RowFault::NotARow)?;
+                return self.agrees_over(alloc, &calendar_of(alloc, text)?, row);
+            }
+        };
+        agrees.ok_or(RowFault::NotARow)
+    }
+
+    // The same over the calendar that a line begins with.
+    fn agrees_over(
+        self,
+        alloc: Global,
+        calendar: &Calendar,
+        row: &mut Split<'_, char>,
+    ) -> Result<bool, RowFault> {
+        let agrees = match self {
+            Table::Business => business_agrees(calendar, row),
+            Table::Adjusted => adjusted_agrees(calendar, row),
+            Table::Advanced => advanced_agrees(calendar, row),
+            Table::Between => between_agrees(calendar, row),
+            _ => return schedule_agrees(alloc, calendar, row),
+        };
+        agrees.ok_or(RowFault::NotARow)
     }
 }
 

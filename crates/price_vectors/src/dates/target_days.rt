@@ -1,6 +1,7 @@
 // Lines `YYYY,MMDD MMDD ..`: a year, and its days from Monday to Friday that are holidays of QuantLib 1.29's TARGET. It
 // has one holiday that is not in every year, 2001-12-31.
-use crate::dates::row::{Row, RowFault};
+use crate::dates::fault::RowFault;
+use crate::words::next_number;
 use anyhow::{Result, bail};
 use day_number::{Day, add_days};
 use holiday_calendars::{Base, Calendar};
@@ -20,28 +21,28 @@ pub(crate) fn compare(rt: &impl Print, text: &str) -> Result<()> {
         differ: 0,
     };
     for line in text.lines() {
-        match year_of(line) {
-            Ok((first, closed)) => compare_year(rt, first, closed, &mut tally)?,
-            Err(fault) => bail!("target: {fault}: {line}"),
-        }
+        let Some((first, closed)) = year_of(line) else {
+            bail!("target: {}: {line}", RowFault::NotARow);
+        };
+        compare_year(rt, first, closed, &mut tally)?;
     }
     println!(rt; "target: {} agree, {} differ", tally.agree, tally.differ)?;
     Ok(())
 }
 
 // The first day of a line's year, and the holidays' texts.
-fn year_of(line: &str) -> Result<(Day, &str), RowFault> {
-    let mut row = Row::new(line);
-    let first = Day::of(row.number()?, 1, 1).ok_or(RowFault::NotARow)?;
-    let closed = row.text()?;
-    row.end()?;
-    if closed
-        .split(' ')
-        .all(|text| text.len() == 4 && text.parse::<u16>().is_ok())
-    {
-        Ok((first, closed))
-    } else {
-        Err(RowFault::NotARow)
+fn year_of(line: &str) -> Option<(Day, &str)> {
+    let mut row = line.split(',');
+    let first = Day::of(next_number(&mut row)?, 1, 1)?;
+    let closed = row.next()?;
+    for text in closed.split(' ') {
+        if text.len() != 4 || text.parse::<u16>().is_err() {
+            return None;
+        }
+    }
+    match row.next() {
+        None => Some((first, closed)),
+        Some(_) => None,
     }
 }
 

@@ -6,6 +6,8 @@
 //! 65,536 nodes, each of them observed by the sixteen after it.
 #![tactic(auto)]
 
+ghost use Rattle.std.specs.Prelude.{◌≡◌, []};
+
 mod moves;
 mod nets;
 mod picks;
@@ -13,55 +15,83 @@ mod ring;
 mod rounds;
 mod shapes;
 mod steps;
+mod tallies;
 mod watched;
 mod words;
 
+use deferred_sources::Deferral;
 use moves::moves_agree;
+use observer_graph::Graph;
 use shapes::shape_agrees;
 use std::alloc::Global;
 use std::{fs, io};
 use steps::steps_agree;
+use tallies::Tally;
 
 fn main(rt: HostRuntime) -> io::Result<()> {
-    let shapes = fs::read_to_string(&rt, "shapes.csv")?;
-    compare(&rt, rt.alloc(), &shapes)?;
-    let moves = fs::read_to_string(&rt, "moves.csv")?;
-    let agree = moves_agree(rt.alloc(), &moves).unwrap_or(false);
-    println!(rt; "moves: agree {agree}")?;
-    let deferrals = fs::read_to_string(&rt, "deferrals.txt")?;
-    compare_steps(&rt, rt.alloc(), "deferrals", &deferrals)?;
-    let watchers = fs::read_to_string(&rt, "watchers.txt")?;
-    compare_steps(&rt, rt.alloc(), "watchers", &watchers)?;
+    compare(&rt, Table::Shapes)?;
+    show_moves(&rt)?;
+    compare(&rt, Table::Deferrals)?;
+    compare(&rt, Table::Watchers)?;
     rounds::compare(&rt)?;
     ring::show(&rt)
 }
 
-// Prints each shape that differs, and how many agree and differ.
-fn compare(rt: &impl Print, alloc: Global, rows: &str) -> io::Result<()> {
-    let mut agree = 0u64;
-    let mut differ = 0u64;
-    for row in rows.lines() {
-        if shape_agrees(alloc, row).unwrap_or(false) {
-            agree = agree.saturating_add(1);
-        } else {
-            differ = differ.saturating_add(1);
-            println!(rt; "shapes: {row}")?;
-        }
-    }
-    println!(rt; "shapes: {agree} agree, {differ} differ")
+// A file of rows each of which is a graph of its own.
+#[derive(Clone, Copy)]
+enum Table {
+    Shapes,
+    Deferrals,
+    Watchers,
 }
 
-// Prints each row of steps that differs, with the name of its file, and how many agree and differ.
-fn compare_steps(rt: &impl Print, alloc: Global, name: &str, rows: &str) -> io::Result<()> {
-    let mut agree = 0u64;
-    let mut differ = 0u64;
-    for row in rows.lines() {
-        if steps_agree(alloc, row).unwrap_or(false) {
-            agree = agree.saturating_add(1);
-        } else {
-            differ = differ.saturating_add(1);
-            println!(rt; "{name}: {row}")?;
+impl Table {
+    // Its file, and its kind.
+    fn names(self) -> (&'static str, &'static str) {
+        match self {
+            Table::Shapes => ("shapes.csv", "shapes"),
+            Table::Deferrals => ("deferrals.txt", "deferrals"),
+            Table::Watchers => ("watchers.txt", "watchers"),
         }
     }
-    println!(rt; "{name}: {agree} agree, {differ} differ")
+
+    // Whether a row agrees, by an empty graph of its own. None where it is no row, or where memory is wanting.
+    fn agrees(self, alloc: Global, row: &str) -> Option<bool> {
+        let mut held = Deferral::new(Graph::new(alloc));
+        self.agrees_over(&mut held, row)
+    }
+
+    // The same of a graph that is lent: who owns one lets it go at each exit.
+    fn agrees_over(self, held: &mut Deferral, row: &str) -> Option<bool>
+        requires { held.old.graph ≡ record { nodes = []; subjects = []; sources = []; noticed = []; spare = 0 } }
+    {
+        match self {
+            Table::Shapes => shape_agrees(&mut held.graph, row),
+            Table::Deferrals | Table::Watchers => steps_agree(held, row),
+        }
+    }
+}
+
+// Prints each row of a file that differs, and how many agree and differ.
+fn compare(rt: &HostRuntime, table: Table) -> io::Result<()> {
+    let (file, _) = table.names();
+    let rows = fs::read_to_string(rt, file)?;
+    compare_rows(rt, rt.alloc(), table, &rows)
+}
+
+// The same of the rows of a file.
+fn compare_rows(rt: &impl Print, alloc: Global, table: Table, rows: &str) -> io::Result<()> {
+    let (_, kind) = table.names();
+    let mut tally = Tally::new(kind);
+    for row in rows.lines() {
+        tally.count(rt, row, table.agrees(alloc, row).unwrap_or(false))?;
+    }
+    tally.tell(rt)
+}
+
+// Prints whether the moves of a holder agree.
+fn show_moves(rt: &HostRuntime) -> io::Result<()> {
+    let moves = fs::read_to_string(rt, "moves.csv")?;
+    let agree = moves_agree(rt.alloc(), &moves).unwrap_or(false);
+    println!(rt; "moves: agree {agree}")
 }

@@ -5,7 +5,7 @@ ghost use Rattle.graph_vectors.specs.Nets.{IsNet};
 use crate::nets::{count_not_current, lazy_over};
 use desk_names::ObjId;
 use observer_graph::{Graph, Role};
-use std::alloc::{AllocError, Global};
+use std::alloc::AllocError;
 
 /// How many steps a shape has at most.
 const MOST_STEPS: u32 = 10_000;
@@ -21,9 +21,11 @@ enum Shape {
     Ladder,
 }
 
-// Whether the row's count is that of the graph, in which the top reaches the source and not the other way. None where it
-// is no row, or where memory is wanting.
-pub(crate) fn shape_agrees(alloc: Global, row: &str) -> Option<bool> {
+// Whether the row's count is that of an empty graph with its shape, in which the top reaches the source and not the other way.
+// None where it is no row, or where memory is wanting.
+pub(crate) fn shape_agrees(graph: &mut Graph, row: &str) -> Option<bool>
+    requires { graph.old ≡ record { nodes = []; subjects = []; sources = []; noticed = []; spare = 0 } }
+{
     let mut fields = row.split(',');
     let shape = shape_of(fields.next()?)?;
     let steps = fields.next()?.parse().ok()?;
@@ -31,11 +33,10 @@ pub(crate) fn shape_agrees(alloc: Global, row: &str) -> Option<bool> {
     if steps > MOST_STEPS {
         return None;
     }
-    let mut graph = Graph::new(alloc);
-    is_told(&mut graph, shape, steps, told)
+    is_told(graph, shape, steps, told)
 }
 
-// The same of an empty graph that is lent: who owns one lets it go at each exit.
+// The same of a shape that was read.
 fn is_told(graph: &mut Graph, shape: Shape, steps: u32, told: u32) -> Option<bool>
     requires graph { graph.old ≡ record { nodes = []; subjects = []; sources = []; noticed = []; spare = 0 } }
     requires steps { steps ≤ MOST_STEPS }

@@ -1,27 +1,24 @@
 // Rows `nodes: steps`, `;` between the steps: changes of a graph whose notices may be held back, and questions about it with
 // their answers. The letters of a row are its nodes by number: s a source, f a forwarder, l a lazy node, w a watcher.
-ghost use Rattle.std.specs.Prelude.{◌≡◌, ◌+◌, ◌<◌, length, OnOk};
+ghost use Rattle.std.specs.Prelude.{◌≡◌, ◌+◌, ◌<◌, [], length, OnOk};
 ghost use Rattle.observer_graph.specs.GraphView.{IsWhole};
 
 use deferred_sources::Deferral;
 use desk_names::ObjId;
 use observer_graph::{Flags, Graph, Role};
-use std::alloc::{AllocError, Global};
 
 /// How many nodes a row has at most.
 const MOST_LETTERS: usize = 1_000;
 
-/// Whether each step of a row agrees. None where one is no step of its graph, or where memory is wanting.
-pub(crate) fn steps_agree(alloc: Global, row: &str) -> Option<bool> {
+/// Whether each step of a row agrees in a graph without nodes. None where one is no step of its graph, or where memory is
+/// wanting.
+pub(crate) fn steps_agree(held: &mut Deferral, row: &str) -> Option<bool>
+    requires { held.old.graph.nodes ≡ [] }
+{
     let mut parts = row.split(": ");
     let letters = parts.next()?;
     let steps = parts.next()?;
-    let mut held = Deferral::new(net(alloc, letters.as_bytes())?);
-    each_agrees(&mut held, steps)
-}
-
-// The same of a graph that is lent: who owns one lets it go at each exit.
-fn each_agrees(held: &mut Deferral, steps: &str) -> Option<bool> {
+    add_nodes(&mut held.graph, letters.as_bytes())?;
     let mut agree = true;
     for step in steps.split(';') {
         agree = step_agrees(held, step)? && agree;
@@ -29,16 +26,17 @@ fn each_agrees(held: &mut Deferral, steps: &str) -> Option<bool> {
     Some(agree)
 }
 
-// A graph of nodes in these roles.
-fn net(alloc: Global, letters: &[u8]) -> Option<Graph> {
+// Adds nodes in these roles to a graph without any.
+fn add_nodes(graph: &mut Graph, letters: &[u8]) -> Option<()>
+    requires { graph.old.nodes ≡ [] }
+{
     if letters.len() > MOST_LETTERS {
         return None;
     }
-    let mut graph = Graph::new(alloc);
     for letter in letters {
         graph.add(role_of(*letter)?).ok()?;
     }
-    Some(graph)
+    Some(())
 }
 
 fn role_of(letter: u8) -> Option<Role> {

@@ -6,7 +6,7 @@
 //     next W|none                 who runs next
 //     due W W ..                  the due watchers
 //     grow N W                    room for so many names and watchers
-ghost use Rattle.std.specs.Prelude.{◌≡◌, IfSome};
+ghost use Rattle.std.specs.Prelude.{◌≡◌};
 ghost use Rattle.std.specs.List.{list_all};
 ghost use Rattle.graph_vectors.specs.Watched.{HasRoom, is_apart};
 
@@ -38,15 +38,18 @@ impl Watched {
         }
     }
 
-    /// A session `order names watchers`. None where it is none, or where memory is wanting.
-    pub(crate) fn of_session(alloc: Global, session: &str) -> Option<Watched>
-        ensures { IfSome result HasRoom }
+    /// Begins a session `order names watchers` anew. None where it is none, or where memory is wanting.
+    pub(crate) fn begin(&mut self, alloc: Global, session: &str) -> Option<bool>
+        requires { HasRoom self.old }
+        ensures { HasRoom self.new }
     {
         let mut words = session.split(' ');
-        let mut watched = Watched::new(alloc);
-        watched.order = order_of(words.next()?)?;
-        watched.grow(words.next()?, words.next()?)?;
-        Some(watched)
+        let order = order_of(words.next()?)?;
+        let names = words.next()?;
+        let watchers = words.next()?;
+        *self = Watched::new(alloc);
+        self.order = order;
+        self.grow(names, watchers)
     }
 
     /// Whether each step of a round agrees. None where one is no step, or where memory is wanting.

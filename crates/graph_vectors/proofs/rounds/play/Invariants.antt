@@ -1,5 +1,5 @@
 use Rattle.graph_vectors.specs.Watched.{HasRoom}
-use Rattle.graph_vectors.proofs.rounds.compare_rounds.Given as goal
+use Rattle.graph_vectors.proofs.rounds.play.Given as goal
 
 abbrev pub invariant-loop-row : goal.invariant-loop-row
 invariant-loop-row g l = record {

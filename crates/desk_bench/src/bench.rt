@@ -11,7 +11,7 @@ use crate::curves::{curve_price, implied_price};
 use curve_bootstrap::CurvePlans;
 use desk_names::ObjId;
 use desk_terms::{Bench, BenchFault, Job, Terms, Value};
-use discount_engines::{PriceFault, price, sum_price};
+use discount_engines::{PriceFault, money_of, price};
 use fixed_amount::Amount;
 use std::alloc::{AllocError, Global};
 
@@ -227,7 +227,7 @@ fn sum_answer(object: ObjId, units: i128) -> Result<Amount, BenchFault>
     ensures price { Answers (money_of object units) (money_answer result) }
     ensures memory { WantsOnly ⊥ (money_answer result) }
 {
-    match sum_price(object, units) {
+    match money_of(object, units) {
         Ok(amount) => Ok(amount),
         Err(cause) => Err(BenchFault::Refused(cause)),
     }

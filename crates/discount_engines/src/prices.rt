@@ -44,15 +44,6 @@ pub fn price(_alloc: Global, job: &Job<'_>) -> Result<Value, PriceFault>
     }
 }
 
-/// The price of a composite whose weights times its members' values sum to these units of 10^-6: within 10^24 units either
-/// way, else `TooLarge` of the object.
-#[inline(always)]
-pub fn sum_price(object: ObjId, units: i128) -> Result<Amount, Cause>
-    ensures { as_money result ≡ money_of object units }
-{
-    money_of(object, units)
-}
-
 // The price of a job as an amount, or a cause alone.
 #[inline(always)]
 fn price_of(job: &Job<'_>) -> Result<Amount, Cause>
@@ -153,9 +144,10 @@ fn times(weight: i64, amount: Amount) -> i128
     weight as i128 * amount.0
 }
 
-/// Money in the limits, or the refusal.
+/// What an object is worth whose flows, or whose weights times its members' values, sum to these units of 10^-6: money within 10^24
+/// units either way, else `TooLarge` of the object.
 #[inline(always)]
-pub(crate) fn money_of(object: ObjId, units: i128) -> Result<Amount, Cause>
+pub fn money_of(object: ObjId, units: i128) -> Result<Amount, Cause>
     ensures { as_money result ≡ money_of object units }
 {
     if units >= -MOST_UNITS && units <= MOST_UNITS {

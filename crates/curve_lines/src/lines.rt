@@ -86,7 +86,7 @@ impl PlotLine {
     pub fn points(&self) -> &[PlotPoint]
         ensures { result.now ≡ self.now.points }
     {
-        self.points.as_slice()
+        &self.points
     }
 }
 

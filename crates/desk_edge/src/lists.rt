@@ -31,13 +31,13 @@ impl MemoryFile {
     pub fn path(&self) -> &str
         ensures { result.now ≡ self.now.0 }
     {
-        self.path.as_str()
+        &self.path
     }
 
     pub fn bytes(&self) -> &[u8]
         ensures { result.now ≡ self.now.1 }
     {
-        self.bytes.as_slice()
+        &self.bytes
     }
 }
 

@@ -77,7 +77,7 @@ impl MemorySink {
     pub fn bytes(&self) -> &[u8]
         ensures { result.now ≡ self.now.bytes }
     {
-        self.bytes.as_slice()
+        &self.bytes
     }
 
     /// The bytes flushed so far.

@@ -4,9 +4,14 @@ ghost use Rattle.std.specs.Prelude.{◌≡◌, string_bytes};
 use std::marker::Model;
 
 /// The text of a path to a file. A clause sees its bytes.
-#[derive(Drop)]
 pub struct PathText {
     text: String,
+}
+
+impl Drop for PathText {
+    fn drop(self) {
+        let PathText { text: _ } = self;
+    }
 }
 
 impl Model for PathText {
@@ -29,6 +34,6 @@ impl PathText {
     pub fn text(&self) -> &str
         ensures { result.now ≡ self.now }
     {
-        self.text.as_str()
+        &self.text
     }
 }

@@ -4,9 +4,15 @@ use std::alloc::{AllocError, Global};
 use std::marker::Model;
 
 /// Nodes in their order. A clause sees the list of them.
-#[derive(Debug, Drop)]
+#[derive(Debug)]
 pub struct NodeList {
     nodes: Vec<CurveNode>,
+}
+
+impl Drop for NodeList {
+    fn drop(self) {
+        let NodeList { nodes: _ } = self;
+    }
 }
 
 impl Model for NodeList {

@@ -66,10 +66,15 @@ impl<T: Drop> From<AllocFailed<T>> for NameFault {
 }
 
 /// The names of a session in order of first use: at most 65,536, each once. A clause sees the list of their texts.
-#[derive(Drop)]
 pub struct Names {
     texts: IndexSet<Vec<u8>>,
     alloc: Global,
+}
+
+impl Drop for Names {
+    fn drop(self) {
+        let Names { texts: _, alloc: _ } = self;
+    }
 }
 
 impl Model for Names {

@@ -18,7 +18,6 @@ pub const MOST_NODES: usize = 65_536;
 
 /// Pairs of a subject and one of its observers, each once, over nodes that live, and spare places for some more. Nodes
 /// are numbered from 0 in order of creation, and no number is given twice. A clause sees an `EdgesView`.
-#[derive(Drop)]
 pub struct Edges {
     slots: Slab<Edge>,
     nodes: Vec<Option<Heads>>,
@@ -26,6 +25,17 @@ pub struct Edges {
     newest: Vec<u32>,
     // For how many pairs there is room that `link_spare` alone may take.
     spare: usize,
+}
+
+impl Drop for Edges {
+    fn drop(self) {
+        let Edges {
+            slots: _,
+            nodes: _,
+            newest: _,
+            spare: _,
+        } = self;
+    }
 }
 
 impl Model for Edges {

@@ -11,9 +11,14 @@ use thiserror::Error;
 
 /// The stored rates of an index by the days of their fixings, each within 10 either way (QuantLib's `TimeSeries`). A
 /// clause sees the days with their rates, in the order of time and each day once.
-#[derive(Drop)]
 pub struct Fixings {
     rates: BTreeMap<Day, Rate>,
+}
+
+impl Drop for Fixings {
+    fn drop(self) {
+        let Fixings { rates: _ } = self;
+    }
 }
 
 impl Model for Fixings {

@@ -32,10 +32,15 @@ pub enum JointFault {
 }
 
 /// The rule and the parts, one to eight, of a joint calendar. A clause sees it as these.
-#[derive(Drop)]
 pub struct JointParts {
     rule: JointRule,
     parts: BaseList,
+}
+
+impl Drop for JointParts {
+    fn drop(self) {
+        let JointParts { rule: _, parts: _ } = self;
+    }
 }
 
 impl Model for JointParts {

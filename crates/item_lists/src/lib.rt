@@ -8,9 +8,14 @@ use std::alloc::{AllocError, Global};
 use std::marker::Model;
 
 /// Items in the order in which they were pushed.
-#[derive(Drop)]
 pub struct Items<T> {
     items: Vec<T>,
+}
+
+impl<T: Drop> Drop for Items<T> {
+    fn drop(self) {
+        let Items { items: _ } = self;
+    }
 }
 
 impl<T> Model for Items<T> {

@@ -4,9 +4,14 @@ ghost use Rattle.std.specs.Prelude.{◌≡◌, ◌<◌, length, slice_get, Some}
 use std::marker::Model;
 
 /// The bytes of a text. A clause sees them as a list.
-#[derive(Drop)]
 pub struct ByteList {
     bytes: Vec<u8>,
+}
+
+impl Drop for ByteList {
+    fn drop(self) {
+        let ByteList { bytes: _ } = self;
+    }
 }
 
 impl Model for ByteList {

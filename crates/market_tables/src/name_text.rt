@@ -10,9 +10,14 @@ use std::alloc::Global;
 use std::marker::Model;
 
 /// A text that was found to be a name. A clause sees its bytes.
-#[derive(Drop)]
 pub struct NameText {
     text: Vec<u8>,
+}
+
+impl Drop for NameText {
+    fn drop(self) {
+        let NameText { text: _ } = self;
+    }
 }
 
 impl Model for NameText {

@@ -13,9 +13,14 @@ use std::alloc::{AllocError, Global};
 use std::marker::Model;
 
 /// The values of quotes by number. At a number stands nothing, or a quote with its value or with none.
-#[derive(Drop)]
 pub struct Quotes {
     entries: Vec<Option<Option<Rate>>>,
+}
+
+impl Drop for Quotes {
+    fn drop(self) {
+        let Quotes { entries: _ } = self;
+    }
 }
 
 impl Model for Quotes {

@@ -7,9 +7,14 @@ pub const MOST_DAYS: usize = 801;
 
 /// The days of a schedule, each once and in the order of time, from 2 to `MOST_DAYS` of them. Each two that follow each
 /// other are a period.
-#[derive(Drop)]
 pub struct Schedule {
     pub(crate) days: Vec<Day>,
+}
+
+impl Drop for Schedule {
+    fn drop(self) {
+        let Schedule { days: _ } = self;
+    }
 }
 
 impl Model for Schedule {

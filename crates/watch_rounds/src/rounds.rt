@@ -22,7 +22,6 @@ pub struct DueWatcher {
 }
 
 /// The due watchers of a round by creation, and the runs of each name in it. A clause sees a `RoundsView`.
-#[derive(Drop)]
 pub struct Rounds {
     due: VecDeque<DueWatcher>,
     // Where the watcher that is told next may stand among the due: behind the one that was told last.
@@ -34,6 +33,19 @@ pub struct Rounds {
     nodes: usize,
     // So many names have room.
     names: usize,
+}
+
+impl Drop for Rounds {
+    fn drop(self) {
+        let Rounds {
+            due: _,
+            near: _,
+            tallies: _,
+            ran: _,
+            nodes: _,
+            names: _,
+        } = self;
+    }
 }
 
 impl Model for Rounds {

@@ -9,7 +9,6 @@ use std::marker::Model;
 
 /// A list of nodes that wait, and a set of marked ones: those that wait and those that were handed out. A clause sees a
 /// `WaveView`.
-#[derive(Drop)]
 pub struct Wave {
     // The marked nodes are those with this stamp.
     stamp: u32,
@@ -19,6 +18,18 @@ pub struct Wave {
     // The places of the node that was handed out last and of the one that was put in last, or of none.
     done: usize,
     last: usize,
+}
+
+impl Drop for Wave {
+    fn drop(self) {
+        let Wave {
+            stamp: _,
+            stamps: _,
+            nexts: _,
+            done: _,
+            last: _,
+        } = self;
+    }
 }
 
 impl Model for Wave {

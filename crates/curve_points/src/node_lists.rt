@@ -9,6 +9,7 @@ pub struct NodeList {
     nodes: Vec<CurveNode>,
 }
 
+// One call at each exit of who lets it go.
 impl Drop for NodeList {
     fn drop(self) {
         let NodeList { nodes: _ } = self;

@@ -71,6 +71,7 @@ pub struct Names {
     alloc: Global,
 }
 
+// One call at each exit of who lets it go.
 impl Drop for Names {
     fn drop(self) {
         let Names { texts: _, alloc: _ } = self;

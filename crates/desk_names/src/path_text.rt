@@ -8,6 +8,7 @@ pub struct PathText {
     text: String,
 }
 
+// One call at each exit of who lets it go.
 impl Drop for PathText {
     fn drop(self) {
         let PathText { text: _ } = self;

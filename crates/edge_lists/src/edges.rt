@@ -27,6 +27,7 @@ pub struct Edges {
     spare: usize,
 }
 
+// One call at each exit of who lets it go.
 impl Drop for Edges {
     fn drop(self) {
         let Edges {

@@ -15,6 +15,7 @@ pub struct Fixings {
     rates: BTreeMap<Day, Rate>,
 }
 
+// One call at each exit of who lets it go.
 impl Drop for Fixings {
     fn drop(self) {
         let Fixings { rates: _ } = self;

@@ -37,6 +37,7 @@ pub struct JointParts {
     parts: BaseList,
 }
 
+// One call at each exit of who lets it go.
 impl Drop for JointParts {
     fn drop(self) {
         let JointParts { rule: _, parts: _ } = self;

@@ -12,6 +12,7 @@ pub struct Items<T> {
     items: Vec<T>,
 }
 
+// One call at each exit of who lets it go.
 impl<T: Drop> Drop for Items<T> {
     fn drop(self) {
         let Items { items: _ } = self;

@@ -8,6 +8,7 @@ pub struct ByteList {
     bytes: Vec<u8>,
 }
 
+// One call at each exit of who lets it go.
 impl Drop for ByteList {
     fn drop(self) {
         let ByteList { bytes: _ } = self;

@@ -14,6 +14,7 @@ pub struct NameText {
     text: Vec<u8>,
 }
 
+// One call at each exit of who lets it go.
 impl Drop for NameText {
     fn drop(self) {
         let NameText { text: _ } = self;

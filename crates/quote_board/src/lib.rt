@@ -17,6 +17,7 @@ pub struct Quotes {
     entries: Vec<Option<Option<Rate>>>,
 }
 
+// One call at each exit of who lets it go.
 impl Drop for Quotes {
     fn drop(self) {
         let Quotes { entries: _ } = self;

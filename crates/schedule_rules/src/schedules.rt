@@ -11,6 +11,7 @@ pub struct Schedule {
     pub(crate) days: Vec<Day>,
 }
 
+// One call at each exit of who lets it go.
 impl Drop for Schedule {
     fn drop(self) {
         let Schedule { days: _ } = self;

@@ -35,6 +35,7 @@ pub struct Rounds {
     names: usize,
 }
 
+// One call at each exit of who lets it go.
 impl Drop for Rounds {
     fn drop(self) {
         let Rounds {

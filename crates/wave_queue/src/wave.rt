@@ -20,6 +20,7 @@ pub struct Wave {
     last: usize,
 }
 
+// One call at each exit of who lets it go.
 impl Drop for Wave {
     fn drop(self) {
         let Wave {

@@ -1,6 +1,6 @@
 -- Sets that grow at their end.
 use Rattle.std.proofs.Common.{◌≡◌, ◌⊎◌, inl, inr, ℕ, ◌+◌, ◌<◌, ◌≤◌, List, [], ◌∷◌, ◌++◌, length, take, refl, sym, ◌∙◌, ap, subst, append_assoc, append-nil}
-use Rattle.std.specs.Prelude.{slice_index_or}
+use Rattle.std.specs.Prelude.{◌↔◌, slice_index_or}
 use Rattle.std.proofs.lemmas.List.{take_more, take_all}
 use Rattle.walks.specs.Walk.{Among}
 use Rattle.observer_graph.specs.Lists.{SetView, Extends}
@@ -57,3 +57,11 @@ extends_more a b c nodes at i low is = extends_on a b c (λ o. Among o (take at 
 pub extends_end : (a b : SetView) (nodes : List ℕ) (at : ℕ) → length nodes ≤ at
     → Extends a b (λ o. Among o (take at nodes)) → Extends a b (λ o. Among o nodes)
 extends_end a b nodes at past f = subst (λ (l : List ℕ). Extends a b (λ o. Among o l)) (take_all at nodes past) f
+
+-- an empty set has no more than what was put in
+pub extends_empty : (old new : SetView) (list : List ℕ) (P : ℕ → Type 0) → Extends old new P → old.items ≡ [] → list ≡ new.items
+    → (x : ℕ) → Among x list ↔ P x
+extends_empty old new list P f empty same x = (
+  λ a. elim ((f.items x).0 (subst (Among x) same a)) [ inl was ↦ absurd (subst (Among x) empty was) | inr p ↦ p ],
+  λ p. subst (Among x) (sym same) ((f.items x).1 (inr p)),
+)

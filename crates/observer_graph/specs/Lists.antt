@@ -10,10 +10,6 @@ is_marked marks o = slice_index_or marks o false
 abbrev pub list_at : List (List ℕ) → ℕ → List ℕ
 list_at lists o = slice_index_or lists o []
 
--- each list has each node once
-abbrev pub AreOnce : List (List ℕ) → Type 0
-AreOnce lists = (o : ℕ) → IsOnce (list_at lists o)
-
 -- how many are not marked
 abbrev pub open_count : List Bool → ℕ
 open_count [] = 0
@@ -25,18 +21,6 @@ pub record SetView : Type 0 where
   pub marks : List Bool
   pub items : List ℕ
   pub spare : ℕ
-
--- the subjects of each node, a mark for each node that lives, and how many pairs more fit with no memory
-pub record PairsView : Type 0 where
-  pub subjects : List (List ℕ)
-  pub live : List Bool
-  pub spare : ℕ
-
--- pairs are of live nodes, each once, and there is a list for each number
-pub record IsLinked (v : PairsView) : Type 0 where
-  pub ends : (x o : ℕ) → Among x (list_at v.subjects o) → (is_marked v.live x ≡ true) × (is_marked v.live o ≡ true)
-  pub once : AreOnce v.subjects
-  pub long : length v.live ≡ length v.subjects
 
 -- the marked nodes are those of the list, each once, and what is not marked has room
 pub record IsSet (marks : List Bool) (items : List ℕ) : Type 0 where
@@ -51,7 +35,3 @@ pub record Extends (old new : SetView) (more : ℕ → Type 0) : Type 0 where
   pub spare : new.spare ≡ old.spare
   pub end : (tail : List ℕ) × (new.items ≡ old.items ++ tail)
   pub items : (o : ℕ) → Among o new.items ↔ (Among o old.items ⊎ more o)
-
--- the pairs of these lists are those of which P holds
-abbrev pub ArePairs : List (List ℕ) → (ℕ → ℕ → Type 0) → Type 0
-ArePairs lists P = (x o : ℕ) → Among x (list_at lists o) ↔ P x o

@@ -7,16 +7,19 @@ ghost use Rattle.observer_graph.specs.Late.{IsClear, IsLateOf, StandsAs};
 ghost use Rattle.observer_graph.specs.Noticed.{IsRising};
 ghost use Rattle.observer_graph.specs.Change.{AddsNode, AddsPair, TakesPair, TakesNode, flagged, with_node, with_flags, with_source, without_source};
 
-use crate::beneath::{is_frozen, recounted};
+use crate::beneath::{is_clear, is_frozen, least_beneath, recounted};
+use crate::by_turns::{leads_by_turns, make_room};
 use crate::node::{Flags, Node, Role, Standing};
 use crate::node_set::NodeSet;
-use crate::pairs::Pairs;
+use crate::pairs::{add_linked, least_user_of};
 use crate::rising::{reserve_for, take_out};
-use crate::walk::unsettle_one;
+use crate::walk::{tell_all, unsettle_one};
 use desk_names::ObjId;
+use edge_lists::Edges;
 use std::alloc::{AllocError, Global};
 use std::collections::VecDeque;
 use std::marker::Model;
+use wave_queue::Wave;
 
 /// How many numbers a graph gives at most.
 pub const MOST_NODES: usize = 65_536;
@@ -27,7 +30,7 @@ pub const MOST_NODES: usize = 65_536;
 #[derive(Drop)]
 pub struct Graph {
     nodes: Vec<Option<Node>>,
-    pairs: Pairs,
+    edges: Edges,
     sources: NodeSet,
     // How many nodes are frozen.
     frozen: usize,
@@ -35,22 +38,34 @@ pub struct Graph {
     noticed: VecDeque<ObjId>,
     // Those whom a new node observes, during a call; empty between calls.
     wave: NodeSet,
+    // What lies beneath a node and what lies above one, during a call; empty between calls.
+    down: Wave,
+    up: Wave,
 }
 
 impl Model for Graph {
     ghost use Rattle.std.specs.Prelude.{◌≡◌, ◌≤◌, length};
     ghost use Rattle.std.specs.VecDeque.{deque_capacity};
+    ghost use Rattle.edge_lists.specs.EdgesView.{subject_lists};
     ghost use Rattle.observer_graph.specs.GraphView.{GraphView};
     ghost use Rattle.observer_graph.specs.Noticed.{AreNoticed};
     ghost use Rattle.observer_graph.specs.Late.{frozen_count};
     ghost use Rattle.observer_graph.specs.Stands.{Stands};
+    ghost use Rattle.observer_graph.specs.Turns.{IsFree};
 
     ghost Value = { GraphView };
 
-    ghost view = { λ g. record { nodes = g.nodes.items; subjects = g.pairs.subjects; sources = g.sources.marks; noticed = g.noticed.items; spare = g.pairs.spare } };
+    ghost view = { λ g. record {
+      nodes = g.nodes.items;
+      subjects = subject_lists g.edges;
+      sources = g.sources.marks;
+      noticed = g.noticed.items;
+      spare = g.edges.spare;
+    } };
 
-    ghost invariant = { λ g. Stands g.nodes.items g.pairs g.sources g.wave × (g.frozen ≡ frozen_count g.nodes.items)
-        × AreNoticed g.noticed.items (length g.nodes.items) × (length g.nodes.items ≤ deque_capacity g.noticed) };
+    ghost invariant = { λ g. Stands g.nodes.items g.edges g.sources g.wave × (g.frozen ≡ frozen_count g.nodes.items)
+        × AreNoticed g.noticed.items (length g.nodes.items) × (length g.nodes.items ≤ deque_capacity g.noticed)
+        × IsFree (length g.edges.nodes) g.down × IsFree (length g.edges.nodes) g.up };
 }
 
 impl Graph {
@@ -60,11 +75,13 @@ impl Graph {
     {
         Graph {
             nodes: Vec::new(alloc),
-            pairs: Pairs::new(alloc),
+            edges: Edges::new(alloc),
             sources: NodeSet::new(alloc),
             frozen: 0,
             noticed: VecDeque::new(alloc),
             wave: NodeSet::new(alloc),
+            down: Wave::new(alloc),
+            up: Wave::new(alloc),
         }
     }
 
@@ -80,9 +97,12 @@ impl Graph {
         self.nodes.reserve(1)?;
         self.sources.reserve()?;
         self.wave.reserve()?;
-        reserve_for(&mut self.noticed, self.nodes.len() + 1)?;
-        self.pairs.grow()?;
-        let node = ObjId(self.nodes.len() as u32);
+        let nodes = self.nodes.len() + 1;
+        reserve_for(&mut self.noticed, nodes)?;
+        make_room(&mut self.down, nodes)?;
+        make_room(&mut self.up, nodes)?;
+        let node = self.edges.add_node()?;
+        self.edges.whole();
         self.nodes.push_reserved(Some(Node {
             role,
             flags: Flags::default(),
@@ -105,12 +125,15 @@ impl Graph {
         self.nodes.reserve(1)?;
         self.sources.reserve()?;
         self.wave.reserve()?;
-        reserve_for(&mut self.noticed, self.nodes.len() + 1)?;
-        let node = ObjId(self.nodes.len() as u32);
+        let nodes = self.nodes.len() + 1;
+        reserve_for(&mut self.noticed, nodes)?;
+        make_room(&mut self.down, nodes)?;
+        make_room(&mut self.up, nodes)?;
         self.wave.insert_all(subjects);
-        let linked = self.pairs.grow_linked(node, self.wave.items());
+        let added = add_linked(&mut self.edges, self.wave.items());
         self.wave.clear();
-        linked?;
+        self.edges.whole();
+        let node = added?;
         self.nodes.push_reserved(Some(Node {
             role,
             flags: Flags::default(),
@@ -130,7 +153,9 @@ impl Graph {
         ensures spare { self.new.spare ≡ self.old.spare }
         ensures whole { IsWhole self.new }
     {
-        self.pairs.link(subject, observer)
+        let linked = self.edges.link(subject, observer);
+        self.edges.whole();
+        linked
     }
 
     /// Finds spare places, so that there are at least so many. After want of memory the graph is as it was.
@@ -138,7 +163,9 @@ impl Graph {
         ensures ok { OnOk result (self.new ≡ record self.old { spare = max self.old.spare pairs }) }
         ensures err { OnErr result (self.new ≡ self.old) }
     {
-        self.pairs.reserve(pairs)
+        let found = self.edges.reserve(pairs);
+        self.edges.whole();
+        found
     }
 
     /// The observer observes the subject too, by one of the spare places. Takes no memory.
@@ -151,7 +178,8 @@ impl Graph {
         ensures spare { self.new.spare + 1 ≡ self.old.spare }
         ensures whole { IsWhole self.new }
     {
-        self.pairs.link_spare(subject, observer);
+        self.edges.link_spare(subject, observer);
+        self.edges.whole();
     }
 
     /// The observer does not observe the subject; whether it did, which leaves a spare place. Takes no memory.
@@ -162,7 +190,9 @@ impl Graph {
         ensures pairs { TakesPair self.old self.new subject observer }
         ensures spare { self.new.spare ≡ self.old.spare + (if result then 1 else 0) }
     {
-        self.pairs.unlink(subject, observer)
+        let was = self.edges.unlink(subject, observer);
+        self.edges.whole();
+        was
     }
 
     /// The node is gone, with every pair in which it stands, its mark as a source and what it was told. Each of these
@@ -173,7 +203,8 @@ impl Graph {
     {
         let was = is_frozen(&self.nodes[node.place()]);
         self.frozen = recounted(self.frozen, was, false);
-        self.pairs.cut(node);
+        self.edges.drop_node(node);
+        self.edges.whole();
         self.sources.remove(node);
         take_out(&mut self.noticed, node);
         self.nodes[node.place()] = None;
@@ -189,7 +220,17 @@ impl Graph {
         ensures same { self.new ≡ self.old }
         ensures whole { IsWhole self.new }
     {
-        self.pairs.leads(&self.nodes, from, to)
+        let answer = leads_by_turns(
+            &self.edges,
+            &self.nodes,
+            from,
+            to,
+            &mut self.down,
+            &mut self.up,
+        );
+        self.down.reset();
+        self.up.reset();
+        answer
     }
 
     /// The first by creation of the watchers that were told and not handed out since; it is forgotten. None where
@@ -210,7 +251,7 @@ impl Graph {
         requires observer { IsLive self.now observer }
         ensures { IsTrue result ↔ IsPair self.now subject observer }
     {
-        self.pairs.has_pair(subject, observer)
+        self.edges.has_pair(subject, observer)
     }
 
     /// Whether some pair has a node as its observer. Takes no memory.
@@ -218,7 +259,7 @@ impl Graph {
         requires { IsLive self.now node }
         ensures { IsTrue result ↔ ((x : ℕ) × IsPair self.now x node) }
     {
-        self.pairs.has_subject(node)
+        self.edges.first_subject(node).is_some()
     }
 
     /// The least observer of a node that is no watcher, if it has any. Takes time in proportion to its observers.
@@ -226,7 +267,7 @@ impl Graph {
         requires { IsLive self.now node }
         ensures { IsLeast (IsUser self.now node) result }
     {
-        self.pairs.least_user(node, &self.nodes)
+        least_user_of(&self.edges, node, &self.nodes)
     }
 
     /// Whether a live node has this number.
@@ -337,7 +378,15 @@ impl Graph {
         if self.sources.len() == 0 {
             return None;
         }
-        self.pairs.least_source(&self.nodes, &self.sources, node)
+        let least = least_beneath(
+            &self.edges,
+            &self.nodes,
+            &self.sources,
+            node,
+            &mut self.down,
+        );
+        self.down.reset();
+        least
     }
 
     /// Whether neither a node nor any node beneath it is frozen or a marked source. Takes no memory, and time in
@@ -350,7 +399,15 @@ impl Graph {
         if self.frozen == 0 && self.sources.len() == 0 {
             return true;
         }
-        self.pairs.is_clear(&self.nodes, &self.sources, node)
+        let clear = is_clear(
+            &self.edges,
+            &self.nodes,
+            &self.sources,
+            node,
+            &mut self.down,
+        );
+        self.down.reset();
+        clear
     }
 
     /// How a node stands to who asks for it. Takes no memory, and time in proportion to what lies beneath; where no node is
@@ -394,8 +451,14 @@ impl Graph {
     pub fn tell(&mut self)
         ensures { Tells self.old self.new }
     {
-        self.pairs
-            .tell(&mut self.nodes, &self.sources, &mut self.noticed);
+        tell_all(
+            &self.edges,
+            &mut self.nodes,
+            &self.sources,
+            &mut self.down,
+            &mut self.noticed,
+        );
+        self.down.reset();
         self.sources.clear();
     }
 }

@@ -77,7 +77,7 @@ impl NodeSet {
         ensures items { result.now ≡ self.now.items }
         ensures set { IsSet self.now.marks self.now.items }
     {
-        self.items.as_slice()
+        &self.items
     }
 
     /// The node at a place in the order in which they came, from 0.

@@ -18,9 +18,11 @@ invariant_of-self c =
           c.place.ensures low c.index_mut.ensures.value,
       c.place.ensures,
     ) (
-      stands_stale c.self.inside.nodes.items c.self.inside.pairs c.self.inside.sources c.self.inside.wave c.args.node
-          live c.self.invariant.0,
+      stands_stale c.self.inside.nodes.items c.self.inside.edges c.self.inside.sources c.self.inside.wave c.self.invariant.0
+          c.args.node low,
       c.self.invariant.1 ∙ sym (count_stale c.self.inside.nodes.items c.args.node low),
       noticed_set c.self.inside.nodes.items c.args.node (unsettled (slice_index_or c.self.inside.nodes.items c.args.node None)) c.self.inside.noticed.items (deque_capacity c.self.inside.noticed) c.self.invariant.2,
       room_set c.self.inside.nodes.items c.args.node (unsettled (slice_index_or c.self.inside.nodes.items c.args.node None)) c.self.inside.noticed.items (deque_capacity c.self.inside.noticed) c.self.invariant.3,
+      c.self.invariant.4,
+      c.self.invariant.5,
     )

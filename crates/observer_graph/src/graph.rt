@@ -375,7 +375,7 @@ impl Graph {
         ensures answer { IsLeast (IsLateOf self.old node) result }
         ensures same { self.new ≡ self.old }
     {
-        if self.sources.len() == 0 {
+        if self.sources.items().is_empty() {
             return None;
         }
         let least = least_beneath(
@@ -396,7 +396,7 @@ impl Graph {
         ensures answer { IsTrue result ↔ IsClear self.old node }
         ensures same { self.new ≡ self.old }
     {
-        if self.frozen == 0 && self.sources.len() == 0 {
+        if self.frozen == 0 && self.sources.items().is_empty() {
             return true;
         }
         let clear = is_clear(
@@ -418,7 +418,7 @@ impl Graph {
         ensures standing { StandsAs self.old node result }
         ensures same { self.new ≡ self.old }
     {
-        if self.frozen == 0 && self.sources.len() == 0 {
+        if self.frozen == 0 && self.sources.items().is_empty() {
             return Standing::Clear;
         }
         self.standing_beneath(node)

@@ -1,5 +1,5 @@
 // Sets of nodes that keep the order in which the nodes came, with room for every node.
-ghost use Rattle.std.specs.Prelude.{◌≡◌, ◌⊎◌, ◌↔◌, ◌<◌, ◌++◌, ℕ, [], ◌∷◌, false, true, length, IsTrue, OnOk, OnErr, slice_get, slice_set};
+ghost use Rattle.std.specs.Prelude.{◌≡◌, ◌⊎◌, ◌↔◌, ◌<◌, ◌++◌, ℕ, [], ◌∷◌, false, true, length, IsTrue, OnOk, OnErr, slice_set};
 ghost use Rattle.walks.specs.Walk.{Among};
 ghost use Rattle.observer_graph.specs.Lists.{is_marked, IsSet, Extends};
 
@@ -64,28 +64,12 @@ impl NodeSet {
         self.marks.push_reserved(false);
     }
 
-    /// How many nodes are in the set.
-    pub fn len(&self) -> usize
-        ensures len { result ≡ length self.now.items }
-        ensures set { IsSet self.now.marks self.now.items }
-    {
-        self.items.len()
-    }
-
     /// The nodes in the order in which they came.
     pub fn items(&self) -> &[ObjId]
         ensures items { result.now ≡ self.now.items }
         ensures set { IsSet self.now.marks self.now.items }
     {
         &self.items
-    }
-
-    /// The node at a place in the order in which they came, from 0.
-    pub fn get(&self, at: usize) -> ObjId
-        requires { at < length self.now.items }
-        ensures { slice_get self.now.items at ≡ Some result }
-    {
-        self.items[at]
     }
 
     /// Whether a node is in the set.

@@ -76,10 +76,9 @@ fn tell_first(
     ensures capacity { deque_capacity noticed.old ≤ deque_capacity noticed.new }
     ensures len { length wave.new.marks ≡ length wave.old.marks }
 {
-    for at in 0..sources.len() {
-        let source = sources.get(at);
-        let mut first = edges.first_observer(source);
-        tell_observers(edges, source, &mut first, false, nodes, wave, noticed);
+    for source in sources.items() {
+        let mut first = edges.first_observer(*source);
+        tell_observers(edges, *source, &mut first, false, nodes, wave, noticed);
     }
 }
 

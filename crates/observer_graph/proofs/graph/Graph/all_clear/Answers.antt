@@ -1,4 +1,5 @@
 use Rattle.std.proofs.Common.{◌∙◌, ap, List, Option, refl, sym, subst, length}
+use Rattle.std.proofs.lemmas.Bool.{eqb-true}
 use Rattle.std.specs.Prelude.{◌↔◌, IsTrue}
 use Rattle.edge_lists.specs.EdgesView.{subject_lists}
 use Rattle.observer_graph.specs.declared.node.Node.{Node}
@@ -10,12 +11,13 @@ use Rattle.observer_graph.proofs.Turns.{free_again}
 use Rattle.observer_graph.proofs.Wholes.{live_within}
 use Rattle.observer_graph.proofs.graph.Graph.all_clear.Goals as goal
 
-pub returns-then-len-eq0-clause-answer : goal.returns-then-len-eq0-clause-answer
-returns-then-len-eq0-clause-answer c = (
+pub returns-then-is_empty-clause-answer : goal.returns-then-is_empty-clause-answer
+returns-then-is_empty-clause-answer c = (
   λ yes. subst (λ (v : GraphView). IsClear v c.args.node) c.self.view_is
       (nothing_clear c.self.inside.nodes.items (subject_lists c.self.inside.edges) c.self.inside.sources.marks
-      c.self.inside.sources.items c.args.node (sym c.self.invariant.1 ∙ c.if-self-eq0.true) c.len.ensures.set
-      (sym c.len.ensures.len ∙ c.if-len-eq0.true)),
+      c.self.inside.sources.items c.args.node (sym c.self.invariant.1 ∙ c.if-self-eq0.true) c.items.ensures.set
+      (sym (ap length c.items.ensures.items)
+      ∙ eqb-true (length c.items.result.now) 0 (sym c.is_empty.ensures ∙ c.if-is_empty.true))),
   λ clear. refl,
 )
 

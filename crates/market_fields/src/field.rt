@@ -2,9 +2,7 @@
 ghost use Rattle.std.specs.Prelude.{◌≡◌, Option, option_copied};
 ghost use Rattle.market_tables.specs.Fields.{field_in};
 ghost use Rattle.market_tables.specs.Given.{Says};
-ghost use Rattle.market_tables.specs.Values.{or_fault};
-ghost use Rattle.market_tables.specs.declared.fault.MarketKind.TheVariants.{Key};
-ghost use Rattle.market_fields.specs.Field.{object_in, named_in, target_in, day_in, weight_in, count_in, tenor_in, rule_in, convention_in, flag_in, counter_in, notional_in, rate_in, sign_in, calendar_in};
+ghost use Rattle.market_fields.specs.Field.{must, object_in, named_in, target_in, day_in, weight_in, count_in, tenor_in, rule_in, convention_in, flag_in, counter_in, notional_in, rate_in, sign_in, calendar_in};
 
 use crate::{Named, Notional, Sign, TermRate};
 use day_number::{Convention, Day, Tenor};
@@ -53,27 +51,6 @@ fn field_at(fields: &[Option<Field>], at: usize) -> Option<&Field>
     }
 }
 
-/// What must be there, or `Key`.
-pub fn must<X: Drop>(value: Option<X>) -> Result<X, TableFault>
-    ensures { Says (λ x. x) result (or_fault Key value) }
-{
-    match value {
-        Some(x) => Ok(x),
-        None => Err(NO_FIELD),
-    }
-}
-
-/// The calendar at a position, where the table has one.
-pub fn calendar_at(fields: &[Option<Field>], at: usize) -> Result<Option<&Calendar>, TableFault>
-    ensures { Says option_copied result (calendar_in (field_in fields.now at)) }
-{
-    match field_at(fields, at) {
-        Some(Field::Calendar(calendar)) => Ok(Some(calendar)),
-        Some(_) => Err(NO_FIELD),
-        None => Ok(None),
-    }
-}
-
 /// The object at a position, where the table has one.
 pub fn object_at(fields: &[Option<Field>], at: usize) -> Result<Option<ObjId>, TableFault>
     ensures { Says (λ found. found) result (object_in (field_in fields.now at)) }
@@ -96,17 +73,6 @@ pub fn named_at(fields: &[Option<Field>], at: usize) -> Result<Option<Named>, Ta
     }
 }
 
-/// The kind of target at a position, where the table has one.
-pub fn target_at(fields: &[Option<Field>], at: usize) -> Result<Option<HandleKind>, TableFault>
-    ensures { Says (λ found. found) result (target_in (field_in fields.now at)) }
-{
-    match field_at(fields, at) {
-        Some(Field::Target(target)) => Ok(Some(*target)),
-        Some(_) => Err(NO_FIELD),
-        None => Ok(None),
-    }
-}
-
 /// The day at a position, where the table has one.
 pub fn day_at(fields: &[Option<Field>], at: usize) -> Result<Option<Day>, TableFault>
     ensures { Says (λ found. found) result (day_in (field_in fields.now at)) }
@@ -118,34 +84,12 @@ pub fn day_at(fields: &[Option<Field>], at: usize) -> Result<Option<Day>, TableF
     }
 }
 
-/// The weight at a position, where the table has one.
-pub fn weight_at(fields: &[Option<Field>], at: usize) -> Result<Option<i64>, TableFault>
-    ensures { Says (λ found. found) result (weight_in (field_in fields.now at)) }
-{
-    match field_at(fields, at) {
-        Some(Field::Weight(weight)) => Ok(Some(*weight)),
-        Some(_) => Err(NO_FIELD),
-        None => Ok(None),
-    }
-}
-
 /// The number of days at a position, where the table has one.
 pub fn count_at(fields: &[Option<Field>], at: usize) -> Result<Option<u8>, TableFault>
     ensures { Says (λ found. found) result (count_in (field_in fields.now at)) }
 {
     match field_at(fields, at) {
         Some(Field::Count(count)) => Ok(Some(*count)),
-        Some(_) => Err(NO_FIELD),
-        None => Ok(None),
-    }
-}
-
-/// The tenor at a position, where the table has one.
-pub fn tenor_at(fields: &[Option<Field>], at: usize) -> Result<Option<Tenor>, TableFault>
-    ensures { Says (λ found. found) result (tenor_in (field_in fields.now at)) }
-{
-    match field_at(fields, at) {
-        Some(Field::Tenor(tenor)) => Ok(Some(*tenor)),
         Some(_) => Err(NO_FIELD),
         None => Ok(None),
     }
@@ -184,28 +128,6 @@ pub fn flag_at(fields: &[Option<Field>], at: usize) -> Result<Option<bool>, Tabl
     }
 }
 
-/// The day counter at a position, where the table has one.
-pub fn counter_at(fields: &[Option<Field>], at: usize) -> Result<Option<Counter>, TableFault>
-    ensures { Says (λ found. found) result (counter_in (field_in fields.now at)) }
-{
-    match field_at(fields, at) {
-        Some(Field::Counter(counter)) => Ok(Some(*counter)),
-        Some(_) => Err(NO_FIELD),
-        None => Ok(None),
-    }
-}
-
-/// The notional at a position, where the table has one.
-pub fn notional_at(fields: &[Option<Field>], at: usize) -> Result<Option<Notional>, TableFault>
-    ensures { Says (λ found. found) result (notional_in (field_in fields.now at)) }
-{
-    match field_at(fields, at) {
-        Some(Field::Notional(notional)) => Ok(Some(*notional)),
-        Some(_) => Err(NO_FIELD),
-        None => Ok(None),
-    }
-}
-
 /// The rate at a position, where the table has one.
 pub fn rate_at(fields: &[Option<Field>], at: usize) -> Result<Option<TermRate>, TableFault>
     ensures { Says (λ found. found) result (rate_in (field_in fields.now at)) }
@@ -217,13 +139,122 @@ pub fn rate_at(fields: &[Option<Field>], at: usize) -> Result<Option<TermRate>, 
     }
 }
 
-/// The sign at a position, where the table has one.
-pub fn sign_at(fields: &[Option<Field>], at: usize) -> Result<Option<Sign>, TableFault>
-    ensures { Says (λ found. found) result (sign_in (field_in fields.now at)) }
+/// The object at a position, or `Key`.
+pub fn needed_object(fields: &[Option<Field>], at: usize) -> Result<ObjId, TableFault>
+    ensures { Says (λ said. said) result (must (object_in (field_in fields.now at))) }
 {
     match field_at(fields, at) {
-        Some(Field::Sign(sign)) => Ok(Some(*sign)),
-        Some(_) => Err(NO_FIELD),
-        None => Ok(None),
+        Some(Field::Object(object)) => Ok(*object),
+        Some(_) | None => Err(NO_FIELD),
+    }
+}
+
+/// The kind of target at a position, or `Key`.
+pub fn needed_target(fields: &[Option<Field>], at: usize) -> Result<HandleKind, TableFault>
+    ensures { Says (λ said. said) result (must (target_in (field_in fields.now at))) }
+{
+    match field_at(fields, at) {
+        Some(Field::Target(target)) => Ok(*target),
+        Some(_) | None => Err(NO_FIELD),
+    }
+}
+
+/// The day at a position, or `Key`.
+pub fn needed_day(fields: &[Option<Field>], at: usize) -> Result<Day, TableFault>
+    ensures { Says (λ said. said) result (must (day_in (field_in fields.now at))) }
+{
+    match field_at(fields, at) {
+        Some(Field::Day(day)) => Ok(*day),
+        Some(_) | None => Err(NO_FIELD),
+    }
+}
+
+/// The weight at a position, or `Key`.
+pub fn needed_weight(fields: &[Option<Field>], at: usize) -> Result<i64, TableFault>
+    ensures { Says (λ said. said) result (must (weight_in (field_in fields.now at))) }
+{
+    match field_at(fields, at) {
+        Some(Field::Weight(weight)) => Ok(*weight),
+        Some(_) | None => Err(NO_FIELD),
+    }
+}
+
+/// The number of days at a position, or `Key`.
+pub fn needed_count(fields: &[Option<Field>], at: usize) -> Result<u8, TableFault>
+    ensures { Says (λ said. said) result (must (count_in (field_in fields.now at))) }
+{
+    match field_at(fields, at) {
+        Some(Field::Count(count)) => Ok(*count),
+        Some(_) | None => Err(NO_FIELD),
+    }
+}
+
+/// The tenor at a position, or `Key`.
+pub fn needed_tenor(fields: &[Option<Field>], at: usize) -> Result<Tenor, TableFault>
+    ensures { Says (λ said. said) result (must (tenor_in (field_in fields.now at))) }
+{
+    match field_at(fields, at) {
+        Some(Field::Tenor(tenor)) => Ok(*tenor),
+        Some(_) | None => Err(NO_FIELD),
+    }
+}
+
+/// The convention at a position, or `Key`.
+pub fn needed_convention(fields: &[Option<Field>], at: usize) -> Result<Convention, TableFault>
+    ensures { Says (λ said. said) result (must (convention_in (field_in fields.now at))) }
+{
+    match field_at(fields, at) {
+        Some(Field::Convention(convention)) => Ok(*convention),
+        Some(_) | None => Err(NO_FIELD),
+    }
+}
+
+/// The day counter at a position, or `Key`.
+pub fn needed_counter(fields: &[Option<Field>], at: usize) -> Result<Counter, TableFault>
+    ensures { Says (λ said. said) result (must (counter_in (field_in fields.now at))) }
+{
+    match field_at(fields, at) {
+        Some(Field::Counter(counter)) => Ok(*counter),
+        Some(_) | None => Err(NO_FIELD),
+    }
+}
+
+/// The notional at a position, or `Key`.
+pub fn needed_notional(fields: &[Option<Field>], at: usize) -> Result<Notional, TableFault>
+    ensures { Says (λ said. said) result (must (notional_in (field_in fields.now at))) }
+{
+    match field_at(fields, at) {
+        Some(Field::Notional(notional)) => Ok(*notional),
+        Some(_) | None => Err(NO_FIELD),
+    }
+}
+
+/// The rate at a position, or `Key`.
+pub fn needed_rate(fields: &[Option<Field>], at: usize) -> Result<TermRate, TableFault>
+    ensures { Says (λ said. said) result (must (rate_in (field_in fields.now at))) }
+{
+    match field_at(fields, at) {
+        Some(Field::Rate(rate)) => Ok(*rate),
+        Some(_) | None => Err(NO_FIELD),
+    }
+}
+
+/// The sign at a position, or `Key`.
+pub fn needed_sign(fields: &[Option<Field>], at: usize) -> Result<Sign, TableFault>
+    ensures { Says (λ said. said) result (must (sign_in (field_in fields.now at))) }
+{
+    match field_at(fields, at) {
+        Some(Field::Sign(sign)) => Ok(*sign),
+        Some(_) | None => Err(NO_FIELD),
+    }
+}
+
+/// The calendar at a position, or `Key`.
+pub fn needed_calendar(fields: &[Option<Field>], at: usize) -> Result<&Calendar, TableFault>
+    ensures { Says (λ cal. cal.now) result (must (calendar_in (field_in fields.now at))) }
+{
+    match field_at(fields, at) {
+        Some(Field::Calendar(calendar)) => Ok(calendar),
+        Some(_) | None => Err(NO_FIELD),
     }
 }

@@ -7,11 +7,11 @@ ghost use Rattle.market_fields.specs.Earlier.{seen};
 ghost use Rattle.market_fields.specs.Keys.{helper_kind_of, helper_keys_of};
 ghost use Rattle.market_fields.specs.Helpers.{helper_of, helper_made, counted, helpers_field, place_field};
 
-use crate::field::{convention_at, counter_at, flag_at, object_at, tenor_at};
+use crate::field::{flag_at, needed_convention, needed_counter, needed_object, needed_tenor};
 use crate::keys::{HelperKind, ObjectPlace};
 use crate::parts::{RowReader, parts_field};
 use crate::places::plain_field;
-use crate::{Earlier, Field, must};
+use crate::{Earlier, Field};
 use day_number::Tenor;
 use desk_terms::{Helper, HelperList};
 use market_tables::{
@@ -60,11 +60,11 @@ fn helper_of(
     requires { at ≤ 3 }
     ensures { Says (λ helper. helper) result (helper_of fields.now every at) }
 {
-    let quote = must(object_at(fields, 0)?)?;
-    let tenor = must(tenor_at(fields, 1)?)?;
-    let conv = must(convention_at(fields, at)?)?;
+    let quote = needed_object(fields, 0)?;
+    let tenor = needed_tenor(fields, 1)?;
+    let conv = needed_convention(fields, at)?;
     let eom = flag_at(fields, at + 1)?.unwrap_or(false);
-    let counter = must(counter_at(fields, at + 2)?)?;
+    let counter = needed_counter(fields, at + 2)?;
     Ok(Helper {
         quote,
         tenor,
@@ -82,7 +82,7 @@ fn helper_made(kind: HelperKind, fields: &[Option<Field>]) -> Result<Helper, Tab
     match kind {
         HelperKind::Deposit => helper_of(fields, None, 2),
         HelperKind::Swap => {
-            let every = must(tenor_at(fields, 2)?)?;
+            let every = needed_tenor(fields, 2)?;
             helper_of(fields, Some(every), 3)
         }
     }

@@ -1,7 +1,7 @@
 //! The keys of every kind of object in a market file, and what their values say over what stands earlier in the market.
 //!
 //! `Version`, `ObjectKind`, `ObjectPlace`, `KeyPresence`; `Earlier`, `Named`, `served`; `place_field`, `Field`, `Notional`,
-//! `TermRate`, `Sign`; `must`, and a reader by position for the fields of each sort.
+//! `TermRate`, `Sign`; and readers by position for the fields of each sort: `_at` where one may be missing, `needed_` where not.
 #![tactic(auto)]
 
 mod earlier;
@@ -18,12 +18,13 @@ mod words;
 
 pub use earlier::{Earlier, Named, served};
 pub use field::{
-    Field, calendar_at, convention_at, count_at, counter_at, day_at, flag_at, must, named_at,
-    notional_at, object_at, rate_at, rule_at, sign_at, target_at, tenor_at, weight_at,
+    Field, convention_at, count_at, day_at, flag_at, named_at, needed_calendar, needed_convention,
+    needed_count, needed_counter, needed_day, needed_notional, needed_object, needed_rate,
+    needed_sign, needed_target, needed_tenor, needed_weight, object_at, rate_at, rule_at,
 };
 pub use helpers::place_field;
 pub use keys::{HelperKind, ObjectKind, ObjectPlace};
 pub use limited::{Notional, Sign, TermRate};
 pub use presence::KeyPresence;
-pub use taken::{calendar_in, helpers_in, name_in, parts_in};
+pub use taken::{taken_calendar, taken_helpers, taken_name, taken_parts};
 pub use version::Version;

@@ -5,10 +5,10 @@ ghost use Rattle.market_tables.specs.Given.{Gives, Says};
 ghost use Rattle.market_fields.specs.Earlier.{seen};
 ghost use Rattle.market_fields.specs.Parts.{part_made, parts_field};
 
-use crate::field::{object_at, weight_at};
+use crate::field::{needed_object, needed_weight};
 use crate::keys::{ObjectPlace, part_keys};
 use crate::places::plain_field;
-use crate::{Earlier, Field, must};
+use crate::{Earlier, Field};
 use desk_terms::Part;
 use market_tables::{Element, Places, Presence, TableFault, each, row_of, table_in, tables_in};
 use std::alloc::Global;
@@ -56,8 +56,8 @@ struct PartElement<'a> {
 fn part_made(fields: &[Option<Field>]) -> Result<Part, TableFault>
     ensures { Says (λ part. part) result (part_made fields.now) }
 {
-    let member = must(object_at(fields, 0)?)?;
-    let weight = must(weight_at(fields, 1)?)?;
+    let member = needed_object(fields, 0)?;
+    let weight = needed_weight(fields, 1)?;
     Ok(Part { weight, member })
 }
 

@@ -9,7 +9,6 @@ use Rattle.cash_flow_legs.specs.declared.faults.LegFault.{LegFault}
 use Rattle.cash_flow_legs.specs.declared.faults.LegFault.TheVariants.{DateRange, NoMemory}
 use Rattle.market_tables.specs.declared.fault.MarketKind.TheVariants as fault
 use Rattle.market_tables.specs.Refusals.{Refuses}
-use Rattle.market_tables.specs.Values.{or_fault}
 use Rattle.market_instruments.specs.Appended.{ranged, behind, AreWithin, StayWithin}
 use Rattle.market_instruments.proofs.KnownLemmas.{IsKnown, AreKnown}
 
@@ -48,13 +47,6 @@ pub stay_known : (due : Option (List FlowTerm)) (old new : List FlowTerm) (r : R
 stay_known due old new r known appends adds None were =
     record { limits = adds were.limits; named = known_kept due old new r known appends were.named }
 stay_known due old new r known appends adds (Some object) were = record { limits = adds were.limits; named = tt }
-
--- an index that must be named is
-pub stay_named : (index : Option ℕ) (object : ℕ) (old new : List FlowTerm)
-    → or_fault fault.Key index ≡ Ok object → StayWithin (Some object) old new → StayWithin index old new
-stay_named None object old new is stay = absurd cc
-stay_named (Some other) object old new is stay =
-    let same : object ≡ other = cc in subst (λ (n : ℕ). StayWithin (Some n) old new) same stay
 
 -- no flows, with any index or none
 pub none_within : (index : Option ℕ) → AreWithin index []

@@ -15,8 +15,8 @@ use crate::schedules::{Span, dates_of, rules_of, span_of};
 use desk_names::ObjId;
 use desk_terms::{FlowTermList, Terms};
 use market_fields::{
-    Earlier, Field, Notional, Sign, TermRate, counter_at, day_at, must, notional_at, object_at,
-    rate_at, tenor_at,
+    Earlier, Field, Notional, Sign, TermRate, day_at, needed_counter, needed_notional,
+    needed_tenor, object_at, rate_at,
 };
 use market_tables::{MarketKind, TableFault};
 use schedule_rules::Schedule;
@@ -30,7 +30,7 @@ fn bond_dates(
 ) -> Result<Schedule, TableFault>
     ensures { Gives (λ days. days) result (bond_dates fields.now (span_seen span.now)) }
 {
-    let every = must(tenor_at(fields, 10)?)?;
+    let every = needed_tenor(fields, 10)?;
     let rules = rules_of(fields, 11)?;
     let first = day_at(fields, 16)?;
     let last = day_at(fields, 17)?;
@@ -51,7 +51,7 @@ fn fixed_coupons(
     ensures range { (index : Option ℕ) → StayWithin index out.old out.new }
 {
     let schedule = bond_dates(alloc, fields, span)?;
-    let counter = must(counter_at(fields, 15)?)?;
+    let counter = needed_counter(fields, 15)?;
     push_fixed(
         &schedule,
         span.cal,
@@ -78,7 +78,7 @@ fn float_coupons(
     ensures range { StayWithin (Some index) out.old out.new }
 {
     let schedule = bond_dates(alloc, fields, span)?;
-    let counter = must(counter_at(fields, 15)?)?;
+    let counter = needed_counter(fields, 15)?;
     let spread = rate_at(fields, 9)?.unwrap_or(TermRate::zero());
     let terms = earlier.index_terms(index)?;
     push_float(
@@ -139,7 +139,7 @@ pub fn bond(
     ensures terms { Gives (λ terms. terms) result (bond_of (seen earlier.entry) fields.now) }
     ensures range { IfOk result AreInRange }
 {
-    let notional = must(notional_at(fields, 1)?)?;
+    let notional = needed_notional(fields, 1)?;
     let span = match span_of(fields, 2) {
         Ok(span) => span,
         Err(fault) => return Err(fault),
@@ -147,10 +147,10 @@ pub fn bond(
     let engine = object_at(fields, 5)?;
     let lag = lag_at(fields, 6)?;
     let index = object_at(fields, 8)?;
+    // The flows are lent beside this copy, so that the index itself stays free.
+    let on = index;
     let mut flows = FlowTermList::new(alloc);
-    push_coupons(
-        alloc, earlier, fields, &span, lag, notional, index, &mut flows,
-    )?;
+    push_coupons(alloc, earlier, fields, &span, lag, notional, on, &mut flows)?;
     push_redemption(
         span.cal,
         span.end,

@@ -11,7 +11,9 @@ use crate::appended::push_settlement;
 use crate::limits::instrument_of;
 use desk_names::ObjId;
 use desk_terms::{FlowTermList, Terms};
-use market_fields::{Earlier, Field, day_at, must, notional_at, object_at, rate_at, sign_at};
+use market_fields::{
+    Earlier, Field, needed_day, needed_notional, needed_object, needed_rate, needed_sign, object_at,
+};
 use market_tables::TableFault;
 use std::alloc::Global;
 
@@ -26,10 +28,10 @@ fn push_agreed(
     ensures told { Refuses result (settlement_of (seen earlier.entry) fields.now index out.old) }
     ensures range { StayWithin (Some index) out.old out.new }
 {
-    let notional = must(notional_at(fields, 1)?)?;
-    let sign = must(sign_at(fields, 2)?)?;
-    let start = must(day_at(fields, 4)?)?;
-    let strike = must(rate_at(fields, 5)?)?;
+    let notional = needed_notional(fields, 1)?;
+    let sign = needed_sign(fields, 2)?;
+    let start = needed_day(fields, 4)?;
+    let strike = needed_rate(fields, 5)?;
     let terms = earlier.index_terms(index)?;
     push_settlement(terms, start, notional.signed(sign), strike.rate(), out)
 }
@@ -44,7 +46,7 @@ pub fn forward_agreement(
     ensures terms { Gives (λ terms. terms) result (forward_of (seen earlier.entry) fields.now) }
     ensures range { IfOk result AreInRange }
 {
-    let index = must(object_at(fields, 3)?)?;
+    let index = needed_object(fields, 3)?;
     let engine = object_at(fields, 6)?;
     let mut flows = FlowTermList::new(alloc);
     push_agreed(earlier, fields, index, &mut flows)?;

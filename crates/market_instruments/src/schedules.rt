@@ -5,7 +5,7 @@ ghost use Rattle.market_instruments.specs.Schedules.{span_seen, span_of, rules_o
 
 use day_number::{Convention, Day, Tenor};
 use holiday_calendars::Calendar;
-use market_fields::{Field, calendar_at, convention_at, day_at, flag_at, must, rule_at};
+use market_fields::{Field, convention_at, flag_at, needed_calendar, needed_day, rule_at};
 use market_tables::{MarketKind, TableFault};
 use schedule_rules::{Plan, PlanFault, Rule, Schedule, make};
 use std::alloc::Global;
@@ -32,10 +32,12 @@ pub(crate) fn span_of(fields: &[Option<Field>], at: usize) -> Result<Span<'_>, T
     requires { at ≤ 3 }
     ensures { Says span_seen result (span_of fields.now at) }
 {
-    let start = must(day_at(fields, at)?)?;
-    let end = must(day_at(fields, at + 1)?)?;
-    let cal = must(calendar_at(fields, at + 2)?)?;
-    Ok(Span { start, end, cal })
+    let start = needed_day(fields, at)?;
+    let end = needed_day(fields, at + 1)?;
+    match needed_calendar(fields, at + 2) {
+        Ok(cal) => Ok(Span { start, end, cal }),
+        Err(fault) => Err(fault),
+    }
 }
 
 // The rules at a position and behind it, each with its default.

@@ -14,9 +14,10 @@ use desk_names::ObjId;
 use desk_terms::{FlowTermList, Terms};
 use holiday_calendars::Calendar;
 use market_fields::{
-    Earlier, Field, TermRate, counter_at, must, notional_at, object_at, rate_at, sign_at, tenor_at,
+    Earlier, Field, TermRate, needed_counter, needed_notional, needed_rate, needed_sign,
+    needed_tenor, object_at, rate_at,
 };
-use market_tables::TableFault;
+use market_tables::{MarketKind, TableFault};
 use schedule_rules::Schedule;
 use std::alloc::Global;
 
@@ -32,10 +33,10 @@ fn push_fixed_side(
     ensures told { Refuses result (fixed_side fields.now cal.now lag schedule.now out.old) }
     ensures range { (index : Option ℕ) → StayWithin index out.old out.new }
 {
-    let notional = must(notional_at(fields, 1)?)?;
-    let sign = must(sign_at(fields, 2)?)?;
-    let rate = must(rate_at(fields, 12)?)?;
-    let counter = must(counter_at(fields, 14)?)?;
+    let notional = needed_notional(fields, 1)?;
+    let sign = needed_sign(fields, 2)?;
+    let rate = needed_rate(fields, 12)?;
+    let counter = needed_counter(fields, 14)?;
     let notional = notional.signed(sign);
     push_fixed(schedule, cal, lag, notional, rate.rate(), counter, out)
 }
@@ -54,11 +55,13 @@ fn push_float_side(
     ensures told { Refuses result (float_side (seen earlier.entry) fields.now cal.now lag schedule.now index out.old) }
     ensures range { StayWithin index out.old out.new }
 {
-    let notional = must(notional_at(fields, 1)?)?;
-    let sign = must(sign_at(fields, 2)?)?;
-    let index = must(index)?;
+    let notional = needed_notional(fields, 1)?;
+    let sign = needed_sign(fields, 2)?;
+    let Some(index) = index else {
+        return Err(TableFault::Kind(MarketKind::Key));
+    };
     let spread = rate_at(fields, 16)?.unwrap_or(TermRate::zero());
-    let counter = must(counter_at(fields, 18)?)?;
+    let counter = needed_counter(fields, 18)?;
     let terms = earlier.index_terms(index)?;
     let notional = notional.signed(sign.opposite());
     push_float(
@@ -91,21 +94,15 @@ pub fn swap(
     let engine = object_at(fields, 6)?;
     let lag = lag_at(fields, 7)?;
     let rules = rules_of(fields, 8)?;
-    let fixed_every = must(tenor_at(fields, 13)?)?;
+    let fixed_every = needed_tenor(fields, 13)?;
     let index = object_at(fields, 15)?;
-    let float_every = must(tenor_at(fields, 17)?)?;
+    // The flows are lent beside this copy, so that the index itself stays free.
+    let on = index;
+    let float_every = needed_tenor(fields, 17)?;
     let fixed_dates = dates_of(alloc, &span, rules, fixed_every, None, None)?;
     let float_dates = dates_of(alloc, &span, rules, float_every, None, None)?;
     let mut flows = FlowTermList::new(alloc);
     push_fixed_side(fields, span.cal, lag, &fixed_dates, &mut flows)?;
-    push_float_side(
-        earlier,
-        fields,
-        span.cal,
-        lag,
-        &float_dates,
-        index,
-        &mut flows,
-    )?;
+    push_float_side(earlier, fields, span.cal, lag, &float_dates, on, &mut flows)?;
     instrument_of(flows, index, engine)
 }

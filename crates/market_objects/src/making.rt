@@ -11,8 +11,9 @@ use desk_terms::{
 };
 use instrument_terms::{composite, stock};
 use market_fields::{
-    Earlier, Field, Named, ObjectKind, calendar_in, convention_at, count_at, counter_at, day_at,
-    flag_at, helpers_in, must, name_in, named_at, object_at, parts_in, served, target_at, tenor_at,
+    Earlier, Field, Named, ObjectKind, count_at, day_at, flag_at, named_at, needed_convention,
+    needed_count, needed_counter, needed_day, needed_object, needed_target, needed_tenor, served,
+    taken_calendar, taken_helpers, taken_name, taken_parts,
 };
 use market_instruments::{bond, forward_agreement, limit_fault, swap};
 use market_tables::{MarketKind, NameText, TableFault, take_field};
@@ -26,8 +27,8 @@ fn derived_of(minus: bool, fields: &[Option<Field>]) -> Result<Terms, TableFault
     ensures terms { Says (λ terms. terms) result (derived_of minus fields.now) }
     ensures range { IfOk result HasFlowsInRange }
 {
-    let first = must(object_at(fields, 1)?)?;
-    let second = must(object_at(fields, 2)?)?;
+    let first = needed_object(fields, 1)?;
+    let second = needed_object(fields, 2)?;
     Ok(Terms::Derived {
         minus,
         first,
@@ -69,7 +70,7 @@ fn handle_of(fields: &[Option<Field>]) -> Result<Terms, TableFault>
     ensures terms { Says (λ terms. terms) result (handle_of fields.now) }
     ensures range { IfOk result HasFlowsInRange }
 {
-    let target_kind = must(target_at(fields, 1)?)?;
+    let target_kind = needed_target(fields, 1)?;
     linked(target_kind, named_at(fields, 2)?)
 }
 
@@ -93,8 +94,8 @@ fn curve_of(fields: &mut Vec<Option<Field>>) -> Result<Terms, TableFault>
     let settlement = count_at(fields, 2)?;
     let reference = day_at(fields, 3)?;
     let start = start_of(settlement, reference)?;
-    let cal = must(calendar_in(take_field(fields, 1))?)?;
-    let helpers = must(helpers_in(take_field(fields, 4))?)?;
+    let cal = taken_calendar(take_field(fields, 1))?;
+    let helpers = taken_helpers(take_field(fields, 4))?;
     Ok(Terms::Curve(CurveTerms {
         cal,
         start,
@@ -106,8 +107,8 @@ fn implied_of(fields: &[Option<Field>]) -> Result<Terms, TableFault>
     ensures terms { Says (λ terms. terms) result (implied_of fields.now) }
     ensures range { IfOk result HasFlowsInRange }
 {
-    let curve = must(object_at(fields, 1)?)?;
-    let reference = must(day_at(fields, 2)?)?;
+    let curve = needed_object(fields, 1)?;
+    let reference = needed_day(fields, 2)?;
     Ok(Terms::Implied { curve, reference })
 }
 
@@ -116,13 +117,13 @@ fn index_of(alloc: Global, fields: &mut Vec<Option<Field>>) -> Result<Terms, Tab
     ensures terms { Says (λ terms. terms) result (index_of fields.old.items) }
     ensures range { IfOk result HasFlowsInRange }
 {
-    let fixing_days = must(count_at(fields, 2)?)?;
-    let tenor = must(tenor_at(fields, 3)?)?;
-    let conv = must(convention_at(fields, 4)?)?;
+    let fixing_days = needed_count(fields, 2)?;
+    let tenor = needed_tenor(fields, 3)?;
+    let conv = needed_convention(fields, 4)?;
     let eom = flag_at(fields, 5)?.unwrap_or(false);
-    let counter = must(counter_at(fields, 6)?)?;
-    let curve = must(object_at(fields, 7)?)?;
-    let cal = must(calendar_in(take_field(fields, 1))?)?;
+    let counter = needed_counter(fields, 6)?;
+    let curve = needed_object(fields, 7)?;
+    let cal = taken_calendar(take_field(fields, 1))?;
     let terms = IndexTerms {
         cal,
         fixing_days,
@@ -139,7 +140,7 @@ fn engine_of(fields: &[Option<Field>]) -> Result<Terms, TableFault>
     ensures terms { Says (λ terms. terms) result (engine_of fields.now) }
     ensures range { IfOk result HasFlowsInRange }
 {
-    let curve = must(object_at(fields, 1)?)?;
+    let curve = needed_object(fields, 1)?;
     Ok(Terms::Engine { curve })
 }
 
@@ -147,7 +148,7 @@ fn stock_of(fields: &[Option<Field>]) -> Result<Terms, TableFault>
     ensures terms { Says (λ terms. terms) result (stock_of fields.now) }
     ensures range { IfOk result HasFlowsInRange }
 {
-    let quote = must(object_at(fields, 1)?)?;
+    let quote = needed_object(fields, 1)?;
     Ok(stock(quote))
 }
 
@@ -170,7 +171,7 @@ fn parts_of(alloc: Global, field: Option<Field>) -> Result<Terms, TableFault>
     ensures terms { Says (λ terms. terms) result (parts_of field) }
     ensures range { IfOk result HasFlowsInRange }
 {
-    match parts_in(field)? {
+    match taken_parts(field)? {
         Some(parts) => composite_of(parts),
         None => composite_of(PartList::new(alloc)),
     }
@@ -213,7 +214,7 @@ pub(crate) fn entry_made(
     ensures range { IfOk result (λ entry. HasFlowsInRange entry.1) }
 {
     let mut fields = fields;
-    let name = must(name_in(take_field(&mut fields, 0))?)?;
+    let name = taken_name(take_field(&mut fields, 0))?;
     let terms = terms_of(alloc, earlier, kind, &mut fields)?;
     Ok((name, terms))
 }

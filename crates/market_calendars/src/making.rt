@@ -1,6 +1,7 @@
 // What the fields of a calendar's table make.
 ghost use Rattle.std.specs.Prelude.{◌≡◌, Option, false};
 ghost use Rattle.std.specs.List.{list_all};
+ghost use Rattle.market_tables.specs.Fields.{field_in};
 ghost use Rattle.market_tables.specs.Given.{Gives, Says};
 ghost use Rattle.market_calendars.specs.Making.{name_in, weekend_in, days_in, rule_in, parts_in, bespoke_of, joint_of, calendar_of, entry_made};
 
@@ -60,15 +61,12 @@ fn parts_in(field: Option<Field>) -> Result<PartNames, TableFault>
     }
 }
 
-fn bespoke_of(
-    alloc: Global,
-    weekend: Option<Field>,
-    holidays: Option<Field>,
-) -> Result<NamedCalendar, TableFault>
-    ensures { Gives (λ calendar. calendar) result (bespoke_of weekend holidays) }
+#[tactic(auto, using(market_tables::proofs::FieldPlaces::other))]
+fn bespoke_of(alloc: Global, fields: &mut Vec<Option<Field>>) -> Result<NamedCalendar, TableFault>
+    ensures { Gives (λ calendar. calendar) result (bespoke_of (field_in fields.old.items 1) (field_in fields.old.items 2)) }
 {
-    let weekend = weekend_in(weekend)?;
-    let days = days_in(holidays)?;
+    let weekend = weekend_in(take_field(fields, 1))?;
+    let days = days_in(take_field(fields, 2))?;
     match bespoke(alloc, weekend.flags(), days) {
         Ok(base) => Ok(NamedCalendar::One(base)),
         Err(BespokeFault::AllWeekend) => unreachable!(),
@@ -76,29 +74,29 @@ fn bespoke_of(
     }
 }
 
-fn joint_of(rule: Option<Field>, parts: Option<Field>) -> Result<NamedCalendar, TableFault>
-    ensures { Says (λ calendar. calendar) result (joint_of rule parts) }
+#[tactic(auto, using(market_tables::proofs::FieldPlaces::other))]
+fn joint_of(fields: &mut Vec<Option<Field>>) -> Result<NamedCalendar, TableFault>
+    ensures { Says (λ calendar. calendar) result (joint_of (field_in fields.old.items 1) (field_in fields.old.items 2)) }
 {
-    let rule = rule_in(rule)?;
-    let parts = parts_in(parts)?;
+    let rule = rule_in(take_field(fields, 1))?;
+    let parts = parts_in(take_field(fields, 2))?;
     Ok(NamedCalendar::Joint { rule, parts })
 }
 
-// The calendar of a kind, of the fields behind its name.
+// The calendar of a kind, of the fields behind its name; it takes them out.
 fn calendar_of(
     alloc: Global,
     kind: CalendarKind,
-    first: Option<Field>,
-    second: Option<Field>,
+    fields: &mut Vec<Option<Field>>,
 ) -> Result<NamedCalendar, TableFault>
-    ensures { Gives (λ calendar. calendar) result (calendar_of kind first second) }
+    ensures { Gives (λ calendar. calendar) result (calendar_of kind (field_in fields.old.items 1) (field_in fields.old.items 2)) }
 {
     match kind {
         CalendarKind::Null => Ok(NamedCalendar::One(Base::Null)),
         CalendarKind::Weekends => Ok(NamedCalendar::One(Base::Weekends)),
         CalendarKind::Target => Ok(NamedCalendar::One(Base::Target)),
-        CalendarKind::Bespoke => bespoke_of(alloc, first, second),
-        CalendarKind::Joint => joint_of(first, second),
+        CalendarKind::Bespoke => bespoke_of(alloc, fields),
+        CalendarKind::Joint => joint_of(fields),
     }
 }
 
@@ -113,7 +111,5 @@ pub(crate) fn entry_made(
 {
     let mut fields = fields;
     let name = name_in(take_field(&mut fields, 0))?;
-    let first = take_field(&mut fields, 1);
-    let second = take_field(&mut fields, 2);
-    Ok((name, calendar_of(alloc, kind, first, second)?))
+    Ok((name, calendar_of(alloc, kind, &mut fields)?))
 }

@@ -17,6 +17,7 @@ use session_commands::{ActionId, Command};
 use session_core::Session;
 use std::alloc::{AllocError, Global};
 use std::marker::Model;
+use std::ops::Deref;
 use watch_rounds::{Picker, Rounds};
 
 /// A session whose watchers run their actions, and what picks who of the due runs next.
@@ -76,14 +77,18 @@ impl<P: Picker + Drop> WatchedSession<P> {
     }
 }
 
-impl<P: Picker> WatchedSession<P> {
-    /// Whether an earlier step found no memory. A stopped session takes no further command.
-    pub fn is_stopped(&self) -> bool
-        ensures { result ≡ self.now.standing.stopped }
-    {
-        self.session.is_stopped()
-    }
+// What is read of its session is read of it.
+impl<P> Deref for WatchedSession<P> {
+    type Target = Session;
 
+    fn deref(&self) -> &Session
+        ensures { result.now ≡ self.now.standing }
+    {
+        &self.session
+    }
+}
+
+impl<P: Picker> WatchedSession<P> {
     /// The session, with its objects and their names.
     pub fn session(&self) -> &Session
         ensures { result.now ≡ self.now.standing }

@@ -1,6 +1,6 @@
 -- The commands of a session's actions are known.
-use Rattle.std.proofs.Common.{◌≡◌, ℕ, zero, suc, List, [], ◌∷◌, Option, Some, None, subst, sym}
-use Rattle.std.specs.Prelude.{slice_get, slice_index_or, IfSome, All}
+use Rattle.std.proofs.Common.{◌≡◌, ◌∙◌, ℕ, zero, suc, List, [], ◌∷◌, Option, Some, ap, subst, sym}
+use Rattle.std.specs.Prelude.{slice_get, slice_index_or, All}
 use Rattle.std.proofs.lemmas.List.Elements.{All-head, All-tail, All-get_or}
 use Rattle.std.proofs.lemmas.Option.{slice_get_within, get_or_from_slice_get}
 use Rattle.session_commands.specs.declared.command.Command.{Command}
@@ -22,10 +22,16 @@ read Q (commands ∷ actions) zero i command all is =
 read Q (commands ∷ actions) (suc a) i command all is =
     read Q actions a i command (All-tail (λ commands. All Q commands) commands actions all) is
 
-pub known_if : (p : Standing) (action at : ℕ) (result : Option Command) → AreKnown p
-    → result ≡ slice_get (slice_index_or p.actions action []) at → IfSome result (IsKnown p)
-known_if p action at None known is = tt
-known_if p action at (Some command) known is = read (IsKnown p) p.actions action at command known (sym is)
+-- the command at a place of an action
+pub known_at : (p : Standing) (action at : ℕ) (command : Command) → AreKnown p
+    → slice_get (slice_index_or p.actions action []) at ≡ Some command → IsKnown p command
+known_at p action at command known is = read (IsKnown p) p.actions action at command known is
+
+-- it is that of the actions of before, which are the same
+pub at_first : (actions first : List (List Command)) (action at : ℕ) (found : Option Command) → actions ≡ first
+    → found ≡ slice_get (slice_index_or actions action []) at → slice_get (slice_index_or first action []) at ≡ found
+at_first actions first action at found same is =
+    ap (λ (l : List (List Command)). slice_get (slice_index_or l action []) at) (sym same) ∙ sym is
 
 -- names and actions are the same
 pub known_same : (p q : Standing) → q.names ≡ p.names → q.actions ≡ p.actions → AreKnown p → AreKnown q

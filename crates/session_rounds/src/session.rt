@@ -1,5 +1,5 @@
 // A session with watchers, and its rounds.
-ghost use Rattle.std.specs.Prelude.{◌≡◌, ◌≤◌, true, false, length, is_err, is_ok, IfOk, OnOk, OnErr, ◌<◌, ◌+◌, ◌^◌, ◌==◌, if◌then◌else◌, ℕ, [], Some, None, OnSome, IfSome, IfNone, slice_get, slice_index_or};
+ghost use Rattle.std.specs.Prelude.{◌≡◌, ◌≤◌, true, false, length, is_err, is_ok, IfOk, OnOk, OnErr, ◌+◌, ◌==◌, if◌then◌else◌, ℕ, [], Some, None, OnSome, IfSome, IfNone, slice_index_or};
 ghost use Rattle.desk_terms.specs.Reading.{Calc};
 ghost use Rattle.desk_model.specs.Sound.{IsSound};
 ghost use Rattle.session_model.specs.Standing.{IsKnown, name_of};
@@ -290,20 +290,11 @@ impl<P: Picker> WatchedSession<P> {
         ensures running { OnOk result (self.new.standing.stopped ≡ false) }
     {
         let mut at: usize = 0;
-        while let Some(command) = self.command_at(action, at) {
+        while let Some(command) = self.session.command_at(action, at) {
             self.command(&command, bench, lines)?;
             at += 1;
         }
         Ok(())
-    }
-
-    // The command at a place of an action, if there is one.
-    fn command_at(&self, action: ActionId, at: usize) -> Option<Command>
-        ensures at { result ≡ slice_get (slice_index_or self.now.standing.actions action []) at }
-        ensures low { IfSome result (λ _. at + 1 < 2 ^ 64) }
-        ensures known { IfSome result (λ command. IsKnown self.now.standing command) }
-    {
-        self.session.command_at(action, at)
     }
 }
 

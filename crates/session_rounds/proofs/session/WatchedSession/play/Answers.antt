@@ -1,13 +1,14 @@
-use Rattle.std.proofs.Common.{◌∙◌, List, [], ◌∷◌, refl, sym, ap, subst, arith}
-use Rattle.std.specs.Prelude.{slice_get, slice_index_or}
+use Rattle.std.proofs.Common.{◌∙◌, [], ◌∷◌, refl, sym, ap, subst, arith}
+use Rattle.std.specs.Prelude.{slice_index_or}
 use Rattle.std.proofs.lemmas.Result.{err_from_is_err_and}
 use Rattle.std.proofs.lemmas.Option.{slice_get_within}
 use Rattle.desk_terms.specs.Reading.{Calc}
-use Rattle.session_commands.specs.declared.command.Command.{Command}
-use Rattle.session_model.specs.Course.{Meaning, course_of, course_of_all}
+use Rattle.session_model.specs.Standing.{IsKnown}
+use Rattle.session_model.specs.Course.{Running, Meaning, course_of, course_of_all}
 use Rattle.session_model.specs.Moments.{moment_of, moments_of_all}
 use Rattle.session_rounds.specs.Goes.{Does, Halts, Stays}
 use Rattle.session_rounds.specs.Stopped.{HaltsIn}
+use Rattle.session_rounds.proofs.Known.{known_at, at_first}
 use Rattle.session_rounds.proofs.Going.{goes_start, stays_on}
 use Rattle.session_rounds.proofs.Plays.{plays_on, plays_halt, plays_end}
 use Rattle.session_rounds.proofs.Stopping.{leads_on, leads_halt}
@@ -22,17 +23,25 @@ loop-command-init g c = record {
   leads = λ out_new halts. halts;
 }
 
+pub command-requires-clause-known : goal.command-requires-clause-known
+command-requires-clause-known g c =
+    subst (λ (r : Running g.row.P.Denot). IsKnown r.standing c.in-Some.command) c.self.view_is
+    (known_at c.self.inside.session c.args.action c.loop-command.at c.in-Some.command c.self.invariant.0.known
+    (sym c.command_at.ensures.at ∙ c.in-Some.is))
+
 pub loop-command-smaller : goal.loop-command-smaller
 loop-command-smaller g c =
-    let is = ap (λ (l : List (List Command)). slice_get (slice_index_or l c.args.action []) c.loop-command.at) (sym c.loop-command.invariant.stays.actions)
-    ∙ sym c.command_at.ensures.at ∙ c.in-Some.is in
+    let is = at_first _ _ c.args.action c.loop-command.at c.command_at.result
+    (ap (λ (r : Running g.row.P.Denot). r.standing.actions) c.self.view_is ∙ c.loop-command.invariant.stays.actions)
+    c.command_at.ensures.at ∙ c.in-Some.is in
     let low = slice_get_within (slice_index_or c.args.self.now.standing.actions c.args.action []) c.loop-command.at c.in-Some.command is in omega arith
 
 pub loop-command-preserved : goal.loop-command-preserved
 loop-command-preserved g c =
     let m : Meaning g.row.P.Denot = record { calc = g.B.Bench.calc c.args.bench.now; at = g.P.Picker.at; after = g.P.Picker.after } in
-    let is = ap (λ (l : List (List Command)). slice_get (slice_index_or l c.args.action []) c.loop-command.at) (sym c.loop-command.invariant.stays.actions)
-    ∙ sym c.command_at.ensures.at ∙ c.in-Some.is in
+    let is = at_first _ _ c.args.action c.loop-command.at c.command_at.result
+    (ap (λ (r : Running g.row.P.Denot). r.standing.actions) c.self.view_is ∙ c.loop-command.invariant.stays.actions)
+    c.command_at.ensures.at ∙ c.in-Some.is in
     let does = subst (λ (k : Calc). Does g.row.P.Denot (course_of (record m { calc = k }) c.loop-command.self c.in-Some.command) c.command.new.self
     (record { lines = c.loop-command.lines.items; count = g.B.Bench.count c.loop-command.bench; log = g.B.Bench.log c.loop-command.bench })
     (record { lines = c.command.new.lines.items; count = g.B.Bench.count c.command.new.bench; log = g.B.Bench.log c.command.new.bench }))
@@ -53,8 +62,9 @@ pub returns-in_err-command-clause-err : goal.returns-in_err-command-clause-err
 returns-in_err-command-clause-err g c =
     let m : Meaning g.row.P.Denot = record { calc = g.B.Bench.calc c.args.bench.now; at = g.P.Picker.at; after = g.P.Picker.after } in
     let e = err_from_is_err_and c.from_residual.result c.from_residual.ensures.1 in
-    let is = ap (λ (l : List (List Command)). slice_get (slice_index_or l c.args.action []) c.loop-command.at) (sym c.loop-command.invariant.stays.actions)
-    ∙ sym c.command_at.ensures.at ∙ c.in-Some.is in
+    let is = at_first _ _ c.args.action c.loop-command.at c.command_at.result
+    (ap (λ (r : Running g.row.P.Denot). r.standing.actions) c.self.view_is ∙ c.loop-command.invariant.stays.actions)
+    c.command_at.ensures.at ∙ c.in-Some.is in
     rw e.1 (plays_halt m (slice_index_or c.args.self.now.standing.actions c.args.action []) c.loop-command.at
     (course_of_all m (slice_index_or c.args.self.now.standing.actions c.args.action []) c.args.self.now) c.in-Some.command c.loop-command.self
     _ _ _ c.loop-command.invariant.goes is
@@ -66,8 +76,9 @@ returns-in_err-command-clause-err g c =
 pub returns-clause-ok : goal.returns-clause-ok
 returns-clause-ok g c =
     let m : Meaning g.row.P.Denot = record { calc = g.B.Bench.calc c.args.bench.now; at = g.P.Picker.at; after = g.P.Picker.after } in
-    let is = ap (λ (l : List (List Command)). slice_get (slice_index_or l c.args.action []) c.loop-command.at) (sym c.loop-command.invariant.stays.actions)
-    ∙ sym c.command_at.ensures.at ∙ c.in_default.is in
+    let is = at_first _ _ c.args.action c.loop-command.at c.command_at.result
+    (ap (λ (r : Running g.row.P.Denot). r.standing.actions) c.self.view_is ∙ c.loop-command.invariant.stays.actions)
+    c.command_at.ensures.at ∙ c.in_default.is in
     plays_end m (slice_index_or c.args.self.now.standing.actions c.args.action []) c.loop-command.at
     (course_of_all m (slice_index_or c.args.self.now.standing.actions c.args.action []) c.args.self.now) c.loop-command.self
     _ _ c.loop-command.invariant.goes is
@@ -76,8 +87,9 @@ pub returns-in_err-command-clause-so_far : goal.returns-in_err-command-clause-so
 returns-in_err-command-clause-so_far g c =
     let m : Meaning g.row.P.Denot = record { calc = g.B.Bench.calc c.args.bench.now; at = g.P.Picker.at; after = g.P.Picker.after } in
     let e = err_from_is_err_and c.from_residual.result c.from_residual.ensures.1 in
-    let is = ap (λ (l : List (List Command)). slice_get (slice_index_or l c.args.action []) c.loop-command.at) (sym c.loop-command.invariant.stays.actions)
-    ∙ sym c.command_at.ensures.at ∙ c.in-Some.is in
+    let is = at_first _ _ c.args.action c.loop-command.at c.command_at.result
+    (ap (λ (r : Running g.row.P.Denot). r.standing.actions) c.self.view_is ∙ c.loop-command.invariant.stays.actions)
+    c.command_at.ensures.at ∙ c.in-Some.is in
     rw e.1 (leads_halt m (slice_index_or c.args.self.now.standing.actions c.args.action []) c.loop-command.at
     (moments_of_all m (slice_index_or c.args.self.now.standing.actions c.args.action []) c.args.self.now) c.in-Some.command c.loop-command.self
     _ _ _ c.loop-command.invariant.leads is

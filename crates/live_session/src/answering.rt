@@ -52,7 +52,7 @@ pub(crate) fn answer<'a, P: Picker, B: Bench>(
         reader.new.names reader.new.begun }
     ensures sound { IsSound (B.calc bench.old) session.new.standing.state }
 {
-    let inside = blocks.is_open();
+    let inside = blocks.block.is_some();
     let names = session.session().names();
     match read(
         alloc,

@@ -1,5 +1,5 @@
 // The actions that were begun.
-ghost use Rattle.std.specs.Prelude.{◌≡◌, ◌+◌, ℕ, [], length, is_some, Some, IfOk, OnOk, OnErr};
+ghost use Rattle.std.specs.Prelude.{◌≡◌, ◌+◌, ℕ, [], length, Some, IfOk, OnOk, OnErr};
 ghost use Rattle.script_words.specs.Given.{Grows};
 ghost use Rattle.live_model.specs.Live.{block_ended};
 ghost use Rattle.live_session.specs.Standing.{BlockFits};
@@ -36,13 +36,6 @@ pub(crate) struct Blocks {
 }
 
 impl Blocks {
-    // Whether a block stands open.
-    pub(crate) fn is_open(&self) -> bool
-        ensures { result ≡ is_some self.now.block }
-    {
-        self.block.is_some()
-    }
-
     // A block begins at this line: the last of these names is its action's.
     pub(crate) fn begin(
         &mut self,

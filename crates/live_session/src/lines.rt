@@ -26,7 +26,7 @@ use watch_rounds::Picker;
 #[derive(Drop)]
 pub struct Lines {
     blocks: Blocks,
-    line: u64,
+    pub(crate) line: u64,
     reader: Reader,
     alloc: Global,
 }
@@ -83,7 +83,7 @@ impl Lines {
     {
         let _ = session.is_stopped();
         let begun = self.blocks.begun.len() as usize;
-        if self.blocks.is_open() {
+        if self.blocks.block.is_some() {
             begun - 1
         } else {
             begun

@@ -2,7 +2,6 @@
 ghost use Rattle.std.specs.Prelude.{◌≡◌, [], IfOk, OnOk, OnErr};
 ghost use Rattle.desk_names.specs.Names.{IsNames};
 ghost use Rattle.script_words.specs.Given.{Gives};
-ghost use Rattle.session_lang.specs.Reading.{lacks};
 ghost use Rattle.live_model.specs.Live.{meaning};
 ghost use Rattle.live_session.specs.Standing.{IsCopy, IsRead};
 
@@ -63,18 +62,11 @@ pub(crate) fn read<'a>(
     }
     copy_of(alloc, copy, names)?;
     copy_of(alloc, copy_begun, begun)?;
-    let statement = read_line(line, words, copy, copy_begun, met, inside)?;
-    if is_lacking(copy, copy_begun, &statement) {
+    let statement = &read_line(line, words, copy, copy_begun, met, inside)?;
+    if lacks(copy, copy_begun, *statement) {
         return Err(LineFault::Kind(ScriptKind::NoAction));
     }
-    Ok(statement)
-}
-
-// Whether a statement names an action that was not begun.
-fn is_lacking(names: &Names, begun: &Names, statement: &Statement) -> bool
-    ensures { result ≡ lacks (record { names = names.now; begun = begun.now }) statement.now }
-{
-    lacks(names, begun, *statement)
+    Ok(*statement)
 }
 
 // Makes a copy of names theirs, where it is not: it is, where it is as long.

@@ -11,10 +11,10 @@ use crate::{Lines, SayFault};
 use desk_names::Names;
 use desk_terms::Bench;
 use session_commands::Command;
-use session_core::Session;
 use session_rounds::WatchedSession;
 use std::alloc::{AllocError, Global};
 use std::marker::Model;
+use std::ops::Deref;
 use watch_rounds::Picker;
 
 /// A session that is spoken to line by line: what runs, the names of its actions in order, the block that stands open, and
@@ -58,26 +58,23 @@ impl<P: Picker + Drop> LineSession<P> {
     }
 }
 
+// What is read of the session that runs is read of it.
+impl<P> Deref for LineSession<P> {
+    type Target = WatchedSession<P>;
+
+    fn deref(&self) -> &WatchedSession<P>
+        ensures { result.now ≡ self.now.running }
+    {
+        &self.session
+    }
+}
+
 impl<P: Picker> LineSession<P> {
-    /// Whether an earlier line found no memory in its round. A stopped session takes no further line.
-    pub fn is_stopped(&self) -> bool
-        ensures { result ≡ self.now.running.standing.stopped }
-    {
-        self.session.is_stopped()
-    }
-
-    /// The session, with its objects and their names.
-    pub fn session(&self) -> &Session
-        ensures { result.now ≡ self.now.running.standing }
-    {
-        self.session.session()
-    }
-
     /// How many lines were said.
     pub fn line(&self) -> u64
         ensures { result ≡ self.now.line }
     {
-        self.lines.count()
+        self.lines.line
     }
 
     /// The line at which the block began that stands open, if one does, counted from 1.

@@ -9,6 +9,6 @@ returns-clause-read c =
     let next : Known = record { names = c.read_line.new.names; begun = c.read_line.new.begun } in
     let same : (let k : Known = record { names = c.copy_of.new.copy; begun = c.copy_of-2.new.copy } in k) ≡ known =
     (λ i. record { names = c.in_ok-copy_of.ensures.ok i; begun = c.in_ok-copy_of-2.ensures.ok i }) in
-    is_read c.args.inside known next c.args.line.now c.in_ok-statement.statement c.copy_of.ensures.named c.copy_of-2.ensures.named
+    is_read c.args.inside known next c.args.line.now c.in_ok-statement.field-0 c.copy_of.ensures.named c.copy_of-2.ensures.named
     (ap (λ (k : Known). line_meaning k c.args.inside c.args.line.now) (sym same) ∙ c.in_ok-statement.ensures.gives)
-    (sym c.is_lacking.ensures ∙ c.if-is_lacking.false)
+    (sym c.lacks.ensures ∙ c.if-lacks.false)

@@ -15,7 +15,6 @@ use Rattle.grid_shape.specs.declared.shape.Blocks.{Blocks}
 use Rattle.tool_run.specs.Run.{IsThere}
 use Rattle.tool_run.specs.Words.{Pair, pair_of}
 use Rattle.tool_run.proofs.Asking.{told_there}
-use Rattle.script_steps.specs.declared.status.BlocksStatus.{BlocksStatus}
 use Rattle.script_steps.specs.declared.status.BlocksStatus.TheVariants.{Of}
 use Rattle.script_steps.specs.Verdict.{in_shape, wanted_of, verdict_of}
 

@@ -73,7 +73,7 @@ fn ask_next<B: Bench>(
     ensures stays { Stays (B.calc bench.old) session.old.standing session.new.standing }
     ensures running { OnOk result (session.new.standing.stopped ≡ false) }
 {
-    session.session().shape();
+    session.shape();
     session.step(ask, bench, lines)?;
     let money = money_asked(session.session(), asked_name(ask));
     values.push(money)

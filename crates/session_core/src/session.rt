@@ -3,10 +3,9 @@ ghost use Rattle.std.specs.Prelude.{◌≡◌, ◌<◌, ◌≤◌, ◌+◌, ◌^
 ghost use Rattle.desk_names.specs.Names.{has_text};
 ghost use Rattle.desk_terms.specs.Reading.{Calc};
 ghost use Rattle.desk_model.specs.Uses.{input_at};
-ghost use Rattle.desk_model.specs.Links.{IsWhole, is_lazy_at};
+ghost use Rattle.desk_model.specs.Links.{is_lazy_at};
 ghost use Rattle.desk_model.specs.Sound.{IsSound};
 ghost use Rattle.desk_model.specs.State.{least_source};
-ghost use Rattle.desk_model.specs.Told.{is_watching};
 ghost use Rattle.session_model.specs.Standing.{start_of, name_of};
 ghost use Rattle.session_core.specs.Watchers.{AreWatchers};
 
@@ -18,6 +17,7 @@ use price_report::Namer;
 use session_commands::{ActionId, Actions, Command, CommandList};
 use std::alloc::{AllocError, Global};
 use std::marker::Model;
+use std::ops::Deref;
 
 /// A session: its objects with their names, the values that are stored, and the actions of its script.
 pub struct Session {
@@ -74,6 +74,17 @@ impl Model for Session {
       watching = s.watching.items;
       stopped = s.stopped;
     }) s.of_name.items s.live };
+}
+
+// What is read of its objects is read of it.
+impl Deref for Session {
+    type Target = Desk;
+
+    fn deref(&self) -> &Desk
+        ensures { result.now ≡ self.now.state }
+    {
+        &self.desk
+    }
 }
 
 impl Session {
@@ -154,25 +165,11 @@ impl Session {
         }
     }
 
-    /// Whether an object is a watcher that is registered with any object.
-    pub fn is_watching(&self, object: ObjId) -> bool
-        ensures { result ≡ is_watching self.now.state object }
-    {
-        self.desk.is_watching(object)
-    }
-
     /// Does nothing: what is known of the watchers of every session, each of which has a name that no other live one has.
     pub fn watchers(&self)
         ensures { AreWatchers self.now }
     {
         let _ = &self.of_name;
-    }
-
-    /// Does nothing: what is known of the shape of the objects of every session.
-    pub fn shape(&self)
-        ensures { IsWhole self.now.state }
-    {
-        self.desk.shape();
     }
 
     /// Its objects, by number.

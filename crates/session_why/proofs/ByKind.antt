@@ -12,7 +12,6 @@ use Rattle.desk_terms.specs.declared.terms.HandleKind as handle
 use Rattle.desk_terms.specs.declared.kind.Kind.{Kind}
 use Rattle.desk_terms.specs.declared.kind.Kind.TheVariants as kind
 use Rattle.desk_terms.specs.declared.value.Value.{Value}
-use Rattle.desk_terms.specs.declared.value.Value.TheVariants as value
 use Rattle.desk_terms.specs.declared.value.Input as input
 use Rattle.desk_terms.specs.Kind.{role}
 use Rattle.desk_terms.specs.Terms.{kind_of}

@@ -121,7 +121,7 @@ fn push_listed<P: Picker, B: Bench>(
     ensures sound { IsSound (B.calc bench.old) session.new.standing.state }
     ensures same { B.calc bench.new ≡ B.calc bench.old }
 {
-    session.session().shape();
+    session.shape();
     list_all(alloc, session, object, list)?;
     push_asked(alloc, session, name, object, bench, out)?;
     push_each(alloc, session, list.as_slice(), bench, out)

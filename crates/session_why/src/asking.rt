@@ -29,8 +29,8 @@ pub(crate) fn ask<P: Picker, B: Bench>(
     ensures before { IsWhole session.old.standing.state }
     ensures after { IsWhole session.new.standing.state }
 {
-    session.session().shape();
+    session.shape();
     let asked = session.ask(object, bench);
-    session.session().shape();
+    session.shape();
     asked
 }

@@ -40,7 +40,7 @@ pub(crate) fn curves_of<P: Picker>(
     ensures curves { IfOk result (λ curves. curves ≡ curves_in (uses session.old.standing.state.market object)) }
     ensures same { session.new ≡ session.old }
 {
-    session.session().desk().shape();
+    session.shape();
     let naming = naming_of(session.session().desk(), object);
     let Some(engine) = naming.engine else {
         return Ok(None);

@@ -54,7 +54,7 @@ fn push_over(
     ensures { OnOk result (out.new.items ≡ out.old.items ++ workings_in session.now object
         (terms_at session.now.state.market object) (kept_at session.now.state object).last) }
 {
-    session.desk().shape();
+    session.shape();
     match over(session.desk(), object, curves) {
         None => Ok(()),
         Some(over) => push_products(alloc, session, &over, out),

@@ -26,7 +26,7 @@ pub(crate) fn list_all<P: Picker>(
     ensures list { OnOk result (list.new.keys ≡ listing session.old.standing.state object) }
     ensures same { session.new ≡ session.old }
 {
-    session.session().shape();
+    session.shape();
     let mut waiting: Vec<ObjId> = Vec::new(alloc);
     waiting.push(object)?;
     while let Some(next) = waiting.pop() {
@@ -63,7 +63,7 @@ fn shows_last<P: Picker>(session: &mut WatchedSession<P>, object: ObjId) -> bool
     if !is_priced(session.session().desk(), object) {
         return false;
     }
-    session.session().shape();
+    session.shape();
     session.session().desk().is_frozen(object) || session.late(object).is_some()
 }
 

@@ -40,7 +40,7 @@ pub(crate) fn push_object<P: Picker, B: Bench>(
     ensures same { B.calc bench.new ≡ B.calc bench.old }
     ensures whole { IsWhole session.old.standing.state }
 {
-    session.session().shape();
+    session.shape();
     if is_priced(session.session().desk(), object) {
         push_priced(alloc, session, object, bench, out)
     } else {

@@ -71,7 +71,7 @@ fn push_parts(
     ensures { OnOk result (out.new.items ≡ out.old.items ++ workings_in session.now object
         (terms_at session.now.state.market object) (kept_at session.now.state object).last) }
 {
-    session.desk().shape();
+    session.shape();
     let Some(Terms::Composite(parts)) = session.desk().terms(object) else {
         return Ok(());
     };
@@ -143,7 +143,7 @@ fn push_built<P: Picker>(
         (terms_at session.old.standing.state.market object) (kept_at session.old.standing.state object).last) }
     ensures same { session.new ≡ session.old }
 {
-    session.session().desk().shape();
+    session.shape();
     let quotes = quotes_of(alloc, session.session().desk(), object)?;
     let rates = rates_of(alloc, session, quotes.as_slice())?;
     let nodes = nodes_of(session.session().desk(), object);

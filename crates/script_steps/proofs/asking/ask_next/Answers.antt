@@ -25,10 +25,10 @@ returns-clause-values g c =
     let calc = g.B.Bench.calc c.args.bench.now in
     let round = round_of (ordered calc) c.args.session.now c.args.ask.now in
     let whole : IsWhole c.args.session.now.standing.state =
-    subst (λ (p : Standing). IsWhole p.state) c.session.ensures c.shape.ensures in
+    subst IsWhole (c.deref-2.ensures ∙ ap (λ (p : Standing). p.state) c.deref.ensures) c.shape.ensures.whole in
     let money = c.money_asked-money.ensures
     ∙ ap (λ (p : Standing). money_asked p c.asked_name.result)
-    (c.session-2.ensures ∙ ap (λ (r : Running Order). r.standing) c.in_ok-step.ensures.plays.next)
+    (c.session.ensures ∙ ap (λ (r : Running Order). r.standing) c.in_ok-step.ensures.plays.next)
     ∙ ap (λ (n : Option ℕ). money_asked round.next.standing n) c.asked_name.ensures
     ∙ sym (ask_money calc c.args.session.now c.args.ask.now c.requires.ask whole c.requires.going) in
     subst (λ (v : Option ℤ). OnOk c.push.result (c.push.new.self ≡ c.args.values.now ++ v ∷ [])) money c.push.ensures.ok

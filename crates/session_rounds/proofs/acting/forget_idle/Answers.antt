@@ -1,4 +1,5 @@
-use Rattle.std.proofs.Common.{◌≡◌, ◌∙◌, ◌-◌, ◌<◌, ℕ, suc, true, List, get_or, drop, refl, sym, ap, subst, arith}
+use Rattle.std.proofs.Common.{◌≡◌, ◌∙◌, ◌-◌, ◌<◌, ℕ, suc, true, false, List, get_or, drop, refl, sym, ap, subst, arith}
+use Rattle.desk_model.specs.State.{State}
 use Rattle.desk_model.specs.Told.{is_watching}
 use Rattle.watch_rounds.specs.Due.{AreAll}
 use Rattle.watch_rounds.specs.declared.rounds.DueWatcher.{DueWatcher}
@@ -14,7 +15,8 @@ loop-at-preserved-then-not-is_watching c =
     let step = step_gone c.args.session.now.state c.args.rounds.now c.loop-at.rounds c.loop-at.at (c.loop-at.at - 1) c.index.result.now
     (before c.loop-at.at c.loop-at-test.true) c.loop-at.invariant.low here c.loop-at.invariant.others c.loop-at.invariant.kept
     c.loop-at.invariant.rest c.gone.new.self _
-    refl c.due-in-loop-at.ensures.round.rising (sym c.is_watching.ensures ∙ c.if-not-is_watching.true)
+    refl c.due-in-loop-at.ensures.round.rising (subst (λ (s : State). is_watching s c.index.result.now.watcher ≡ false) c.deref.ensures
+    (sym c.is_watching.ensures ∙ c.if-not-is_watching.true))
     c.gone.ensures.gone in
     record { low = step.0; others = step.1; kept = step.2; rest = step.3 }
 
@@ -29,7 +31,8 @@ loop-at-preserved c =
       rest = step_kept c.args.session.now.state c.args.rounds.now c.loop-at.rounds c.loop-at.at (c.loop-at.at - 1) c.index.result.now
           (before c.loop-at.at c.loop-at-test.true) c.loop-at.invariant.low here c.loop-at.invariant.others c.loop-at.invariant.kept
           c.loop-at.invariant.rest _ refl
-          (sym c.is_watching.ensures ∙ c.if-not-is_watching.false);
+          (subst (λ (s : State). is_watching s c.index.result.now.watcher ≡ true) c.deref.ensures
+          (sym c.is_watching.ensures ∙ c.if-not-is_watching.false));
     }
 
 pub returns-clause-undue : goal.returns-clause-undue

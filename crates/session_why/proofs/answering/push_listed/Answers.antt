@@ -50,7 +50,7 @@ returns-clause-text g c =
     let keys : c.as_slice.result.now ≡ listing p.state o = c.as_slice.ensures.keys ∙ c.in_ok-list_all.ensures.list in
     lines_behind calc p q o (listing p.state o) old middle new (line_of p c.args.name o Ask (asking calc o p.state))
     c.push_each.result
-    (subst (λ (z : Standing). IsWhole z.state) c.session.ensures c.shape.ensures)
+    (subst IsWhole (c.deref-2.ensures ∙ ap (λ (p : Standing). p.state) c.deref.ensures) c.shape.ensures.whole)
     (standing_stays c.list_all.new.session c.push_asked.new.session c.push_asked.ensures.stays
     ∙ ap (λ (z : Standing). with_state z q.state) same)
     (c.in_ok-push_asked.ensures.asks.0 ∙ ap (λ (z : Standing). asked calc o z.state) same)

@@ -11,10 +11,10 @@ pub given-requires-2 : goal.given-requires-2
 given-requires-2 g c =
     let s : State = c.args.session.now.standing.state in
     let o = c.args.object in
-    let same = c.desk.ensures ∙ ap (λ (p : Standing). p.state) c.session.ensures in
+    let same = c.deref-2.ensures ∙ ap (λ (p : Standing). p.state) c.deref.ensures in
     let names = c.naming_of-naming.ensures
     ∙ ap (λ (t : State). naming_in t.market (terms_at t.market o))
-    (c.desk-2.ensures ∙ ap (λ (p : Standing). p.state) c.session-2.ensures) in
+    (c.desk.ensures ∙ ap (λ (p : Standing). p.state) c.session.ensures) in
     let n = are_named s o c.naming_of-naming.result (subst IsWhole same c.shape.ensures.whole)
     (subst (λ (t : State). IsKinded t.market) same c.shape.ensures.kinds)
     (subst (λ (t : State). AreRanged t.market) same c.shape.ensures.ranged)

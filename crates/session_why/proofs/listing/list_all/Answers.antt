@@ -12,8 +12,8 @@ pub loop-next-init : goal.loop-next-init
 loop-next-init g c = record {
   same = refl;
   walks = walks_begin c.args.session.now.standing.state
-      (subst (λ (z : Standing). IsWhole z.state) c.session.ensures c.shape.ensures).links c.args.object _ _
-      c.requires.empty
+      (subst IsWhole (c.deref-2.ensures ∙ ap (λ (p : Standing). p.state) c.deref.ensures) c.shape.ensures.whole).links
+      c.args.object _ _ c.requires.empty
       (c.in_ok-push.ensures.items ∙ ap (λ (l : List ℕ). l ++ c.args.object ∷ []) c.new-waiting.ensures.items)
       c.requires.within;
 }
@@ -22,7 +22,7 @@ pub loop-next-smaller-in-Continue-branch-3 : goal.loop-next-smaller-in-Continue-
 loop-next-smaller-in-Continue-branch-3 g c =
     let s : State = c.args.session.now.standing.state in
     let links : IsLinked s.market =
-    (subst (λ (z : Standing). IsWhole z.state) c.session.ensures c.shape.ensures).links in
+    (subst IsWhole (c.deref-2.ensures ∙ ap (λ (p : Standing). p.state) c.deref.ensures) c.shape.ensures.whole).links in
     let rest = c.pop.new.self.items in
     new_less s links c.args.object c.loop-next.list.keys c.loop-next.waiting.items rest c.in-Some.next
     c.in-Some.ensures.items
@@ -38,7 +38,7 @@ pub loop-next-preserved-in-Continue-branch-3 : goal.loop-next-preserved-in-Conti
 loop-next-preserved-in-Continue-branch-3 g c =
     let s : State = c.args.session.now.standing.state in
     let links : IsLinked s.market =
-    (subst (λ (z : Standing). IsWhole z.state) c.session.ensures c.shape.ensures).links in
+    (subst IsWhole (c.deref-2.ensures ∙ ap (λ (p : Standing). p.state) c.deref.ensures) c.shape.ensures.whole).links in
     let rest = c.pop.new.self.items in
     record {
       same = c.push_rest.ensures.same ∙ c.loop-next.invariant.same;
@@ -58,7 +58,7 @@ pub loop-next-smaller : goal.loop-next-smaller
 loop-next-smaller g c =
     let s : State = c.args.session.now.standing.state in
     let links : IsLinked s.market =
-    (subst (λ (z : Standing). IsWhole z.state) c.session.ensures c.shape.ensures).links in
+    (subst IsWhole (c.deref-2.ensures ∙ ap (λ (p : Standing). p.state) c.deref.ensures) c.shape.ensures.whole).links in
     known_less s links c.args.object c.loop-next.list.keys c.loop-next.waiting.items c.pop.new.self.items c.in-Some.next
     c.in-Some.ensures.items c.loop-next.invariant.walks c.insert_full.new.self.keys
     (known_listed c.loop-next.list.keys c.insert_full.new.self.keys c.in-Some.next c.in_ok-is_new.is_new
@@ -69,7 +69,7 @@ pub loop-next-preserved : goal.loop-next-preserved
 loop-next-preserved g c =
     let s : State = c.args.session.now.standing.state in
     let links : IsLinked s.market =
-    (subst (λ (z : Standing). IsWhole z.state) c.session.ensures c.shape.ensures).links in
+    (subst IsWhole (c.deref-2.ensures ∙ ap (λ (p : Standing). p.state) c.deref.ensures) c.shape.ensures.whole).links in
     record {
       same = c.loop-next.invariant.same;
       walks =

@@ -14,7 +14,7 @@ returns-then-is_frozen-clause-answer g c =
     ∙ ap (λ (t : State). is_lazy_at t.market o) (c.desk.ensures ∙ ap (λ (p : Standing). p.state) c.session.ensures))
     ∙ c.if-not-is_priced.false in
     let frozen = sym (c.is_frozen.ensures
-    ∙ ap (λ (t : State). (kept_at t o).frozen) (c.desk-2.ensures ∙ ap (λ (p : Standing). p.state) c.session-3.ensures))
+    ∙ ap (λ (t : State). (kept_at t o).frozen) (c.desk-2.ensures ∙ ap (λ (p : Standing). p.state) c.session-2.ensures))
     ∙ c.if-is_frozen.true in
     c.if-is_frozen.true ∙ frozen_shows s o lazy frozen
 
@@ -26,7 +26,7 @@ returns-else-is_frozen-clause-answer g c =
     ∙ ap (λ (t : State). is_lazy_at t.market o) (c.desk.ensures ∙ ap (λ (p : Standing). p.state) c.session.ensures))
     ∙ c.if-not-is_priced.false in
     let thawed = sym (c.is_frozen.ensures
-    ∙ ap (λ (t : State). (kept_at t o).frozen) (c.desk-2.ensures ∙ ap (λ (p : Standing). p.state) c.session-3.ensures))
+    ∙ ap (λ (t : State). (kept_at t o).frozen) (c.desk-2.ensures ∙ ap (λ (p : Standing). p.state) c.session-2.ensures))
     ∙ c.if-is_frozen.false in
     c.is_some.ensures ∙ ap (λ (x : Option ℕ). is_some x) c.late.ensures.answer
-    ∙ late_shows s (subst (λ (p : Standing). IsWhole p.state) c.session-2.ensures c.shape.ensures) o lazy thawed
+    ∙ late_shows s (subst IsWhole (c.deref-2.ensures ∙ ap (λ (p : Standing). p.state) c.deref.ensures) c.shape.ensures.whole) o lazy thawed

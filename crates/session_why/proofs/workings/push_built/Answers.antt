@@ -16,10 +16,10 @@ rates_of-requires g c =
     let m : Market = c.args.session.now.standing.state.market in
     let o = c.args.object in
     let whole =
-    subst IsWhole (c.desk.ensures ∙ ap (λ (p : Standing). p.state) c.session.ensures) c.shape.ensures.whole in
+    subst IsWhole (c.deref-2.ensures ∙ ap (λ (p : Standing). p.state) c.deref.ensures) c.shape.ensures.whole in
     let are = c.as_slice.ensures.value ∙ c.in_ok-quotes.ensures
     ∙ ap (λ (t : State). quotes_in (terms_at t.market o))
-    (c.desk-2.ensures ∙ ap (λ (p : Standing). p.state) c.session-2.ensures) in
+    (c.desk.ensures ∙ ap (λ (p : Standing). p.state) c.session.ensures) in
     record {
       within =
           subst (λ (l : List ℕ). All (λ quote. quote < length m.objects) l) (sym are)
@@ -33,15 +33,15 @@ returns-clause-text g c =
     let nodes = c.nodes_of-nodes.result.now in
     let quotes = c.as_slice-2.result.now in
     let rates = c.as_slice-3.result.now in
-    let then : c.session-4.result.now ≡ p = rw c.rates_of.ensures.same at c.session-4.ensures in
-    let seen : c.session-3.result.now ≡ p = rw c.rates_of.ensures.same at c.session-3.ensures in
+    let then : c.session-3.result.now ≡ p = rw c.rates_of.ensures.same at c.session-3.ensures in
+    let seen : c.session-2.result.now ≡ p = rw c.rates_of.ensures.same at c.session-2.ensures in
     text_as c.push_node_rates.result _ _ _ _ c.push_node_rates.ensures
     (ap (λ (q : Standing). node_rates_text q (named q o) (nodes_with nodes quotes rates)) then
     ∙ nodes_worked p o c.requires.kind c.requires.can nodes quotes rates
     (c.nodes_of-nodes.ensures ∙ ap (λ (t : State). nodes_in (kept_at t o).last)
-    (c.desk-3.ensures ∙ ap (λ (q : Standing). q.state) seen))
+    (c.desk-2.ensures ∙ ap (λ (q : Standing). q.state) seen))
     (c.as_slice-2.ensures.value ∙ c.in_ok-quotes.ensures
     ∙ ap (λ (t : State). quotes_in (terms_at t.market o))
-    (c.desk-2.ensures ∙ ap (λ (q : Standing). q.state) c.session-2.ensures))
+    (c.desk.ensures ∙ ap (λ (q : Standing). q.state) c.session.ensures))
     (c.as_slice-3.ensures.value ∙ c.in_ok-rates.ensures.rates
     ∙ ap (rates_by (input_at p.state.market)) (c.as_slice.ensures.value ∙ sym c.as_slice-2.ensures.value)))

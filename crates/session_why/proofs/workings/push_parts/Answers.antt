@@ -16,11 +16,11 @@ push_each_part-requires-clause-weights c =
     let s : State = c.args.session.now.state in
     let o = c.args.object in
     let parts : List Part = c.in-Some-Composite.parts in
-    let given : Some (Composite parts) ≡ bare (terms_at c.desk-2.result.now.market o) =
+    let given : Some (Composite parts) ≡ bare (terms_at c.desk.result.now.market o) =
     rw c.in-Some-Composite.field-0-is at c.in-Some-Composite.ensures in
     let are =
     told (terms_at s.market o) (Composite parts) refl
-    (given ∙ ap (λ (t : State). bare (terms_at t.market o)) c.desk-2.ensures) in
+    (given ∙ ap (λ (t : State). bare (terms_at t.market o)) c.desk.ensures) in
     subst (λ (l : List Part). All (λ part. IsWeight part.weight) l) (sym c.items.ensures)
     (parts_weighed c.args.session.now o parts are
-    (subst (λ (t : State). AreRanged t.market) c.desk.ensures c.shape.ensures.ranged))
+    (subst (λ (t : State). AreRanged t.market) c.deref.ensures c.shape.ensures.ranged))

@@ -85,7 +85,7 @@ pub fn weigh(
         None => join(objects, store, composite, member, weight),
         Some(_) if weight == 0 => take_out(alloc, objects, store, composite, member),
         Some(at) => {
-            change(objects, composite, at, Part { weight, member });
+            objects.put_part(composite, at, Part { weight, member });
             Ok(())
         }
     }
@@ -141,16 +141,6 @@ fn take_out(
     store.unwatch(member, composite);
     objects.replace(composite, Terms::Composite(rest));
     Ok(())
-}
-
-// A member has another weight in its place, which takes no memory.
-fn change(objects: &mut Objects, composite: ObjId, at: usize, part: Part)
-    requires composite { kind_in (slice_index_or objects.old composite Free) ≡ Some kind.Composite }
-    requires each { AreEachInRange (parts_in (slice_index_or objects.old composite Free)) }
-    requires place { place_of (parts_in (slice_index_or objects.old composite Free)) part.member ≡ Some at }
-    ensures { objects.new ≡ slice_set objects.old composite (Live (Composite (reweighted (parts_in (slice_index_or objects.old composite Free)) part.member part.weight))) }
-{
-    objects.put_part(composite, at, part);
 }
 
 fn without_member(alloc: Global, parts: &[Part], member: ObjId) -> Result<PartList, AllocError>

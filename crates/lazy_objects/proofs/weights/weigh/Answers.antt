@@ -8,7 +8,8 @@ use Rattle.desk_model.specs.declared.slot.Slot.TheVariants.{Free, Live}
 use Rattle.object_store.specs.Parts.{parts_in}
 use Rattle.object_store.proofs.Boarded.{on_ok}
 use Rattle.desk_model.specs.Changeable.{reweighted}
-use Rattle.lazy_objects.proofs.Places.{no_place, has_placed}
+use Rattle.lazy_objects.proofs.Places.{no_place, has_placed, place_within, set_there}
+use Rattle.lazy_objects.proofs.Weighed.{parts_stand}
 use Rattle.lazy_objects.proofs.Reweighted.{not_zero, some_weight, with_new, with_other}
 use Rattle.lazy_objects.proofs.Rewatched.{is_zero, no_member, rewatched_less, rewatched_same, rewatched_more}
 use Rattle.lazy_objects.proofs.weights.weigh.Goals as goal
@@ -42,11 +43,16 @@ returns-in-Some-clause-rewatched c =
     rewatched_less c.args.composite c.args.member c.args.weight (parts_in (slice_index_or c.args.objects.now c.args.composite Free)) c.args.store.now c.requires.watched c.take_out.new.store
     (is_zero c.args.weight c.if-weight-eq0.true (to_z-of_z w64 c.args.weight c.ranges.weight)) leaves c.take_out.ensures.spare)
 
+pub put_part-requires-clause-within : goal.put_part-requires-clause-within
+put_part-requires-clause-within c = place_within (parts_in (slice_index_or c.args.objects.now c.args.composite Free)) c.args.member c.in-Some-2.at (sym c.requires.place ∙ c.in-Some-2.is)
+
 pub returns-in-Some-2-clause-weighed : goal.returns-in-Some-2-clause-weighed
 returns-in-Some-2-clause-weighed c =
     let parts = parts_in (slice_index_or c.args.objects.now c.args.composite Free) in
-    let there = has_placed parts c.args.member c.in-Some-2.at (sym c.requires.place ∙ c.in-Some-2.is) in
-    c.change.ensures
+    let at = sym c.requires.place ∙ c.in-Some-2.is in
+    let there = has_placed parts c.args.member c.in-Some-2.at at in
+    c.put_part.ensures parts (parts_stand c.args.objects.now c.args.composite c.requires.composite)
+    ∙ ap (λ (l : List Part). slice_set c.args.objects.now c.args.composite (Live (Composite l))) (set_there parts c.args.member c.in-Some-2.at at _ c.requires.each)
     ∙ ap (λ (weight : ℤ). slice_set c.args.objects.now c.args.composite (Live (Composite (reweighted (parts_in (slice_index_or c.args.objects.now c.args.composite Free)) c.args.member weight)))) (to_z-of_z w64 c.args.weight c.ranges.weight)
     ∙ ap (λ (l : List Part). slice_set c.args.objects.now c.args.composite (Live (Composite l))) (with_other parts c.args.member c.args.weight (not_zero c.args.weight c.if-weight-eq0.false) there)
 

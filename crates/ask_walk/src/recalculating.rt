@@ -120,6 +120,6 @@ fn outdate_refused(store: &mut Store, object: ObjId, refused: bool)
     ensures { store.new ≡ refused_as object refused store.old }
 {
     if refused {
-        store.outdate(object);
+        store.deferral.graph.outdate(object);
     }
 }

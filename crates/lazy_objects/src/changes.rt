@@ -177,7 +177,7 @@ impl Desk {
         ensures keeps { KeepsCurrent self.old self.new }
         ensures sound { (calc : Calc) → IsSound calc self.old → IsSound calc self.new }
     {
-        let is_member = self.is_member(composite, member);
+        let is_member = self.books.store.has_pair(member, composite);
         let parts = parts_of(&self.market.objects, composite);
         let place = place_of(parts, is_member, member);
         if has_weight(parts, member, place, weight) {
@@ -194,15 +194,6 @@ impl Desk {
         )?;
         tell_changed(&self.market, &mut self.books.store, composite);
         Ok(())
-    }
-
-    // Whether an object is a member of a composite, which observes its members and nothing else.
-    fn is_member(&self, composite: ObjId, member: ObjId) -> bool
-        requires composite { kind_at self.now.market composite ≡ Some Composite }
-        requires member { serves_as (kind_at self.now.market member) Member ≡ true }
-        ensures { result ≡ has_member (parts_in (slot_at self.now.market composite)) member }
-    {
-        self.books.store.has_pair(member, composite)
     }
 
     /// Takes out an object that no object observes, or a watcher, and what is stored of it. Its registrations go with it,
@@ -310,7 +301,8 @@ impl Desk {
         ensures keeps { KeepsCurrent self.old self.new }
         ensures sound { (calc : Calc) → IsSound calc self.old → IsSound calc self.new }
     {
-        self.books.store.defer();
+        let store = &mut self.books.store;
+        store.deferral.defer();
     }
 
     /// Notices are held back no more: all deferred sources tell together (QuantLib's
@@ -320,7 +312,8 @@ impl Desk {
         ensures keeps { KeepsCurrent self.old self.new }
         ensures sound { (calc : Calc) → IsSound calc self.old → IsSound calc self.new }
     {
-        self.books.store.resume();
+        let store = &mut self.books.store;
+        store.deferral.resume();
     }
 
     /// Recalculates a lazy object: it is priced over its inputs, whatever its flags say, and its observers are told, or it
@@ -353,7 +346,8 @@ impl Desk {
         ensures keeps { KeepsCurrent self.old self.new }
         ensures sound { (calc : Calc) → IsSound calc self.old → IsSound calc self.new }
     {
-        self.books.store.next_told()
+        let store = &mut self.books.store;
+        store.deferral.graph.next_told()
     }
 
     /// Asks a lazy object. It computes only what it uses and has no current value. Where memory is wanting, what was
@@ -406,10 +400,11 @@ impl Desk {
         if from == to {
             return true;
         }
-        if !self.books.store.has(from) || !self.books.store.has(to) {
+        let store = &mut self.books.store;
+        if !store.deferral.graph.is_live(from) || !store.deferral.graph.is_live(to) {
             return false;
         }
-        self.books.store.reaches(from, to)
+        store.deferral.graph.reaches(from, to)
     }
 
     /// What an object gives where another names it: a quote its rate, a handle what its target gives, a lazy object itself.
@@ -452,6 +447,6 @@ fn tell_changed(market: &Market, store: &mut Store, object: ObjId)
     ensures state { state_in market.now store.new ≡ notified object (outdated object (state_in market.now store.old)) }
     ensures shape { store.new.shape ≡ store.old.shape }
 {
-    store.outdate(object);
+    store.deferral.graph.outdate(object);
     store.changed(object);
 }

@@ -114,7 +114,7 @@ impl Desk {
     pub fn user_of(&self, object: ObjId) -> Option<ObjId>
         ensures { result ≡ least_user self.now.market object }
     {
-        if !self.books.store.has(object) {
+        if !self.books.store.is_live(object) {
             return None;
         }
         self.books.store.least_observer(object)

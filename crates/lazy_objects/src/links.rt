@@ -55,7 +55,7 @@ pub fn watch_any(store: &mut Store, subject: Option<ObjId>, observer: ObjId)
 {
     match subject {
         None => return,
-        Some(object) => store.watch_spare(object, observer),
+        Some(object) => store.deferral.graph.watch_spare(object, observer),
     }
 }
 

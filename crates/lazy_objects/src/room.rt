@@ -17,7 +17,7 @@ pub fn make_room(store: &mut Store, terms: &Terms, numbers: usize) -> Result<(),
     ensures same { OnErr result (store.new ≡ store.old) }
 {
     if is_vacant(terms) {
-        return store.reserve(numbers as u32 + 1);
+        return store.deferral.graph.reserve(numbers as u32 + 1);
     }
     Ok(())
 }

@@ -32,26 +32,7 @@ least_same : (P Q : ℕ → Type 0) → ((x : ℕ) → P x ↔ Q x) → (least :
 least_same P Q same None none = λ x q. none x ((same x).1 q)
 least_same P Q same (Some y) is = ((same y).0 is.0, λ x q. is.1 x ((same x).1 q))
 
-module _ (graph : GraphView) (lasts : List (Option Value)) (on : Bool) (fits : Fits graph lasts) where
-  abbrev view : StoreView
-  view = record { kept = kept_of graph lasts; shape = shape_of graph; deferring = on; noticed = graph.noticed }
-
-  pub frozen_node : (y : ℕ) → (stored_at view y).frozen ≡ graphs.is_frozen graph y
-  frozen_node y = ap (λ (k : Kept). k.frozen) (kept_at_node graph lasts fits y)
-
-  pub frozen_gone : (y : ℕ) → is_some (node_at graph y) ≡ false → (stored_at view y).frozen ≡ false
-  frozen_gone y gone = frozen_node y ∙ by_node (node_at graph y) gone
-    where
-      by_node : (node : Option Node) → is_some node ≡ false → graphs.frozen_of node ≡ false
-      by_node None e = refl
-      by_node (Some node) e = absurd (false≢true (sym e))
-
-  pub source_node : (y : ℕ) → (stored_at view y).source ≡ is_source graph y
-  source_node y = ap (λ (k : Kept). k.source) (kept_at_node graph lasts fits y)
-
-  held_node : (y : ℕ) → holds_back view y ≡ graphs.is_held_back graph y
-  held_node y = ap (λ (k : Kept). k.frozen || k.source) (kept_at_node graph lasts fits y)
-
+module _ (graph : GraphView) where
   -- a path of edges in the graph is one in its shape, and the other way round
   edges_same : (o : ℕ) → edges_at (shape_of graph) o ≡ edges_of graph o
   edges_same o = ap (λ (r : Option Role). edges_from r (subjects_of graph o)) (role_at_node graph.nodes o) ∙ by_node (node_at graph o)
@@ -90,20 +71,40 @@ module _ (graph : GraphView) (lasts : List (Option Value)) (on : Bool) (fits : F
   user_node x least is = least_same (IsUser graph x) (λ o. Among x (edges_at (shape_of graph) o))
       (λ o. (λ a. subst (Among x) (sym (edges_same o)) a, λ a. subst (Among x) (edges_same o) a)) least is
 
+module _ (graph : GraphView) (lasts : List (Option Value)) (on : Bool) (fits : Fits graph lasts) where
+  abbrev view : StoreView
+  view = record { kept = kept_of graph lasts; shape = shape_of graph; deferring = on; noticed = graph.noticed }
+
+  pub frozen_node : (y : ℕ) → (stored_at view y).frozen ≡ graphs.is_frozen graph y
+  frozen_node y = ap (λ (k : Kept). k.frozen) (kept_at_node graph lasts fits y)
+
+  pub frozen_gone : (y : ℕ) → is_some (node_at graph y) ≡ false → (stored_at view y).frozen ≡ false
+  frozen_gone y gone = frozen_node y ∙ by_node (node_at graph y) gone
+    where
+      by_node : (node : Option Node) → is_some node ≡ false → graphs.frozen_of node ≡ false
+      by_node None e = refl
+      by_node (Some node) e = absurd (false≢true (sym e))
+
+  pub source_node : (y : ℕ) → (stored_at view y).source ≡ is_source graph y
+  source_node y = ap (λ (k : Kept). k.source) (kept_at_node graph lasts fits y)
+
+  held_node : (y : ℕ) → holds_back view y ≡ graphs.is_held_back graph y
+  held_node y = ap (λ (k : Kept). k.frozen || k.source) (kept_at_node graph lasts fits y)
+
   late_node : (o x : ℕ) → graphs.IsLateOf graph o x ↔ IsLateOf view o x
   late_node o x = (
     λ late. (
       source_node x ∙ late.0,
       elim late.1 [
         | inl here ↦ inl here
-        | inr below ↦ inr (path_there (λ y. y == x) (λ y. not (graphs.is_frozen graph y)) (λ y. not (stored_at view y).frozen) (λ y. sym (ap not (frozen_node y))) o below)
+        | inr below ↦ inr (path_there graph (λ y. y == x) (λ y. not (graphs.is_frozen graph y)) (λ y. not (stored_at view y).frozen) (λ y. sym (ap not (frozen_node y))) o below)
       ],
     ),
     λ late. (
       sym (source_node x) ∙ late.0,
       elim late.1 [
         | inl here ↦ inl here
-        | inr below ↦ inr (path_back (λ y. y == x) (λ y. not (graphs.is_frozen graph y)) (λ y. not (stored_at view y).frozen) (λ y. sym (ap not (frozen_node y))) o below)
+        | inr below ↦ inr (path_back graph (λ y. y == x) (λ y. not (graphs.is_frozen graph y)) (λ y. not (stored_at view y).frozen) (λ y. sym (ap not (frozen_node y))) o below)
       ],
     ),
   )
@@ -121,11 +122,11 @@ module _ (graph : GraphView) (lasts : List (Option Value)) (on : Bool) (fits : F
       reached_same x = (
         λ reached. elim reached [
           | inl same ↦ inl same
-          | inr below ↦ inr (path_there (λ y. y == x) (λ y. true) (λ y. true) (λ y. refl) o below)
+          | inr below ↦ inr (path_there graph (λ y. y == x) (λ y. true) (λ y. true) (λ y. refl) o below)
         ],
         λ reached. elim reached [
           | inl same ↦ inl same
-          | inr below ↦ inr (path_back (λ y. y == x) (λ y. true) (λ y. true) (λ y. refl) o below)
+          | inr below ↦ inr (path_back graph (λ y. y == x) (λ y. true) (λ y. true) (λ y. refl) o below)
         ],
       )
 

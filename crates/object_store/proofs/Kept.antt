@@ -16,7 +16,7 @@ use Rattle.observer_graph.specs.GraphView.{GraphView, IsWatcher, node_at, is_sou
 use Rattle.observer_graph.specs.Notice.{IsTold, Tells, passes_at, passes_of, unsettled, with_stale}
 use Rattle.observer_graph.specs.Change.{AddsNode, TakesNode, flagged, with_flags, with_source}
 use Rattle.desk_model.specs.Visit.{with_value}
-use Rattle.object_store.specs.Shape.{role_at, observed_by, role_in, kept_as, kept_from, kept_of, shape_of}
+use Rattle.object_store.specs.Shape.{Shape, role_at, observed_by, role_in, kept_as, kept_from, kept_of, shape_of}
 use Rattle.object_store.specs.Store.{StoreView, AddsObject, TakesObject, Notices, IsNotified, stored_at, stored_as, marked, passes_by, notified_kept}
 use Rattle.object_store.proofs.Touched.{pushed_default}
 
@@ -99,13 +99,17 @@ same_shape graph new roles subjects spare = λ i. record { roles = roles i; subj
 pub same_view : (a b : StoreView) → a.kept ≡ b.kept → a.shape ≡ b.shape → a.deferring ≡ b.deferring → a.noticed ≡ b.noticed → a ≡ b
 same_view a b kept shape switch told = λ i. record { kept = kept i; shape = shape i; deferring = switch i; noticed = told i }
 
+-- an object is there where its node is, in the graph of this shape
+pub live_as : (graph : GraphView) (shape : Shape) → shape_of graph ≡ shape → (x : ℕ) → is_some (node_at graph x) ≡ is_some (role_at shape x)
+live_as graph shape same x = by_node (node_at graph x) ∙ sym (ap is_some (role_at_node graph.nodes x)) ∙ ap (λ (s : Shape). is_some (role_at s x)) same
+  where
+    by_node : (node : Option Node) → is_some node ≡ is_some (role_in node)
+    by_node None = refl
+    by_node (Some node) = refl
+
 -- a live node
 pub live_node : (graph : GraphView) (x : ℕ) → is_some (role_at (shape_of graph) x) ≡ true → IsSome (node_at graph x)
-live_node graph x is = by_node (node_at graph x) (sym (ap is_some (role_at_node graph.nodes x)) ∙ is)
-  where
-    by_node : (node : Option Node) → is_some (role_in node) ≡ true → IsSome node
-    by_node None e = absurd (false≢true e)
-    by_node (Some node) e = refl
+live_node graph x is = live_as graph (shape_of graph) refl x ∙ is
 
 module _ (graph : GraphView) (lasts : List (Option Value)) (fits : Fits graph lasts) (x : ℕ) (low : x < length lasts) where
   in_nodes : x < length graph.nodes

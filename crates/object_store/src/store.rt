@@ -11,7 +11,8 @@ ghost use Rattle.desk_model.specs.State.{unpriced};
 ghost use Rattle.desk_model.specs.Visit.{with_value};
 ghost use Rattle.object_store.specs.Slots.{is_now, is_at_hand};
 ghost use Rattle.object_store.specs.Late.{IsLateOf, IsMarkOf};
-ghost use Rattle.object_store.specs.Shape.{role_at, observed_by, edges_at};
+ghost use Rattle.observer_graph.specs.GraphView.{node_at, is_source};
+ghost use Rattle.object_store.specs.Shape.{role_at, observed_by, shape_of, kept_as};
 ghost use Rattle.object_store.specs.Store.{AddsObject, TakesObject, Joins, Leaves, Notices, stored_at, marked, stored_as};
 
 use deferred_sources::Deferral;
@@ -21,11 +22,13 @@ use fixed_amount::Amount;
 use observer_graph::{Flags, Graph, Role, Standing};
 use std::alloc::{AllocError, Global};
 use std::marker::Model;
+use std::ops::Deref;
 
 /// What is stored of each object by number, the graph of observers, and whether its notices are held back.
 #[derive(Drop)]
 pub struct Store {
-    deferral: Deferral,
+    /// The graph of observers, whose notices may be held back.
+    pub deferral: Deferral,
     lasts: Vec<Option<Value>>,
 }
 
@@ -39,6 +42,18 @@ impl Model for Store {
     ghost view = { λ s. record { kept = kept_of s.deferral.graph s.lasts.items; shape = shape_of s.deferral.graph; deferring = s.deferral.on; noticed = s.deferral.graph.noticed } };
 
     ghost invariant = { λ s. (length s.deferral.graph.nodes ≡ length s.lasts.items) × (length s.deferral.graph.sources ≡ length s.lasts.items) };
+}
+
+impl Deref for Store {
+    type Target = Graph;
+
+    /// The graph of observers.
+    fn deref(&self) -> &Graph
+        ensures shape { shape_of result.now ≡ self.now.shape }
+        ensures kept { (o : ℕ) → stored_at self.now o ≡ kept_as (node_at result.now o) (is_source result.now o) (stored_at self.now o).last }
+    {
+        &self.deferral.graph
+    }
 }
 
 impl Store {
@@ -78,20 +93,6 @@ impl Store {
         self.lasts[object.place()] = None;
     }
 
-    /// Whether an object has this number.
-    pub fn has(&self, object: ObjId) -> bool
-        ensures { result ≡ is_some (role_at self.now.shape object) }
-    {
-        self.deferral.graph.is_live(object)
-    }
-
-    /// Whether the value of an object is current.
-    pub fn is_current(&self, object: ObjId) -> bool
-        ensures { result ≡ is_now self.now.kept object }
-    {
-        self.deferral.graph.is_current(object)
-    }
-
     /// The last value of an object, if it has one.
     pub fn last(&self, object: ObjId) -> Option<&Value>
         ensures { option_copied result ≡ (slice_index_or self.now.kept object unpriced).last }
@@ -123,14 +124,6 @@ impl Store {
     {
         self.deferral.graph.settle(object);
         put_money(&mut self.lasts[object.place()], amount);
-    }
-
-    /// An object is not current.
-    pub fn outdate(&mut self, object: ObjId)
-        requires { is_some (role_at self.old.shape object) ≡ true }
-        ensures { self.new ≡ stored_as object (record (stored_at self.old object) { current = false }) self.old }
-    {
-        self.deferral.graph.outdate(object);
     }
 
     /// An object is frozen: it takes notices without passing them on. Nobody is told.
@@ -180,23 +173,6 @@ impl Store {
         self.deferral.changed(object);
     }
 
-    /// Notices are held back from now on.
-    pub fn defer(&mut self)
-        ensures { self.new ≡ record self.old { deferring = true } }
-    {
-        self.deferral.defer();
-    }
-
-    /// Notices are held back no more: those whom a notice from all marked objects reaches are not current, and none is
-    /// marked any more. Nothing where none is held back. It takes no memory, and costs what it tells.
-    pub fn resume(&mut self)
-        ensures switch { self.new.deferring ≡ false }
-        ensures told { self.old.deferring ≡ true → Notices self.old self.new }
-        ensures same { self.old.deferring ≡ false → self.new ≡ self.old }
-    {
-        self.deferral.resume();
-    }
-
     /// An object observes another too; no spare place is used. After want of memory nothing is changed.
     pub fn watch(&mut self, subject: ObjId, observer: ObjId) -> Result<(), AllocError>
         requires subject { is_some (role_at self.old.shape subject) ≡ true }
@@ -207,26 +183,6 @@ impl Store {
         ensures spare { self.new.shape.spare ≡ self.old.shape.spare }
     {
         self.deferral.graph.watch(subject, observer)
-    }
-
-    /// Finds spare places, so that there are at least so many. After want of memory nothing is changed.
-    pub fn reserve(&mut self, pairs: u32) -> Result<(), AllocError>
-        ensures reserved { OnOk result (self.new ≡ record self.old { shape = record self.old.shape { spare = max self.old.shape.spare pairs } }) }
-        ensures same { OnErr result (self.new ≡ self.old) }
-    {
-        self.deferral.graph.reserve(pairs)
-    }
-
-    /// An object observes another too, by one of the spare places. It takes no memory.
-    pub fn watch_spare(&mut self, subject: ObjId, observer: ObjId)
-        requires room { 0 < self.old.shape.spare }
-        requires subject { is_some (role_at self.old.shape subject) ≡ true }
-        requires observer { is_some (role_at self.old.shape observer) ≡ true }
-        requires new { Among subject (observed_by self.old.shape observer) → ⊥ }
-        ensures joins { Joins self.old self.new subject observer }
-        ensures spare { self.new.shape.spare + 1 ≡ self.old.shape.spare }
-    {
-        self.deferral.graph.watch_spare(subject, observer);
     }
 
     /// An object does not observe another; whether it did, which leaves a spare place. It takes no memory.
@@ -240,52 +196,6 @@ impl Store {
         self.deferral.graph.unwatch(subject, observer)
     }
 
-    /// Whether an object observes another. It costs the fewer of what the observer observes and of who observes the subject.
-    pub fn has_pair(&self, subject: ObjId, observer: ObjId) -> bool
-        requires subject { is_some (role_at self.now.shape subject) ≡ true }
-        requires observer { is_some (role_at self.now.shape observer) ≡ true }
-        ensures { IsTrue result ↔ Among subject (observed_by self.now.shape observer) }
-    {
-        self.deferral.graph.has_pair(subject, observer)
-    }
-
-    /// Whether an object observes any.
-    pub fn has_subject(&self, observer: ObjId) -> bool
-        requires { is_some (role_at self.now.shape observer) ≡ true }
-        ensures { IsTrue result ↔ ((x : ℕ) × Among x (observed_by self.now.shape observer)) }
-    {
-        self.deferral.graph.has_subject(observer)
-    }
-
-    /// The first by creation of the watchers that were told and not handed out since; it is forgotten. None where there
-    /// is none. It takes no memory.
-    pub fn next_told(&mut self) -> Option<ObjId>
-        ensures order { IsRising self.old.noticed }
-        ensures none { IfNone result ((self.old.noticed ≡ []) × (self.new ≡ self.old)) }
-        ensures some { IfSome result (λ w. (self.old.noticed ≡ w ∷ self.new.noticed)
-            × (self.new ≡ record self.old { noticed = self.new.noticed })) }
-    {
-        self.deferral.graph.next_told()
-    }
-
-    /// Whether an object is another, or reaches it by edges.
-    pub fn reaches(&mut self, from: ObjId, to: ObjId) -> bool
-        requires from { is_some (role_at self.old.shape from) ≡ true }
-        requires to { is_some (role_at self.old.shape to) ≡ true }
-        ensures answer { IsTrue result ↔ ((from ≡ to) ⊎ Below (edges_at self.old.shape) (λ y. y == to) (λ y. true) from) }
-        ensures same { self.new ≡ self.old }
-    {
-        self.deferral.graph.reaches(from, to)
-    }
-
-    /// The least object that has another among its edges, if any has.
-    pub fn least_observer(&self, object: ObjId) -> Option<ObjId>
-        requires { is_some (role_at self.now.shape object) ≡ true }
-        ensures { IsLeast (λ o. Among object (edges_at self.now.shape o)) result }
-    {
-        self.deferral.graph.least_observer(object)
-    }
-
     /// Whether an object is frozen.
     pub fn is_frozen(&self, object: ObjId) -> bool
         ensures { result ≡ (slice_index_or self.now.kept object unpriced).frozen }
@@ -294,13 +204,6 @@ impl Store {
             return false;
         }
         self.deferral.graph.flags(object).frozen
-    }
-
-    /// Whether an object holds its notice back.
-    pub fn is_source(&self, object: ObjId) -> bool
-        ensures { result ≡ (slice_index_or self.now.kept object unpriced).source }
-    {
-        self.deferral.graph.is_source(object)
     }
 
     /// Whether an object answers its last value where another needs it.

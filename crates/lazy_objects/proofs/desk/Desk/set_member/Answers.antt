@@ -1,20 +1,33 @@
-use Rattle.std.proofs.Common.{◌≡◌, List, ℤ, sym, ◌∙◌, ap, subst, true, w64}
-use Rattle.std.specs.Prelude.{slice_index_or, slice_set}
+use Rattle.std.proofs.Common.{◌≡◌, List, ℤ, Some, sym, ◌∙◌, ap, subst, true, w64}
+use Rattle.std.specs.Prelude.{◌↔◌, slice_index_or, slice_set}
 use Rattle.std.specs.Ordering.{int_eq}
 use Rattle.std.proofs.lemmas.Int.{to_z-of_z}
+use Rattle.walks.specs.Walk.{Among}
+use Rattle.desk_terms.specs.declared.kind.Kind.TheVariants as kind
 use Rattle.desk_terms.specs.declared.terms.Terms.TheVariants as terms_of
 use Rattle.desk_terms.specs.declared.terms.Part.{Part}
 use Rattle.desk_model.specs.declared.slot.Slot.TheVariants.{Live, Free}
 use Rattle.desk_model.specs.State.{State}
-use Rattle.desk_model.specs.Changeable.{weight_of, with_member}
+use Rattle.desk_model.specs.Market.{kind_at}
+use Rattle.desk_model.specs.Changeable.{weight_of, has_member, with_member}
 use Rattle.desk_model.specs.Sound.{IsSound, KeepsCurrent}
 use Rattle.desk_model.specs.Effect.{member_set}
+use Rattle.object_store.specs.Shape.{Shape, observed_by}
 use Rattle.object_store.specs.Slots.{state_of}
 use Rattle.object_store.specs.Parts.{parts_in}
 use Rattle.object_store.specs.Store.{registry_of, IsRewatched}
 use Rattle.object_store.proofs.Joined.{composite_watches}
+use Rattle.lazy_objects.proofs.Rewatched.{is_member_as}
 use Rattle.lazy_objects.proofs.Weighed.{MayWeigh, Ranges, parts_each, weight_as, weighed_live, weighed_joined, weighed_marks, weighed_tells, weighed_left}
 use Rattle.lazy_objects.proofs.desk.Desk.set_member.Goals as goal
+
+pub place_of-place-requires : goal.place_of-place-requires
+place_of-place-requires c =
+    let is = subst (λ (t : State). kind_at t.market c.args.composite ≡ Some kind.Composite) (sym c.self.view_is) c.requires.composite in
+    let watches = composite_watches c.self.inside.market.today c.self.inside.market.objects c.self.inside.books.store.shape c.args.composite c.self.invariant.1 is c.args.member in
+    let pair = subst (λ (s : Shape). (c.has_pair-is_member.result ≡ true) ↔ Among c.args.member (observed_by s c.args.composite)) c.deref.ensures.shape c.has_pair-is_member.ensures in
+    is_member_as (parts_in (slice_index_or c.self.inside.market.objects c.args.composite Free)) c.args.member c.has_pair-is_member.result (λ e. watches.0 (pair.0 e), λ a. pair.1 (watches.1 a))
+    ∙ ap (λ (p : List Part). has_member p c.args.member) (sym c.parts_of-parts.ensures)
 
 pub returns-then-has_weight-clause-set : goal.returns-then-has_weight-clause-set
 returns-then-has_weight-clause-set c =

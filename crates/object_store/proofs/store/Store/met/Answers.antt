@@ -1,5 +1,4 @@
 use Rattle.std.proofs.Common.{◌≡◌, ◌∙◌, ap, sym, subst}
-use Rattle.desk_terms.specs.declared.asked.Mark.{Mark}
 use Rattle.desk_model.specs.declared.kept.Kept.{Kept}
 use Rattle.observer_graph.specs.GraphView.{GraphView, flags_at}
 use Rattle.observer_graph.specs.declared.node.Standing.{Standing}

@@ -9,6 +9,7 @@ use Rattle.desk_terms.specs.declared.asked.Mark.TheVariants.{Fresh, Frozen, Late
 use Rattle.pricing_session.specs.declared.answer.Answer.{Answer}
 use Rattle.pricing_session.specs.declared.answer.Worth.TheVariants.{Money, Curve}
 use Rattle.pricing_session.specs.Asking.{IsAnswered, IsCutShort as AskIsCutShort}
+use Rattle.pricing_session.specs.Speaking.{as_live}
 use Rattle.session_commands.specs.declared.command.Command.{Command}
 use Rattle.session_commands.specs.declared.command.Command.TheVariants.{Set}
 use Rattle.session_commands.specs.declared.refusal.Refusal.{Refusal}
@@ -45,7 +46,7 @@ mark_number Held = 3
 mark_number Recalc = 4
 
 abbrev pub standing_of : Kept → Standing
-standing_of kept = kept.session.live.running.standing
+standing_of kept = kept.session.running.standing
 
 -- both hold something, and so it is with the two
 abbrev pub Both : {A : Type 0} → (A → A → Type 0) → Option A → Option A → Type 0
@@ -65,14 +66,14 @@ text_of (Some kept) = kept.text.items
 
 -- A LINE IS SAID: the session after it, and its lines
 pub record Says (line : List ℕ) (old new : Kept) : Type 0 where
-  pub next : new.session.live ≡ (said ordered old.session.live line).next
-  pub text : new.text.items ≡ (said ordered old.session.live line).lines
+  pub next : as_live new.session ≡ (said ordered (as_live old.session) line).next
+  pub text : new.text.items ≡ (said ordered (as_live old.session) line).lines
 
 -- memory ran out in it: a front of its lines, and the session as it was but for a front of the line's new names, or stopped
 pub record IsCutOff (line : List ℕ) (old new : Kept) : Type 0 where
   pub rest : List ℕ
-  pub text : (said ordered old.session.live line).lines ≡ new.text.items ++ rest
-  pub session : IsCutShort Order line old.session.live new.session.live
+  pub text : (said ordered (as_live old.session) line).lines ≡ new.text.items ++ rest
+  pub session : IsCutShort Order line (as_live old.session) (as_live new.session)
 
 -- the number of a name
 abbrev pub number_of : List ℕ → Kept → ℕ
@@ -85,11 +86,7 @@ setting name units kept = Set (number_of name kept) units
 -- the turn of a command is taken, its line is let go, and nothing else is changed
 abbrev pub after_turn : Command → Kept → Kept
 after_turn c kept = record kept {
-  session = record kept.session {
-    live = record kept.session.live {
-      running = (taken (turn desk_calc (standing_of kept) c) kept.session.live.running).next;
-    };
-  };
+  session = record kept.session { running = (taken (turn desk_calc (standing_of kept) c) kept.session.running).next };
 }
 
 -- A QUOTE IS SET
@@ -115,7 +112,7 @@ pub record Asks (name : List ℕ) (Told : Answer → Type 0) (old new : Kept) : 
   pub answers : IsAnswered desk_calc (number_of name old) (standing_of old) (standing_of new) answer old.session.bench.calls
       new.session.bench.calls None None
   pub told : Told answer
-  pub rest : new.session.live ≡ record old.session.live { running = record old.session.live.running { standing = standing_of new } }
+  pub rest : as_live new.session ≡ record (as_live old.session) { running = record old.session.running { standing = standing_of new } }
   pub text : new.text ≡ old.text
 
 -- an answer of money, in two parts of which the second is less than the unit of the first
@@ -143,5 +140,5 @@ pub record IsNotAsked (name : List ℕ) (old new : Kept) : Type 0 where
 pub record IsAskCut (name : List ℕ) (old new : Kept) : Type 0 where
   pub stops : AskIsCutShort desk_calc (number_of name old) (standing_of old) (standing_of new) old.session.bench.calls
       new.session.bench.calls None None
-  pub rest : new.session.live ≡ record old.session.live { running = record old.session.live.running { standing = standing_of new } }
+  pub rest : as_live new.session ≡ record (as_live old.session) { running = record old.session.running { standing = standing_of new } }
   pub text : new.text ≡ old.text

@@ -7,7 +7,7 @@ use Rattle.watch_rounds.specs.declared.picker.Order.{Order}
 use Rattle.session_model.specs.Rounds.{transcript}
 use Rattle.live_model.specs.Live.{Live}
 use Rattle.live_model.specs.Log.{done}
-use Rattle.pricing_session.specs.Speaking.{live_opened}
+use Rattle.pricing_session.specs.Speaking.{as_live, live_opened}
 use Rattle.desk_plan.specs.declared.status.Status.{Status}
 use Rattle.desk_plan.specs.declared.status.Status.TheVariants as status
 use Rattle.desk_plan.specs.Status.{code_of, words_of}
@@ -21,7 +21,7 @@ pub record Opens (order : Order) (market quotes fixings script : List ℕ) (kept
   pub begun : Live Order
   pub commands : List Command
   pub begins : live_opened order read.names read.today read.made script ≡ Ok (begun, commands)
-  pub live : kept.session.live ≡ record begun { running = done ordered begun.running commands }
+  pub live : as_live kept.session ≡ record begun { running = done ordered begun.running commands }
   pub text : kept.text.items ≡ transcript ordered begun.running commands
 
 -- the script of a market that is read has this fault

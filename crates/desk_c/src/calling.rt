@@ -24,7 +24,7 @@ impl Kept {
     pub(crate) fn say(&mut self, line: &[u8]) -> u32
         ensures says { result ≡ DONE → Says line.now self.old self.new }
         ensures front { result ≡ NO_MEMORY → IsCutOff line.now self.old self.new }
-        ensures stopped { result ≡ STOPPED ↔ (((standing_of self.old).stopped ≡ true) ⊎ (self.old.session.live.line ≡ 2 ^ 64 - 1)) }
+        ensures stopped { result ≡ STOPPED ↔ (((standing_of self.old).stopped ≡ true) ⊎ (self.old.session.beside.line ≡ 2 ^ 64 - 1)) }
         ensures same { result ≡ STOPPED → (self.new.session ≡ self.old.session) × (self.new.text.items ≡ []) }
         ensures ends { (result ≡ DONE) ⊎ ((result ≡ NO_MEMORY) ⊎ (result ≡ STOPPED)) }
     {

@@ -84,7 +84,7 @@ pub extern "C" fn desk_c_say(
 ) -> u32
     ensures says { result ≡ DONE → Both (Says line.now) desk.old.handle.value desk.new.handle.value }
     ensures front { result ≡ NO_MEMORY → Both (IsCutOff line.now) desk.old.handle.value desk.new.handle.value }
-    ensures stopped { result ≡ STOPPED ↔ Holds (λ kept. ((standing_of kept).stopped ≡ true) ⊎ (kept.session.live.line ≡ 2 ^ 64 - 1)) desk.old.handle.value }
+    ensures stopped { result ≡ STOPPED ↔ Holds (λ kept. ((standing_of kept).stopped ≡ true) ⊎ (kept.session.beside.line ≡ 2 ^ 64 - 1)) desk.old.handle.value }
     ensures same { result ≡ STOPPED → Both (λ old new. (new.session ≡ old.session) × (new.text.items ≡ [])) desk.old.handle.value desk.new.handle.value }
     ensures closed { (result ≡ CLOSED) ↔ (desk.old.handle.value ≡ None) }
     ensures empty { result ≡ CLOSED → desk.new.handle.value ≡ None }

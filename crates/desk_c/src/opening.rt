@@ -4,6 +4,7 @@ ghost use Rattle.desk_plan.specs.Refusals.{market_status, script_status};
 ghost use Rattle.desk_plan.specs.Status.{code_of, words_of};
 ghost use Rattle.desk_plan.specs.declared.status.Status.TheVariants.{NoMemory};
 ghost use Rattle.live_model.specs.Log.{done};
+ghost use Rattle.pricing_session.specs.Speaking.{as_live};
 ghost use Rattle.session_model.specs.Rounds.{transcript};
 ghost use Rattle.session_model.specs.Standing.{IsKnown};
 ghost use Rattle.desk_c.specs.Calls.{laid, order_in, ordered};
@@ -103,11 +104,11 @@ fn played(
     session: LiveSession<Order, DeskBench>,
     commands: &[Command],
 ) -> Result<Box<Kept>, Status>
-    requires running { session.live.running.standing.stopped ≡ false }
-    requires known { All (IsKnown session.live.running.standing) commands.now }
-    ensures live { IfOk result (λ kept. kept.value.session.live
-        ≡ record session.live { running = done ordered session.live.running commands.now }) }
-    ensures text { IfOk result (λ kept. kept.value.text.items ≡ transcript ordered session.live.running commands.now) }
+    requires running { session.running.standing.stopped ≡ false }
+    requires known { All (IsKnown session.running.standing) commands.now }
+    ensures live { IfOk result (λ kept. as_live kept.value.session
+        ≡ record (as_live session) { running = done ordered session.running commands.now }) }
+    ensures text { IfOk result (λ kept. kept.value.text.items ≡ transcript ordered session.running commands.now) }
     ensures memory { IfErr result (λ status. status ≡ NoMemory) }
 {
     let mut kept = Kept {

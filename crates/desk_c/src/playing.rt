@@ -2,6 +2,7 @@
 ghost use Rattle.std.specs.Prelude.{◌≡◌, ◌++◌, false, All, IfErr, OnOk};
 ghost use Rattle.live_model.specs.Log.{done};
 ghost use Rattle.pricing_session.specs.declared.fault.StepFault.TheVariants.{NoMemory};
+ghost use Rattle.pricing_session.specs.Speaking.{as_live};
 ghost use Rattle.session_model.specs.Rounds.{transcript};
 ghost use Rattle.session_model.specs.Standing.{IsKnown};
 ghost use Rattle.desk_c.specs.Calls.{ordered};
@@ -17,10 +18,10 @@ pub(crate) fn play_all(
     commands: &[Command],
     text: &mut Vec<u8>,
 ) -> Result<(), StepFault>
-    requires running { session.old.live.running.standing.stopped ≡ false }
-    requires known { All (IsKnown session.old.live.running.standing) commands.now }
-    ensures plays { OnOk result (session.new.live ≡ record session.old.live { running = done ordered session.old.live.running commands.now }) }
-    ensures text { OnOk result (text.new.items ≡ text.old.items ++ transcript ordered session.old.live.running commands.now) }
+    requires running { session.old.running.standing.stopped ≡ false }
+    requires known { All (IsKnown session.old.running.standing) commands.now }
+    ensures plays { OnOk result (as_live session.new ≡ record (as_live session.old) { running = done ordered session.old.running commands.now }) }
+    ensures text { OnOk result (text.new.items ≡ text.old.items ++ transcript ordered session.old.running commands.now) }
     ensures memory { IfErr result (λ fault. fault ≡ NoMemory) }
 {
     for command in commands {

@@ -1,4 +1,5 @@
 pub mod Asking
+pub mod Beside
 pub mod Finding
 pub mod Making
 pub mod Opening

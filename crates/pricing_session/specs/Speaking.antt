@@ -10,11 +10,12 @@ use Rattle.session_model.specs.Course.{running}
 use Rattle.session_model.specs.Standing.{start_with}
 use Rattle.live_model.specs.Live.{Live, live_from}
 use Rattle.live_model.specs.Log.{scripted}
+use Rattle.live_session.specs.Lines.{Lines, live_of}
+use Rattle.pricing_session.specs.Pricing.{Pricing}
 
--- the session, and the bench by which it prices
-pub record Speaking (P B : Type 0) : Type 0 where
-  pub live : Live P
-  pub bench : B
+-- the session with what was said to it
+abbrev pub as_live : {P B : Type 0} → Pricing P B Lines → Live P
+as_live s = live_of s.running s.beside
 
 -- the session of a market's objects, to which nothing was said yet
 abbrev pub live_market : {P : Type 0} → P → List (List ℕ) → ℤ → List (ℕ × Terms) → Live P

@@ -9,7 +9,7 @@ ghost use Rattle.pricing_session.specs.declared.fault.AskFault.TheVariants as as
 ghost use Rattle.pricing_session.specs.Asking.{IsAnswered, IsCutShort};
 ghost use Rattle.pricing_session.specs.Worth.{worth_in};
 
-use crate::{AskFault, PricingSession};
+use crate::{AskFault, BenchSession, Beside};
 use desk_names::NameId;
 use desk_terms::{Asked, Bench, Cause, Mark, Value};
 use fixed_amount::Amount;
@@ -35,7 +35,7 @@ pub struct Answer {
     pub runs: u64,
 }
 
-impl<P: Picker + Drop, B: Bench + Drop> PricingSession<P, B> {
+impl<P: Picker + Drop, B: Bench + Drop, L: Beside<P> + Drop> BenchSession<P, B, L> {
     /// Asks the live lazy object that has a name, as `ask` does, and answers its worth with the rest.
     pub fn answer(&mut self, name: NameId) -> Result<Answer, AskFault>
         ensures answers { IfOk result (λ answer. IsAnswered (B.calc self.old.bench) name self.old.running.standing self.new.running.standing
@@ -48,6 +48,7 @@ impl<P: Picker + Drop, B: Bench + Drop> PricingSession<P, B> {
         ensures names { self.new.running.standing.names ≡ self.old.running.standing.names }
         ensures actions { self.new.running.standing.actions ≡ self.old.running.standing.actions }
         ensures calc { B.calc self.new.bench ≡ B.calc self.old.bench }
+        ensures beside { self.new.beside ≡ self.old.beside }
     {
         match self.ask(name) {
             Ok(asked) => Ok(Answer {

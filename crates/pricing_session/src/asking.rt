@@ -1,5 +1,5 @@
 // Asks by number.
-ghost use Rattle.std.specs.Prelude.{◌≡◌, Ok, Err, IfOk, OnOk, option_copied};
+ghost use Rattle.std.specs.Prelude.{◌≡◌, Ok, Err, OnOk, option_copied};
 ghost use Rattle.desk_model.specs.Sound.{IsSound};
 ghost use Rattle.desk_terms.specs.Asked.{Shows};
 ghost use Rattle.desk_terms.specs.Reading.{Outcome};
@@ -10,7 +10,7 @@ ghost use Rattle.pricing_session.specs.declared.fault.AskFault.TheVariants as as
 ghost use Rattle.pricing_session.specs.declared.fault.PriceFault.TheVariants as price;
 ghost use Rattle.pricing_session.specs.Asking.{AnswersAsk, AnswersPrice, price_in};
 
-use crate::{AskFault, PriceFault, PricingSession};
+use crate::{AskFault, BenchSession, Beside, PriceFault};
 use desk_names::NameId;
 use desk_terms::{Asked, Bench, Value};
 use fixed_amount::Amount;
@@ -18,7 +18,7 @@ use session_rounds::WatchedSession;
 use std::alloc::AllocError;
 use watch_rounds::Picker;
 
-impl<P: Picker + Drop, B: Bench + Drop> PricingSession<P, B> {
+impl<P: Picker + Drop, B: Bench + Drop, L: Beside<P> + Drop> BenchSession<P, B, L> {
     /// Asks the live lazy object that has a name, and answers its mark, its cause where it has no value, and how many
     /// times the bench was called; its value is then `value(name)`. It computes only what it uses and has no current
     /// value. No watcher runs and no line is written. A session that is stopped answers still.
@@ -32,6 +32,7 @@ impl<P: Picker + Drop, B: Bench + Drop> PricingSession<P, B> {
         ensures names { self.new.running.standing.names ≡ self.old.running.standing.names }
         ensures actions { self.new.running.standing.actions ≡ self.old.running.standing.actions }
         ensures calc { B.calc self.new.bench ≡ B.calc self.old.bench }
+        ensures beside { self.new.beside ≡ self.old.beside }
         ensures same { (refusal : Refusal) → result ≡ Err (ask.Refused refusal) → self.new ≡ self.old }
     {
         asked(&mut self.session, &mut self.bench, name)
@@ -46,6 +47,7 @@ impl<P: Picker + Drop, B: Bench + Drop> PricingSession<P, B> {
         ensures names { self.new.running.standing.names ≡ self.old.running.standing.names }
         ensures actions { self.new.running.standing.actions ≡ self.old.running.standing.actions }
         ensures calc { B.calc self.new.bench ≡ B.calc self.old.bench }
+        ensures beside { self.new.beside ≡ self.old.beside }
         ensures same { (refusal : Refusal) → result ≡ Err (price.Refused refusal) → self.new ≡ self.old }
     {
         match self.ask(name) {
@@ -74,7 +76,7 @@ fn asked<P: Picker + Drop, B: Bench + Drop>(
     ensures sound { IsSound (B.calc bench.old) session.new.standing.state }
     ensures same { (refusal : Refusal) → result ≡ Err (ask.Refused refusal) → (session.new ≡ session.old) × (bench.new ≡ bench.old) }
 {
-    match session.session().priced(name) {
+    match session.priced(name) {
         Ok(object) => match session.ask(object, bench) {
             Ok(answer) => Ok(answer),
             Err(AllocError) => Err(AskFault::NoMemory),

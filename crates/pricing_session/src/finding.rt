@@ -3,18 +3,18 @@ ghost use Rattle.std.specs.Prelude.{◌≡◌, option_copied};
 ghost use Rattle.session_model.specs.Standing.{object_named};
 ghost use Rattle.pricing_session.specs.Finding.{value_by};
 
-use crate::PricingSession;
+use crate::{BenchSession, Beside};
 use desk_names::{NameId, ObjId};
 use desk_terms::{Bench, Value};
 use session_core::Session;
 use watch_rounds::Picker;
 
-impl<P: Picker + Drop, B: Bench + Drop> PricingSession<P, B> {
+impl<P: Picker + Drop, B: Bench + Drop, L: Beside<P> + Drop> BenchSession<P, B, L> {
     /// The live object that has a name, by the number that terms name it by. It takes no memory.
     pub fn object(&self, name: NameId) -> Option<ObjId>
         ensures { result ≡ object_named self.now.running.standing name }
     {
-        object_in(self.session.session(), name)
+        object_in(&self.session, name)
     }
 
     /// The last value of the live lazy object that has a text as its name; none where the text is no name of the session,

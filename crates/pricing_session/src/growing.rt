@@ -12,7 +12,7 @@ ghost use Rattle.pricing_session.specs.Taking.{LacksBlock};
 
 use crate::known::is_known;
 use crate::serving::are_served;
-use crate::{BlockFault, ObjectFault, PricingSession};
+use crate::{BenchSession, Beside, BlockFault, ObjectFault, PricingSession};
 use desk_names::{NameFault, NameId, ObjId};
 use desk_terms::{Bench, Terms};
 use instrument_terms::are_in_range;
@@ -21,37 +21,20 @@ use session_core::{ActionFault, MOST_ACTIONS, MakeFault};
 use watch_rounds::Picker;
 
 impl<P: Picker + Drop, B: Bench + Drop> PricingSession<P, B> {
-    /// The number of a name, which is added behind the others where it is new: no object has it then, no watcher of it has
-    /// an action. A name that is known keeps its number, and takes no memory.
-    ///
-    /// `Form` where the text is no name, `Full` where it is new and the session has as many names as may be. A session that
-    /// is stopped takes names still.
-    pub fn intern(&mut self, text: &[u8]) -> Result<NameId, NameFault>
-        ensures place { IfOk result (λ name. name ≡ place_of self.old.running.standing.names text.now) }
-        ensures kept { OnOk result (self.new ≡ record self.old { running = interned_in text.now self.old.running }) }
-        ensures same { OnErr result (self.new ≡ self.old) }
-        ensures known { has_text self.old.running.standing.names text.now ≡ true → IsOk result }
-        ensures form { IsErrOf result NameFault.Form ↔ (is_name text.now ≡ false) }
-        ensures full { IsErrOf result NameFault.Full ↔ (IsName text.now
-            × (length self.old.running.standing.names ≡ most_names)
-            × (has_text self.old.running.standing.names text.now ≡ false)) }
-    {
-        self.session.intern(text)
-    }
-
     /// Adds an action of these commands behind the others, and answers its number. The commands may name the action itself.
     /// A session that is stopped takes actions still.
     pub fn add_action(&mut self, block: CommandList) -> Result<ActionId, BlockFault>
         ensures number { IfOk result (λ action. action ≡ length self.old.running.standing.actions) }
         ensures added { OnOk result (self.new ≡ record self.old {
           running = record self.old.running { standing = with_action block self.old.running.standing };
+          beside = self.new.beside;
         }) }
         ensures same { OnErr result (self.new ≡ self.old) }
         // It is not tried in these cases exactly.
         ensures full { IsErrOf result BlockFault.Full ↔ (MOST_ACTIONS ≤ length self.old.running.standing.actions) }
         ensures unknown { IsErrOf result BlockFault.Unknown ↔ LacksBlock self.old.running.standing block }
     {
-        let actions = self.actions;
+        let actions = self.beside.actions;
         if actions >= MOST_ACTIONS {
             return Err(BlockFault::Full);
         }
@@ -60,13 +43,37 @@ impl<P: Picker + Drop, B: Bench + Drop> PricingSession<P, B> {
         }
         match self.session.add_action(block) {
             Ok(action) => {
-                self.actions = actions + 1;
+                self.beside.actions = actions + 1;
                 Ok(action)
             }
             Err(ActionFault::NoMemory) => Err(BlockFault::NoMemory),
             // There is room.
             Err(ActionFault::Full) => unreachable!(),
         }
+    }
+}
+
+impl<P: Picker + Drop, B: Bench + Drop, L: Beside<P> + Drop> BenchSession<P, B, L> {
+    /// The number of a name, which is added behind the others where it is new: no object has it then, no watcher of it has
+    /// an action. A name that is known keeps its number, and takes no memory.
+    ///
+    /// `Form` where the text is no name, `Full` where it is new and the session has as many names as may be. A session that
+    /// is stopped takes names still.
+    pub fn intern(&mut self, text: &[u8]) -> Result<NameId, NameFault>
+        ensures place { IfOk result (λ name. name ≡ place_of self.old.running.standing.names text.now) }
+        ensures kept { OnOk result (self.new ≡ record self.old {
+          running = interned_in text.now self.old.running;
+          beside = self.new.beside;
+        }) }
+        ensures beside { OnOk result (L.keeps self.old.beside self.new.beside) }
+        ensures same { OnErr result (self.new ≡ self.old) }
+        ensures known { has_text self.old.running.standing.names text.now ≡ true → IsOk result }
+        ensures form { IsErrOf result NameFault.Form ↔ (is_name text.now ≡ false) }
+        ensures full { IsErrOf result NameFault.Full ↔ (IsName text.now
+            × (length self.old.running.standing.names ≡ most_names)
+            × (has_text self.old.running.standing.names text.now ≡ false)) }
+    {
+        self.beside.intern(&mut self.session, text)
     }
 
     /// Makes an object that has this name and these terms, and answers its number: how many numbers were given before.
@@ -94,7 +101,7 @@ impl<P: Picker + Drop, B: Bench + Drop> PricingSession<P, B> {
         ensures fault { IfSome result (IsUnmade self.now.running.standing name terms.now) }
         ensures none { IfNone result (MayTry self.now.running.standing name terms.now) }
     {
-        if self.session.is_stopped() {
+        if self.is_stopped() {
             return Some(ObjectFault::Stopped);
         }
         if name.0 >= self.names().len() {
@@ -103,7 +110,7 @@ impl<P: Picker + Drop, B: Bench + Drop> PricingSession<P, B> {
         if !are_in_range(terms) {
             return Some(ObjectFault::Limits);
         }
-        if !are_served(self.session.session().desk(), terms) {
+        if !are_served(self.desk(), terms) {
             return Some(ObjectFault::Inputs);
         }
         None

@@ -6,10 +6,10 @@ ghost use Rattle.session_model.specs.Standing.{IsKnown};
 ghost use Rattle.session_rounds.specs.Goes.{Halts};
 ghost use Rattle.live_model.specs.Live.{said};
 ghost use Rattle.live_session.specs.Saying.{IsSaid, as_course, IsCutShort};
-ghost use Rattle.pricing_session.specs.Speaking.{live_market, live_opened};
+ghost use Rattle.pricing_session.specs.Speaking.{as_live, live_market, live_opened};
 
 use crate::opening::read;
-use crate::{NamedMarket, PricingSession};
+use crate::{LiveSession, NamedMarket};
 use desk_names::Names;
 use desk_terms::Bench;
 use live_session::{Lines, SayFault, texts_of};
@@ -17,36 +17,7 @@ use market_session::watched_session;
 use session_commands::{Actions, CommandList};
 use session_lang::ScriptFault;
 use std::alloc::{AllocError, Global};
-use std::marker::Model;
 use watch_rounds::Picker;
-
-/// A session that is spoken to line by line, with the bench by which it prices: it makes objects and actions by what is said
-/// to it, and answers also by number. What is stored in it was computed by its bench.
-pub struct LiveSession<P: Picker + Drop, B: Bench + Drop> {
-    pub(crate) session: PricingSession<P, B>,
-    pub(crate) lines: Lines,
-}
-
-// Who lets a session go calls this at each exit, and does not let its parts go one by one.
-impl<P: Picker + Drop, B: Bench + Drop> Drop for LiveSession<P, B> {
-    fn drop(self) {
-        let LiveSession {
-            session: _,
-            lines: _,
-        } = self;
-    }
-}
-
-impl<P: Picker + Drop, B: Bench + Drop> Model for LiveSession<P, B> {
-    ghost use Rattle.live_session.specs.Lines.{live_of, StandBy};
-    ghost use Rattle.pricing_session.specs.Speaking.{Speaking};
-
-    ghost Value = { Speaking P B };
-
-    ghost view = { λ s. record { live = live_of s.session.running s.lines; bench = s.session.bench } };
-
-    ghost invariant = { λ s. StandBy P s.session.running s.lines };
-}
 
 impl<P: Picker + Drop, B: Bench + Drop> LiveSession<P, B> {
     /// The session of a market's objects, as `read_market` gives them, to which nothing was said yet. It has no actions.
@@ -58,20 +29,18 @@ impl<P: Picker + Drop, B: Bench + Drop> LiveSession<P, B> {
         bench: B,
     ) -> Result<LiveSession<P, B>, AllocError>
         requires ready { IsReady market.names market.made.items }
-        ensures begins { IfOk result (λ begun. begun.live
+        ensures begins { IfOk result (λ begun. as_live begun
             ≡ live_market picker market.names market.today market.made.items) }
-        ensures running { IfOk result (λ begun. begun.live.running.standing.stopped ≡ false) }
+        ensures running { IfOk result (λ begun. begun.running.standing.stopped ≡ false) }
         ensures bench { IfOk result (λ begun. begun.bench ≡ bench) }
     {
         let NamedMarket { names, today, made } = market;
         let session = watched_session(alloc, names, today, made, Actions::new(alloc), picker)?;
-        let session = PricingSession {
+        Ok(LiveSession {
             session,
             bench,
-            actions: 0,
-        };
-        let lines = Lines::new(alloc, Names::new(alloc));
-        Ok(LiveSession { session, lines })
+            beside: Lines::new(alloc, Names::new(alloc)),
+        })
     }
 
     /// The session of a market's objects behind a script, to which nothing was said yet, and the commands of the script
@@ -85,11 +54,11 @@ impl<P: Picker + Drop, B: Bench + Drop> LiveSession<P, B> {
         bench: B,
     ) -> Result<(LiveSession<P, B>, CommandList), ScriptFault>
         requires ready { IsReady market.names market.made.items }
-        ensures opens { GivesAt (λ begun. (begun.0.live, begun.1)) result
+        ensures opens { GivesAt (λ begun. (as_live begun.0, begun.1)) result
             (live_opened picker market.names market.today market.made.items script.now) }
         // It goes on, and knows each of these commands.
-        ensures running { IfOk result (λ begun. begun.0.live.running.standing.stopped ≡ false) }
-        ensures known { IfOk result (λ begun. All (IsKnown begun.0.live.running.standing) begun.1) }
+        ensures running { IfOk result (λ begun. begun.0.running.standing.stopped ≡ false) }
+        ensures known { IfOk result (λ begun. All (IsKnown begun.0.running.standing) begun.1) }
         ensures bench { IfOk result (λ begun. begun.0.bench ≡ bench) }
     {
         let NamedMarket {
@@ -99,53 +68,53 @@ impl<P: Picker + Drop, B: Bench + Drop> LiveSession<P, B> {
         } = market;
         let script = read(alloc, script, &mut names)?;
         let begun = texts_of(alloc, &names, script.action_names.items())?;
-        let actions = script.actions.len();
         let session = watched_session(alloc, names, today, made, script.actions, picker)?;
-        let session = PricingSession {
+        let session = LiveSession {
             session,
             bench,
-            actions,
+            beside: Lines::new(alloc, begun),
         };
-        let lines = Lines::new(alloc, begun);
-        Ok((LiveSession { session, lines }, script.commands))
+        Ok((session, script.commands))
     }
 
     /// What a line says is done, and what it writes is appended: the lines of its round, or that of its fault, which changes
     /// nothing else. `line` is without what ends it. Of one that is longer than 65,536 bytes, any front that is longer says
     /// the same. Lines are counted from 1.
     pub fn say(&mut self, line: &[u8], out: &mut Vec<u8>) -> Result<(), SayFault>
-        ensures says { OnOk result (IsSaid P (said (record { calc = B.calc self.old.bench; at = P.at; after = P.after }) self.old.live line.now)
-            self.new.live (record { lines = out.old.items; count = B.count self.old.bench; log = B.log self.old.bench })
+        ensures says { OnOk result (IsSaid P (said (record { calc = B.calc self.old.bench; at = P.at; after = P.after }) (as_live self.old) line.now)
+            (as_live self.new) (record { lines = out.old.items; count = B.count self.old.bench; log = B.log self.old.bench })
             (record { lines = out.new.items; count = B.count self.new.bench; log = B.log self.new.bench })) }
         ensures calc { B.calc self.new.bench ≡ B.calc self.old.bench }
-        ensures runs { OnOk result (self.new.live.running.standing.stopped ≡ false) }
+        ensures runs { OnOk result (self.new.running.standing.stopped ≡ false) }
         // After want of memory the line is not counted, and a front of what it writes was appended.
-        ensures halts { IsErrOf result SayFault.NoMemory → Halts P (as_course (said (record { calc = B.calc self.old.bench; at = P.at; after = P.after }) self.old.live line.now))
+        ensures halts { IsErrOf result SayFault.NoMemory → Halts P (as_course (said (record { calc = B.calc self.old.bench; at = P.at; after = P.after }) (as_live self.old) line.now))
             (record { lines = out.old.items; count = B.count self.old.bench; log = B.log self.old.bench })
             (record { lines = out.new.items; count = B.count self.new.bench; log = B.log self.new.bench }) }
-        ensures cut { IsErrOf result SayFault.NoMemory → IsCutShort P line.now self.old.live self.new.live }
+        ensures cut { IsErrOf result SayFault.NoMemory → IsCutShort P line.now (as_live self.old) (as_live self.new) }
         // It is not tried in these cases exactly, and then changes nothing.
-        ensures stopped { IsErrOf result SayFault.Stopped ↔ (self.old.live.running.standing.stopped ≡ true) }
+        ensures stopped { IsErrOf result SayFault.Stopped ↔ (self.old.running.standing.stopped ≡ true) }
         ensures many { IsErrOf result SayFault.TooManyLines
-            ↔ ((self.old.live.running.standing.stopped ≡ false) × (self.old.live.line ≡ 2 ^ 64 - 1)) }
+            ↔ ((self.old.running.standing.stopped ≡ false) × (self.old.beside.line ≡ 2 ^ 64 - 1)) }
         ensures same { IsErrOf result SayFault.Stopped ⊎ IsErrOf result SayFault.TooManyLines
             → (self.new ≡ self.old) × (out.new.items ≡ out.old.items) }
     {
-        self.session.say(&mut self.lines, line, out)
+        let mut words = self.beside.words();
+        self.beside
+            .say(&mut self.session, line, &mut words, &mut self.bench, out)
     }
 
     /// How many lines were said.
     pub fn count(&self) -> u64
-        ensures { result ≡ self.now.live.line }
+        ensures { result ≡ self.now.beside.line }
     {
-        self.lines.count()
+        self.beside.count()
     }
 
     /// The line at which the block began that stands open, if one does, counted from 1.
     pub fn open_block(&self) -> Option<u64>
-        ensures none { (result ≡ None) ↔ (self.now.live.block ≡ None) }
-        ensures line { IfSome result (λ line. IfSome self.now.live.block (λ block. line ≡ block.line)) }
+        ensures none { (result ≡ None) ↔ (self.now.beside.block ≡ None) }
+        ensures line { IfSome result (λ line. IfSome self.now.beside.block (λ block. line ≡ block.line)) }
     {
-        self.lines.open_block()
+        self.beside.open_block()
     }
 }

@@ -10,10 +10,12 @@ ghost use Rattle.session_lang.specs.Reading.{script_meaning};
 ghost use Rattle.session_model.specs.Standing.{IsKnown};
 ghost use Rattle.pricing_session.specs.Opening.{opened};
 
+use crate::{ActionCount, PricingSession};
 use day_number::Day;
 use desk_names::Names;
+use desk_terms::Bench;
 use market_file::MadeList;
-use market_session::begun;
+use market_session::{begun, watched_session};
 use session_commands::{CommandList, Script};
 use session_lang::{ScriptFault, read_script};
 use session_rounds::WatchedSession;
@@ -55,6 +57,41 @@ pub fn session_for<P: Picker + Drop>(
     let script = read(alloc, text, &mut names)?;
     let begun = begun(alloc, names, today, made, script, picker)?;
     Ok(begun)
+}
+
+impl<P: Picker + Drop, B: Bench + Drop> PricingSession<P, B> {
+    /// The session of a market's objects, as `read_market` gives them, that is ready for a script, and the commands of the
+    /// script outside of its blocks, none of which is done yet. The names are those of the market and of the script, the
+    /// actions those of the script's blocks. A text that is no script gives its first fault.
+    pub fn open(
+        alloc: Global,
+        market: NamedMarket,
+        script: &[u8],
+        picker: P,
+        bench: B,
+    ) -> Result<(PricingSession<P, B>, CommandList), ScriptFault>
+        requires ready { IsReady market.names market.made.items }
+        ensures opens { GivesAt (λ begun. (begun.0.running, begun.1)) result
+            (opened picker market.names market.today market.made.items script.now) }
+        ensures bench { IfOk result (λ begun. begun.0.bench ≡ bench) }
+    {
+        let NamedMarket {
+            mut names,
+            today,
+            made,
+        } = market;
+        let script = read(alloc, script, &mut names)?;
+        let beside = ActionCount {
+            actions: script.actions.len(),
+        };
+        let session = watched_session(alloc, names, today, made, script.actions, picker)?;
+        let session = PricingSession {
+            session,
+            bench,
+            beside,
+        };
+        Ok((session, script.commands))
+    }
 }
 
 // The script of a text, whole.

@@ -1,110 +1,85 @@
 // A session with its bench.
-ghost use Rattle.std.specs.Prelude.{◌≡◌, ◌⊎◌, ◌↔◌, true, false, option_copied, slice_get, None, Some, is_err, IfOk, IfSome, OnOk, OnErr, IsErrOf, IsOk, IsTrue};
+ghost use Rattle.std.specs.Prelude.{◌≡◌, ◌⊎◌, ◌↔◌, true, false, None, IfOk, IfSome, OnOk, OnErr, IsErrOf, IsOk, IsTrue};
 ghost use Rattle.std.specs.Result.{result_err};
 ghost use Rattle.desk_names.specs.Names.{has_text, place_of};
 ghost use Rattle.desk_terms.specs.Reading.{Calc};
-ghost use Rattle.market_file.specs.Standing.{IsReady};
-ghost use Rattle.session_core.specs.Values.{value_of, is_current_of, held_of};
-ghost use Rattle.session_lang.specs.Given.{GivesAt};
+ghost use Rattle.session_core.specs.Values.{held_of};
 ghost use Rattle.session_model.specs.Course.{taken, round_of, opened as begun};
 ghost use Rattle.session_model.specs.Resolve.{resolve};
 ghost use Rattle.session_model.specs.Standing.{IsKnown};
 ghost use Rattle.session_model.specs.Turn.{turn};
 ghost use Rattle.session_rounds.specs.Goes.{Does, Halts, Stays, HasEnded};
 ghost use Rattle.session_rounds.specs.Quiet.{IsQuiet};
-ghost use Rattle.pricing_session.specs.Opening.{opened};
 ghost use Rattle.pricing_session.specs.Taking.{Takes, Misses, LeavesToAStep};
 
 use crate::known::is_known;
-use crate::opening::{NamedMarket, read};
-use crate::{ChangeFault, StepFault};
-use desk_names::{NameId, Names};
-use desk_terms::{Asked, Bench, Value};
-use market_session::watched_session;
-use session_commands::{Command, CommandList, Refusal};
-use session_lang::ScriptFault;
+use crate::{ActionCount, Beside, ChangeFault, StepFault};
+use desk_names::NameId;
+use desk_terms::{Asked, Bench};
+use live_session::Lines;
+use session_commands::{Command, Refusal};
 use session_model::is_quiet;
 use session_rounds::WatchedSession;
-use std::alloc::{AllocError, Global};
+use std::alloc::AllocError;
 use std::marker::Model;
+use std::ops::Deref;
 use watch_rounds::Picker;
 
-/// A session with the bench by which it prices. What is stored in it was computed by that bench.
-pub struct PricingSession<P: Picker + Drop, B: Bench + Drop> {
+/// A session with the bench by which it prices, and what stands beside it. What is stored in it was computed by that bench.
+pub struct BenchSession<P: Picker + Drop, B: Bench + Drop, L: Beside<P> + Drop> {
     pub(crate) session: WatchedSession<P>,
     pub(crate) bench: B,
-    pub(crate) actions: usize,
+    pub(crate) beside: L,
 }
 
+/// A session with the bench by which it prices, to which actions are added.
+pub type PricingSession<P, B> = BenchSession<P, B, ActionCount>;
+
+/// A session that is spoken to line by line, with the bench by which it prices: it makes objects and actions by what is said
+/// to it, and answers also by number.
+pub type LiveSession<P, B> = BenchSession<P, B, Lines>;
+
 // Who lets a session go calls this at each exit, and does not let its parts go one by one.
-impl<P: Picker + Drop, B: Bench + Drop> Drop for PricingSession<P, B> {
+impl<P: Picker + Drop, B: Bench + Drop, L: Beside<P> + Drop> Drop for BenchSession<P, B, L> {
     fn drop(self) {
-        let PricingSession {
+        let BenchSession {
             session: _,
             bench: _,
-            actions: _,
+            beside: _,
         } = self;
     }
 }
 
-impl<P: Picker + Drop, B: Bench + Drop> Model for PricingSession<P, B> {
-    ghost use Rattle.std.specs.Prelude.{◌≡◌, length};
+impl<P: Picker + Drop, B: Bench + Drop, L: Beside<P> + Drop> Model for BenchSession<P, B, L> {
     ghost use Rattle.desk_model.specs.Sound.{IsSound};
     ghost use Rattle.pricing_session.specs.Pricing.{Pricing};
 
-    ghost Value = { Pricing P B };
+    ghost Value = { Pricing P B L };
 
-    ghost view = { λ s. record { running = s.session; bench = s.bench } };
+    ghost view = { λ s. record { running = s.session; bench = s.bench; beside = s.beside } };
 
-    ghost invariant = { λ s. IsSound (B.calc s.bench) s.session.standing.state
-        × (s.actions ≡ length s.session.standing.actions) };
+    ghost invariant = { λ s. IsSound (B.calc s.bench) s.session.standing.state × L.stands s.session s.beside };
 }
 
-impl<P: Picker + Drop, B: Bench + Drop> PricingSession<P, B> {
-    /// The session of a market's objects, as `read_market` gives them, that is ready for a script, and the commands of the
-    /// script outside of its blocks, none of which is done yet. The names are those of the market and of the script, the
-    /// actions those of the script's blocks. A text that is no script gives its first fault.
-    pub fn open(
-        alloc: Global,
-        market: NamedMarket,
-        script: &[u8],
-        picker: P,
-        bench: B,
-    ) -> Result<(PricingSession<P, B>, CommandList), ScriptFault>
-        requires ready { IsReady market.names market.made.items }
-        ensures opens { GivesAt (λ begun. (begun.0.running, begun.1)) result
-            (opened picker market.names market.today market.made.items script.now) }
-        ensures bench { IfOk result (λ begun. begun.0.bench ≡ bench) }
-    {
-        let NamedMarket {
-            mut names,
-            today,
-            made,
-        } = market;
-        let script = read(alloc, script, &mut names)?;
-        let actions = script.actions.len();
-        let session = watched_session(alloc, names, today, made, script.actions, picker)?;
-        let session = PricingSession {
-            session,
-            bench,
-            actions,
-        };
-        Ok((session, script.commands))
-    }
+// What is read of its session is read of it.
+impl<P: Picker + Drop, B: Bench + Drop, L: Beside<P> + Drop> Deref for BenchSession<P, B, L> {
+    type Target = WatchedSession<P>;
 
-    /// Whether an earlier step found no memory. A stopped session takes no further command.
-    pub fn is_stopped(&self) -> bool
-        ensures { result ≡ self.now.running.standing.stopped }
+    fn deref(&self) -> &WatchedSession<P>
+        ensures { result.now ≡ self.now.running }
     {
-        self.session.is_stopped()
+        &self.session
     }
+}
 
+impl<P: Picker + Drop, B: Bench + Drop, L: Beside<P> + Drop> BenchSession<P, B, L> {
     /// Whether the session knows a command: its names and actions are among those of the session, and its numbers are
     /// within their limits.
     pub fn knows(&self, command: &Command) -> bool
         ensures { IsTrue result ↔ IsKnown self.now.running.standing command.now }
     {
-        is_known(self.session.session().names().len(), self.actions, command)
+        let actions = self.beside.actions(&self.session);
+        is_known(self.names().len(), actions, command)
     }
 
     /// The number of a name, where the session has its text. It takes no memory.
@@ -112,29 +87,7 @@ impl<P: Picker + Drop, B: Bench + Drop> PricingSession<P, B> {
         ensures none { (result ≡ None) ↔ (has_text self.now.running.standing.names text.now ≡ false) }
         ensures place { IfSome result (λ name. name ≡ place_of self.now.running.standing.names text.now) }
     {
-        self.session.session().names().find(text)
-    }
-
-    /// Its names.
-    pub fn names(&self) -> &Names
-        ensures { result.now ≡ self.now.running.standing.names }
-    {
-        self.session.session().names()
-    }
-
-    /// The last value of the live lazy object that has a name; none where no such object has it, and where the object has
-    /// no value yet. It takes no memory.
-    pub fn value(&self, name: NameId) -> Option<&Value>
-        ensures { option_copied result ≡ value_of self.now.running.standing name }
-    {
-        self.session.session().value(name)
-    }
-
-    /// Whether that value is current: nothing that it was computed from has changed since. It takes no memory.
-    pub fn is_current(&self, name: NameId) -> bool
-        ensures { result ≡ is_current_of self.now.running.standing name }
-    {
-        self.session.session().is_current(name)
+        self.names().find(text)
     }
 
     /// What an ask of the live lazy object that has a name answers where the object is frozen, late or current: its last
@@ -165,7 +118,7 @@ impl<P: Picker + Drop, B: Bench + Drop> PricingSession<P, B> {
         ensures unknown { IsErrOf result ChangeFault.Unknown ↔ Misses self.old.running.standing command.now }
         ensures not_quiet { IsErrOf result ChangeFault.NotQuiet ↔ LeavesToAStep self.old.running.standing command.now }
     {
-        if self.session.is_stopped() {
+        if self.is_stopped() {
             return Err(ChangeFault::Stopped);
         }
         if !self.knows(command) {
@@ -185,6 +138,7 @@ impl<P: Picker + Drop, B: Bench + Drop> PricingSession<P, B> {
         ensures halts { IsErrOf result StepFault.NoMemory → Halts P (round_of (record { calc = B.calc self.old.bench; at = P.at; after = P.after }) self.old.running command.now)
             (record { lines = lines.old.items; count = B.count self.old.bench; log = B.log self.old.bench }) (record { lines = lines.new.items; count = B.count self.new.bench; log = B.log self.new.bench }) }
         ensures calc { B.calc self.new.bench ≡ B.calc self.old.bench }
+        ensures beside { self.new.beside ≡ self.old.beside }
         ensures stops { IsErrOf result StepFault.NoMemory → self.new.running.standing.stopped ≡ true }
         ensures runs { OnOk result (self.new.running.standing.stopped ≡ false) }
         ensures ends { OnOk result (HasEnded self.new.running.round) }
@@ -200,7 +154,7 @@ impl<P: Picker + Drop, B: Bench + Drop> PricingSession<P, B> {
         ensures same { IsErrOf result StepFault.Stopped ⊎ IsErrOf result StepFault.Unknown
             → (self.new ≡ self.old) × (lines.new.items ≡ lines.old.items) }
     {
-        if self.session.is_stopped() {
+        if self.is_stopped() {
             return Err(StepFault::Stopped);
         }
         if !self.knows(command) {

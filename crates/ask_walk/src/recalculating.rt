@@ -38,7 +38,8 @@ impl Books {
         ensures empty { IsEmpty (length market.now.objects) self.new.scratch }
         ensures shape { self.new.store.shape ≡ self.old.store.shape }
     {
-        match self.store.late(object) {
+        let store = &mut self.store;
+        match store.deferral.late(object) {
             Some(source) => Ok(Recalced::Deferred(source)),
             None => {
                 let answer = self.rerun(market, object, bench);

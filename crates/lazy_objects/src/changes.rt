@@ -242,7 +242,8 @@ impl Desk {
         if self.books.store.has_pair(object, watcher) {
             return Ok(false);
         }
-        self.books.store.watch(object, watcher)?;
+        let store = &mut self.books.store;
+        store.deferral.graph.watch(object, watcher)?;
         Ok(true)
     }
 
@@ -256,7 +257,8 @@ impl Desk {
         ensures keeps { KeepsCurrent self.old self.new }
         ensures sound { (calc : Calc) → IsSound calc self.old → IsSound calc self.new }
     {
-        self.books.store.unwatch(object, watcher)
+        let store = &mut self.books.store;
+        store.deferral.graph.unwatch(object, watcher)
     }
 
     /// Freezes a lazy object: it answers its last value until it is thawed, and takes notices without passing them on
@@ -389,7 +391,8 @@ impl Desk {
         ensures answer { result ≡ least_source self.old object }
         ensures same { self.new ≡ self.old }
     {
-        self.books.store.late(object)
+        let store = &mut self.books.store;
+        store.deferral.late(object)
     }
 
     /// Whether an object is another, or lies above it: it names it, or an object above it.

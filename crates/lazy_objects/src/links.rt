@@ -69,7 +69,7 @@ pub fn unwatch_any(store: &mut Store, subject: Option<ObjId>, observer: ObjId)
 {
     match subject {
         None => return,
-        Some(object) => store.unwatch(object, observer),
+        Some(object) => store.deferral.graph.unwatch(object, observer),
     };
 }
 

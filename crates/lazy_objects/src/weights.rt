@@ -111,13 +111,11 @@ fn join(
 {
     let len = parts_of(objects, composite).len();
     objects.push_part(composite, Part { weight, member })?;
-    match store.watch(member, composite) {
-        Ok(()) => Ok(()),
-        Err(fault) => {
-            objects.keep_parts(composite, len);
-            Err(fault)
-        }
+    if let Err(fault) = store.deferral.graph.watch(member, composite) {
+        objects.keep_parts(composite, len);
+        return Err(fault);
     }
+    Ok(())
 }
 
 // A member is taken out of a composite, and is observed no more. After want of memory nothing is changed.
@@ -138,7 +136,7 @@ fn take_out(
     ensures unstored { OnErr result (store.new ≡ store.old) }
 {
     let rest = without_member(alloc, parts_of(objects, composite), member)?;
-    store.unwatch(member, composite);
+    store.deferral.graph.unwatch(member, composite);
     objects.replace(composite, Terms::Composite(rest));
     Ok(())
 }

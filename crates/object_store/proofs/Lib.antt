@@ -4,6 +4,7 @@ pub mod Indexes
 pub mod Joined
 pub mod Kept
 pub mod Lateness
+pub mod Lent
 pub mod Registered
 pub mod Rising
 pub mod Telling

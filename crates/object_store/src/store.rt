@@ -173,29 +173,6 @@ impl Store {
         self.deferral.changed(object);
     }
 
-    /// An object observes another too; no spare place is used. After want of memory nothing is changed.
-    pub fn watch(&mut self, subject: ObjId, observer: ObjId) -> Result<(), AllocError>
-        requires subject { is_some (role_at self.old.shape subject) ≡ true }
-        requires observer { is_some (role_at self.old.shape observer) ≡ true }
-        requires new { Among subject (observed_by self.old.shape observer) → ⊥ }
-        ensures joins { OnOk result (Joins self.old self.new subject observer) }
-        ensures same { OnErr result (self.new ≡ self.old) }
-        ensures spare { self.new.shape.spare ≡ self.old.shape.spare }
-    {
-        self.deferral.graph.watch(subject, observer)
-    }
-
-    /// An object does not observe another; whether it did, which leaves a spare place. It takes no memory.
-    pub fn unwatch(&mut self, subject: ObjId, observer: ObjId) -> bool
-        requires subject { is_some (role_at self.old.shape subject) ≡ true }
-        requires observer { is_some (role_at self.old.shape observer) ≡ true }
-        ensures was { IsTrue result ↔ Among subject (observed_by self.old.shape observer) }
-        ensures leaves { Leaves self.old self.new subject observer }
-        ensures spare { self.new.shape.spare ≡ self.old.shape.spare + (if result then 1 else 0) }
-    {
-        self.deferral.graph.unwatch(subject, observer)
-    }
-
     /// Whether an object is frozen.
     pub fn is_frozen(&self, object: ObjId) -> bool
         ensures { result ≡ (slice_index_or self.now.kept object unpriced).frozen }
@@ -211,16 +188,6 @@ impl Store {
         ensures { result ≡ is_at_hand self.now.kept object }
     {
         self.is_current(object) || self.is_frozen(object)
-    }
-
-    /// The least deferred source that makes an object late, if any does. It costs what lies beneath; nothing where no
-    /// object holds its notice back.
-    pub fn late(&mut self, object: ObjId) -> Option<ObjId>
-        requires { is_some (role_at self.old.shape object) ≡ true }
-        ensures answer { IsLeast (IsLateOf self.old object) result }
-        ensures same { self.new ≡ self.old }
-    {
-        self.deferral.late(object)
     }
 
     /// How an ask meets an object: the mark of its answer (frozen, late, held or fresh), and whether its value is current. It

@@ -4,6 +4,7 @@ use Rattle.desk_terms.specs.declared.terms.Part.{Part}
 use Rattle.desk_model.specs.declared.slot.Slot.{Slot}
 use Rattle.desk_model.specs.declared.slot.Slot.TheVariants.{Free}
 use Rattle.desk_model.specs.Market.{kind_in}
+use Rattle.object_store.proofs.Lent.{joins}
 use Rattle.lazy_objects.proofs.Weighed.{parts_at, parts_stand, kind_after, taken_back}
 use Rattle.lazy_objects.proofs.weights.join.Goals as goal
 
@@ -17,3 +18,6 @@ returns-in-Err-clause-same c =
     taken_back c.args.objects.now c.args.composite c.requires.composite c.push_part.new.self c.keep_parts.new.self _ _
     (c.in_ok-push_part.ensures.pushed (parts_at c.args.objects.now c.args.composite c.requires.composite) (parts_stand c.args.objects.now c.args.composite c.requires.composite))
     c.keep_parts.ensures (ap (λ (l : List Part). length l) c.parts_of-len.ensures)
+
+pub returns-clause-watched : goal.returns-clause-watched
+returns-clause-watched c = joins c.store.inside c.store.invariant c.args.store.now c.store.view_is c.watch.new.self c.args.member c.args.composite c.in_default.ensures.ok

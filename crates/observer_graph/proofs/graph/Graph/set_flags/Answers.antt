@@ -2,7 +2,7 @@ use Rattle.std.specs.Prelude.{slice_index_or, None}
 use Rattle.std.specs.VecDeque.{deque_capacity}
 use Rattle.observer_graph.specs.Change.{flagged}
 use Rattle.observer_graph.proofs.Numbers.{noticed_set, room_set}
-use Rattle.std.proofs.Common.{◌∙◌, ap, sym, subst, arith}
+use Rattle.std.proofs.Common.{◌∙◌, ap, refl, sym, subst, arith}
 use Rattle.edge_lists.specs.EdgesView.{subject_lists}
 use Rattle.observer_graph.specs.GraphView.{GraphView, IsLazy, node_at}
 use Rattle.observer_graph.specs.Walks.{graph_of}
@@ -46,3 +46,16 @@ invariant_of-self c =
       c.self.invariant.4,
       c.self.invariant.5,
     )
+
+pub returns : goal.returns
+returns c =
+    let lazy = subst (λ (v : GraphView). IsLazy (node_at v c.args.node)) (sym c.self.view_is) c.requires in
+    let low = live_within c.self.inside.nodes.items c.args.node
+    (is_live (graph_of c.self.inside.nodes.items (subject_lists c.self.inside.edges) c.self.inside.sources.marks) c.args.node lazy) in
+    rw (
+      ← c.self.view_is,
+      c.set_flags_of.ensures,
+      node_read c.self.inside.nodes.items c.place-2.result c.args.node c.index_mut.result.now
+          c.place-2.ensures low c.index_mut.ensures.value,
+      c.place-2.ensures,
+    ) refl

@@ -43,13 +43,16 @@ pub fn leads_by_turns(
     up.is_marked(from)
 }
 
-/// Finds room in an empty wave for so many nodes, where memory is not wanting.
-pub fn make_room(wave: &mut Wave, nodes: usize) -> Result<(), AllocError>
+/// Finds room in two empty waves for so many nodes, where memory is not wanting.
+pub fn make_room(down: &mut Wave, up: &mut Wave, nodes: usize) -> Result<(), AllocError>
     requires { nodes ≤ 65536 }
-    ensures free { (n : ℕ) → IsFree n wave.old → IsFree n wave.new }
-    ensures room { OnOk result ((n : ℕ) → IsFree n wave.old → IsFree nodes wave.new) }
+    ensures down { (n : ℕ) → IsFree n down.old → IsFree n down.new }
+    ensures up { (n : ℕ) → IsFree n up.old → IsFree n up.new }
+    ensures room_down { OnOk result ((n : ℕ) → IsFree n down.old → IsFree nodes down.new) }
+    ensures room_up { OnOk result ((n : ℕ) → IsFree n up.old → IsFree nodes up.new) }
 {
-    wave.grow(nodes as u32)
+    down.grow(nodes as u32)?;
+    up.grow(nodes as u32)
 }
 
 // One step down: the subject of the next pair is met, or else the next node that waits is looked at. Whether there was

@@ -99,8 +99,7 @@ impl Graph {
         self.wave.reserve()?;
         let nodes = self.nodes.len() + 1;
         reserve_for(&mut self.noticed, nodes)?;
-        make_room(&mut self.down, nodes)?;
-        make_room(&mut self.up, nodes)?;
+        make_room(&mut self.down, &mut self.up, nodes)?;
         let node = self.edges.add_node()?;
         self.edges.whole();
         self.nodes.push_reserved(Some(Node {
@@ -127,8 +126,7 @@ impl Graph {
         self.wave.reserve()?;
         let nodes = self.nodes.len() + 1;
         reserve_for(&mut self.noticed, nodes)?;
-        make_room(&mut self.down, nodes)?;
-        make_room(&mut self.up, nodes)?;
+        make_room(&mut self.down, &mut self.up, nodes)?;
         self.wave.insert_all(subjects);
         let added = add_linked(&mut self.edges, self.wave.items());
         self.wave.clear();

@@ -34,10 +34,10 @@ invariant_of-self-2 c =
       rw c.in_ok-reserve_for.ensures.items (noticed_more c.self.inside.noticed.items (length c.self.inside.nodes.items)
           (length c.push_reserved.new.self.items) (omega arith) c.self.invariant.2),
       (let room = c.in_ok-reserve_for.ensures.room in omega arith),
-      free_as (c.len-nodes.result + 1) (length c.add_node.new.self.nodes) c.make_room.new.wave len
-          (c.in_ok-make_room.ensures.room (length c.self.inside.edges.nodes) c.self.invariant.4),
-      free_as (c.len-nodes.result + 1) (length c.add_node.new.self.nodes) c.make_room-2.new.wave len
-          (c.in_ok-make_room-2.ensures.room (length c.self.inside.edges.nodes) c.self.invariant.5),
+      free_as (c.len-nodes.result + 1) (length c.add_node.new.self.nodes) c.make_room.new.down len
+          (c.in_ok-make_room.ensures.room_down (length c.self.inside.edges.nodes) c.self.invariant.4),
+      free_as (c.len-nodes.result + 1) (length c.add_node.new.self.nodes) c.make_room.new.up len
+          (c.in_ok-make_room.ensures.room_up (length c.self.inside.edges.nodes) c.self.invariant.5),
     )
 
 pub returns-clause-ok : goal.returns-clause-ok

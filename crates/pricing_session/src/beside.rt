@@ -53,14 +53,14 @@ pub struct ActionCount {
 }
 
 impl<P: Picker> Beside<P> for ActionCount {
-    ghost use Rattle.pricing_session.specs.Beside.{IsCounted, stays_counted};
-    ghost use Rattle.std.specs.Prelude.{◌≡◌};
+    ghost use Rattle.std.specs.Prelude.{◌≡◌, length};
+    ghost use Rattle.std.proofs.Common.{◌∙◌, sym, ap};
 
-    ghost stands = { λ r count. IsCounted r count.actions };
+    ghost stands = { λ r count. count.actions ≡ length r.standing.actions };
 
     ghost keeps = { λ old new. new ≡ old };
 
-    ghost stays = { λ r new count. stays_counted r new count.actions };
+    ghost stays = { λ _ _ _ _ actions stands. stands ∙ sym (ap length actions) };
 
     fn actions(&self, _: &WatchedSession<P>) -> usize {
         self.actions
@@ -81,7 +81,7 @@ impl<P: Picker> Beside<P> for Lines {
 
     ghost stands = { StandBy P };
 
-    ghost keeps = { λ old new. IsAsSaid old new };
+    ghost keeps = { IsAsSaid };
 
     ghost stays = { stays_beside P };
 

@@ -6,7 +6,8 @@
 
 A function hands on where its body is one call, perhaps with `?`, a `;` or within `Ok`, whose arguments are the function's own, each once at
 most and all of them, by name or borrowed anew; nothing is added, as a field or a number would be. The call may be of a method of `self`, of
-an argument, of a field of one of these, or of what an accessor without arguments gives of one. A call of a constructor (`Some`, a struct's
+an argument, of a field of one of these, or of what an accessor without arguments gives of one; a place that is borrowed under a name first
+counts as that place. A call of a constructor (`Some`, a struct's
 `new`) hands nothing on. Left out are functions of a trait (`impl TRAIT for TYPE`), whose names are not their own, and tests. It reads the
 sources as `rt fmt` lays them out: a body begins with a brace at the function's own place, or behind its signature.
 """
@@ -18,6 +19,7 @@ TOP = Path(__file__).resolve().parent.parent.parent
 HEAD = re.compile(r"( *)(?:pub(?:\([a-z]+\))? )?(?:const )?(?:unsafe )?fn (\w+)")
 FIELDS = r"[a-z_]\w*(?:\.\w+)*"
 CALL = re.compile(rf"(?:Ok\()?(?:(?P<of>{FIELDS}(?:\.[a-z_]\w*\(\)(?:\.\w+)*)?)\.|(?:\w+::)*)(?P<name>[a-z_]\w*)\((?P<words>[^()]*)\)\??\)?;?")
+BORROWED = re.compile(rf"let (\w+) = &(?:mut )?({FIELDS}); (.*)")
 WORD = re.compile(r"(?:&mut |&|\*)?([a-z_]\w*)")
 
 
@@ -48,6 +50,9 @@ def bodies(text):
 
 
 def hands_on(words, body):
+    borrowed = BORROWED.fullmatch(body)
+    if borrowed:
+        body = re.sub(rf"\b{borrowed[1]}\b(?=\.)", borrowed[2], borrowed[3])
     found = CALL.fullmatch(body)
     if not found or found["name"] in ("new", "default", "from"):
         return False

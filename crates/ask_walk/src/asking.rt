@@ -83,24 +83,10 @@ impl Books {
         }
     }
 
-    /// What an ask answers of an object without a computation. None exactly where the object is neither frozen nor late nor
+    /// What an ask of an object comes to without a computation: its answer, exactly where the object is frozen, late or
     /// current. It takes no memory.
-    pub fn ask_held(&mut self, object: ObjId) -> Option<Asked>
-        requires there { is_some (role_at self.old.store.shape object) ≡ true }
-        ensures answer { (market : Market) → IsWhole (state_in market self.old.store)
-            → IsJoined (market_in market) self.old.store.shape
-            → result ≡ held_answer (state_in market self.old.store) object }
-        ensures same { self.new ≡ self.old }
-    {
-        match self.at_once(object) {
-            AtOnce::Answers(answer) => Some(answer),
-            AtOnce::Walks(_) => None,
-        }
-    }
-
-    // What an ask of an object comes to without a computation.
     #[inline(always)]
-    fn at_once(&mut self, object: ObjId) -> AtOnce
+    pub fn at_once(&mut self, object: ObjId) -> AtOnce
         requires there { is_some (role_at self.old.store.shape object) ≡ true }
         ensures comes { (market : Market) → IsWhole (state_in market self.old.store)
             → IsJoined (market_in market) self.old.store.shape

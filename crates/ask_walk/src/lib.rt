@@ -1,7 +1,7 @@
 //! The walk of an ask: it computes what an object uses and has no current value, by a stack of its own, and so does a
 //! recalculation over the object's inputs.
 //!
-//! `Books`, with `ask`, `ask_held` and `recalc`; `Recalced`. Words of `specs/`: `Asks`, `Stops`, `RecalcEnds`, `RecalcStops`.
+//! `Books`, with `ask`, `at_once` and `recalc`; `AtOnce`, `Recalced`. Words of `specs/`: `Asks`, `Stops`, `RecalcEnds`, `RecalcStops`.
 #![tactic(auto)]
 
 mod asking;
@@ -11,5 +11,5 @@ mod recalculating;
 mod turning;
 mod uses;
 
-pub use asking::Books;
+pub use asking::{AtOnce, Books};
 pub use recalced::Recalced;

@@ -36,13 +36,14 @@ use crate::Desk;
 use crate::links::{link_of, watch_instead};
 use crate::room::make_room;
 use crate::weights::{has_weight, place_of, weigh};
-use ask_walk::Recalced;
+use ask_walk::{AtOnce, Recalced};
 use day_number::Day;
 use desk_model::Entry;
 use desk_names::ObjId;
 use desk_terms::{Asked, Bench, FixFault, Terms, Value};
 use fixed_amount::Rate;
 use object_store::{Market, Store, TODAY, engine_of, parts_of, watched};
+use observer_graph::Flags;
 use std::alloc::AllocError;
 
 impl Desk {
@@ -269,7 +270,13 @@ impl Desk {
         ensures keeps { KeepsCurrent self.old self.new }
         ensures sound { (calc : Calc) → IsSound calc self.old → IsSound calc self.new }
     {
-        self.books.store.freeze(object);
+        let store = &mut self.books.store;
+        let flags = store.deferral.graph.flags(object);
+        let frozen = Flags {
+            frozen: true,
+            ..flags
+        };
+        store.deferral.graph.set_flags(object, frozen);
     }
 
     /// A lazy object is frozen no more, and its observers are told, or it holds its notice back (QuantLib's
@@ -293,7 +300,13 @@ impl Desk {
         ensures keeps { KeepsCurrent self.old self.new }
         ensures sound { (calc : Calc) → IsSound calc self.old → IsSound calc self.new }
     {
-        self.books.store.forward(object, on);
+        let store = &mut self.books.store;
+        let flags = store.deferral.graph.flags(object);
+        let forwarding = Flags {
+            forward: on,
+            ..flags
+        };
+        store.deferral.graph.set_flags(object, forwarding);
     }
 
     /// From now on what changes holds its notice back and is a deferred source (QuantLib's
@@ -382,7 +395,10 @@ impl Desk {
         ensures asks { (calc : Calc) → IsFitting calc → IsSound calc self.old → IfSome result (AnswersIdly calc object self.old) }
         ensures same { self.new ≡ self.old }
     {
-        self.books.ask_held(object)
+        match self.books.at_once(object) {
+            AtOnce::Answers(answer) => Some(answer),
+            AtOnce::Walks(_) => None,
+        }
     }
 
     /// The least deferred source that makes an object late, if any does. It takes no memory.

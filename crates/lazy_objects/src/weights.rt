@@ -9,7 +9,7 @@ ghost use Rattle.desk_model.specs.Market.{kind_in, named};
 ghost use Rattle.object_store.specs.Shape.{observed_by, role_at};
 ghost use Rattle.object_store.specs.Store.{Joins, Leaves, IsRewatched};
 ghost use Rattle.std.specs.Ordering.{int_eq};
-ghost use Rattle.desk_model.specs.Changeable.{weight_of, has_member, without_member, reweighted, with_member};
+ghost use Rattle.desk_model.specs.Changeable.{weight_of, has_member, without_member, with_member};
 ghost use Rattle.lazy_objects.specs.Places.{place_of};
 ghost use Rattle.desk_model.specs.declared.slot.Slot.TheVariants.{Free, Live};
 ghost use Rattle.object_store.specs.Parts.{parts_in};

@@ -1,5 +1,5 @@
 -- What a call of the graph or of the deferral leaves of the store that lends it.
-use Rattle.std.proofs.Common.{◌≡◌, ℕ, Bool, true, false, length, Option, refl, sym, ◌∙◌, ap, subst}
+use Rattle.std.proofs.Common.{◌≡◌, ℕ, Bool, true, false, length, Option, refl, ◌∙◌, ap, subst}
 use Rattle.std.specs.Prelude.{◌↔◌, is_some, IsSome}
 use Rattle.walks.specs.Walk.{Among}
 use Rattle.observer_graph.specs.declared.node.Flags.{Flags}

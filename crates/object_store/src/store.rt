@@ -1,19 +1,17 @@
 // What is stored of each object, and who observes whom: the flags stand in the graph of observers, the last values beside
 // it. Notices may be held back.
-ghost use Rattle.std.specs.Prelude.{◌≡◌, ◌↔◌, ◌⊎◌, ◌==◌, ◌<◌, ◌+◌, ◌^◌, max, if◌then◌else◌, ℕ, [], ◌∷◌, IfSome, IfNone, true, false, Some, None, length, is_some, IsTrue, OnOk, OnErr, slice_index_or, slice_set};
+ghost use Rattle.std.specs.Prelude.{◌≡◌, ◌<◌, ◌^◌, ℕ, [], true, false, Some, None, length, is_some, OnOk, OnErr, slice_index_or, slice_set};
 ghost use Rattle.std.specs.Option.{option_copied};
-ghost use Rattle.walks.specs.Walk.{Among, Below};
-ghost use Rattle.observer_graph.specs.Notice.{IsLeast};
-ghost use Rattle.observer_graph.specs.Noticed.{IsRising};
+ghost use Rattle.walks.specs.Walk.{Among};
 ghost use Rattle.observer_graph.specs.declared.node.Role.TheVariants as role;
 ghost use Rattle.desk_terms.specs.declared.value.Value.TheVariants.{Money};
 ghost use Rattle.desk_model.specs.State.{unpriced};
 ghost use Rattle.desk_model.specs.Visit.{with_value};
 ghost use Rattle.object_store.specs.Slots.{is_now, is_at_hand};
-ghost use Rattle.object_store.specs.Late.{IsLateOf, IsMarkOf};
+ghost use Rattle.object_store.specs.Late.{IsMarkOf};
 ghost use Rattle.observer_graph.specs.GraphView.{node_at, is_source};
-ghost use Rattle.object_store.specs.Shape.{role_at, observed_by, shape_of, kept_as};
-ghost use Rattle.object_store.specs.Store.{AddsObject, TakesObject, Joins, Leaves, Notices, stored_at, marked, stored_as};
+ghost use Rattle.object_store.specs.Shape.{role_at, shape_of, kept_as};
+ghost use Rattle.object_store.specs.Store.{AddsObject, TakesObject, Notices, stored_at, marked, stored_as};
 
 use deferred_sources::Deferral;
 use desk_names::ObjId;
@@ -126,17 +124,6 @@ impl Store {
         put_money(&mut self.lasts[object.place()], amount);
     }
 
-    /// An object is frozen: it takes notices without passing them on. Nobody is told.
-    pub fn freeze(&mut self, object: ObjId)
-        requires { role_at self.old.shape object ≡ Some role.Lazy }
-        ensures { self.new ≡ stored_as object (record (stored_at self.old object) { frozen = true }) self.old }
-    {
-        let flags = self.deferral.graph.flags(object);
-        self.deferral
-            .graph
-            .set_flags(object, frozen_as(flags, true));
-    }
-
     /// An object is frozen no more; whether it was. Nobody is told.
     pub fn thaw(&mut self, object: ObjId) -> bool
         requires { role_at self.old.shape object ≡ Some role.Lazy }
@@ -151,15 +138,6 @@ impl Store {
                 .set_flags(object, frozen_as(flags, false));
         }
         flags.frozen
-    }
-
-    /// An object passes each notice on, or does so no more. Nobody is told.
-    pub fn forward(&mut self, object: ObjId, on: bool)
-        requires { role_at self.old.shape object ≡ Some role.Lazy }
-        ensures { self.new ≡ stored_as object (record (stored_at self.old object) { forward = on }) self.old }
-    {
-        let flags = self.deferral.graph.flags(object);
-        self.deferral.graph.set_flags(object, forwarding(flags, on));
     }
 
     /// An object was changed: those whom its notice reaches are not current. Where notices are held back, the object is
@@ -237,16 +215,6 @@ fn frozen_as(flags: Flags, on: bool) -> Flags
 {
     Flags {
         frozen: on,
-        ..flags
-    }
-}
-
-// Flags, of which this one says whether the object passes each notice on.
-fn forwarding(flags: Flags, on: bool) -> Flags
-    ensures { result ≡ record flags { forward = on } }
-{
-    Flags {
-        forward: on,
         ..flags
     }
 }

@@ -2,7 +2,7 @@
 ghost use Rattle.std.specs.Prelude.{◌≡◌, Some};
 ghost use Rattle.session_commands.specs.Table.{row_of};
 ghost use Rattle.session_commands.specs.Sorts.{Sorted};
-ghost use Rattle.session_commands.specs.Parts.{command_of, parts_of, together};
+ghost use Rattle.session_commands.specs.Parts.{made_of, command_of, parts_of, together};
 ghost use Rattle.session_commands.specs.declared.field.Field.TheVariants.{Nothing, Name};
 
 use crate::Command;
@@ -36,34 +36,33 @@ impl Parts {
     fn made(self) -> Option<Command>
         ensures { result ≡ command_of self }
     {
-        let (a, b, c) = (self.first, self.second, self.third);
         match self.verb {
-            Verb::Quote => Some(Command::Quote(a.name()?, b.value()?)),
-            Verb::Sum => Some(Command::Sum(a.name()?, b.name()?, c.name()?)),
-            Verb::Difference => Some(Command::Difference(a.name()?, b.name()?, c.name()?)),
-            Verb::Handle => Some(Command::Handle(a.name()?, b.flag()?)),
-            Verb::Stock => Some(Command::Stock(a.name()?, b.name()?)),
-            Verb::Composite => Some(Command::Composite(a.name()?)),
-            Verb::Member => Some(Command::Member(a.name()?, b.name()?, c.weight()?)),
-            Verb::Set => Some(Command::Set(a.name()?, b.number()?)),
-            Verb::Unset => Some(Command::Unset(a.name()?)),
-            Verb::Link => Some(Command::Link(a.name()?, b.name()?)),
-            Verb::Unlink => Some(Command::Unlink(a.name()?)),
-            Verb::Engine => Some(Command::Engine(a.name()?, b.engine()?)),
-            Verb::Today => Some(Command::Today(a.day()?)),
-            Verb::Fixing => Some(Command::Fixing(a.name()?, b.day()?, c.number()?)),
-            Verb::Freeze => Some(Command::Freeze(a.name()?)),
-            Verb::Thaw => Some(Command::Thaw(a.name()?)),
-            Verb::Recalc => Some(Command::Recalc(a.name()?)),
-            Verb::Forward => Some(Command::Forward(a.name()?, b.flag()?)),
+            Verb::Today => Some(Command::Today(self.first.day()?)),
             Verb::Defer => Some(Command::Defer),
             Verb::Resume => Some(Command::Resume),
-            Verb::Watch => Some(Command::Watch(a.name()?, b.action()?)),
-            Verb::Register => Some(Command::Register(a.name()?, b.name()?)),
-            Verb::Unregister => Some(Command::Unregister(a.name()?, b.name()?)),
-            Verb::Drop => Some(Command::Drop(a.name()?)),
-            Verb::Ask => Some(Command::Ask(a.name()?)),
-            Verb::Df => Some(Command::Df(a.name()?, b.day()?)),
+            Verb::Quote
+            | Verb::Sum
+            | Verb::Difference
+            | Verb::Handle
+            | Verb::Stock
+            | Verb::Composite
+            | Verb::Member
+            | Verb::Set
+            | Verb::Unset
+            | Verb::Link
+            | Verb::Unlink
+            | Verb::Engine
+            | Verb::Fixing
+            | Verb::Freeze
+            | Verb::Thaw
+            | Verb::Recalc
+            | Verb::Forward
+            | Verb::Watch
+            | Verb::Register
+            | Verb::Unregister
+            | Verb::Drop
+            | Verb::Ask
+            | Verb::Df => { named(self.verb, self.first.name()?, self.second, self.third) }
         }
     }
 
@@ -105,6 +104,40 @@ impl Parts {
             Command::Ask(a) => one(Verb::Ask, Field::Name(a)),
             Command::Df(a, b) => two(Verb::Df, a, Field::Day(b)),
         }
+    }
+}
+
+// The command of a first word with a name and two fields, where they are of the sorts that its row asks for.
+fn named(verb: Verb, name: NameId, second: Field, third: Field) -> Option<Command>
+    ensures { result ≡ made_of verb (Name name) second third }
+{
+    match verb {
+        Verb::Quote => Some(Command::Quote(name, second.value()?)),
+        Verb::Sum => Some(Command::Sum(name, second.name()?, third.name()?)),
+        Verb::Difference => Some(Command::Difference(name, second.name()?, third.name()?)),
+        Verb::Handle => Some(Command::Handle(name, second.flag()?)),
+        Verb::Stock => Some(Command::Stock(name, second.name()?)),
+        Verb::Composite => Some(Command::Composite(name)),
+        Verb::Member => Some(Command::Member(name, second.name()?, third.weight()?)),
+        Verb::Set => Some(Command::Set(name, second.number()?)),
+        Verb::Unset => Some(Command::Unset(name)),
+        Verb::Link => Some(Command::Link(name, second.name()?)),
+        Verb::Unlink => Some(Command::Unlink(name)),
+        Verb::Engine => Some(Command::Engine(name, second.engine()?)),
+        Verb::Today => None,
+        Verb::Fixing => Some(Command::Fixing(name, second.day()?, third.number()?)),
+        Verb::Freeze => Some(Command::Freeze(name)),
+        Verb::Thaw => Some(Command::Thaw(name)),
+        Verb::Recalc => Some(Command::Recalc(name)),
+        Verb::Forward => Some(Command::Forward(name, second.flag()?)),
+        Verb::Defer => Some(Command::Defer),
+        Verb::Resume => Some(Command::Resume),
+        Verb::Watch => Some(Command::Watch(name, second.action()?)),
+        Verb::Register => Some(Command::Register(name, second.name()?)),
+        Verb::Unregister => Some(Command::Unregister(name, second.name()?)),
+        Verb::Drop => Some(Command::Drop(name)),
+        Verb::Ask => Some(Command::Ask(name)),
+        Verb::Df => Some(Command::Df(name, second.day()?)),
     }
 }
 

@@ -3,12 +3,11 @@ ghost use Rattle.std.specs.Prelude.{◌≡◌, IfOk};
 ghost use Rattle.desk_names.specs.Name.{IsName};
 ghost use Rattle.market_tables.specs.Given.{Gives, Says};
 ghost use Rattle.market_tables.specs.Refusals.{Refuses};
-ghost use Rattle.market_fields.specs.Earlier.{seen, named_object, new_name, served, calendar_of, index_in, index_terms};
+ghost use Rattle.market_fields.specs.Earlier.{seen, named_object, new_name, served, index_in, index_terms};
 
 use crate::Version;
 use desk_names::{NameId, Names, ObjId, is_name};
 use desk_terms::{IndexTerms, Kind, Terms, Wanted};
-use holiday_calendars::Calendar;
 use market_calendars::Calendars;
 use market_tables::{MarketKind, NameText, TableFault};
 use std::alloc::Global;
@@ -72,13 +71,6 @@ impl<'a> Earlier<'a> {
     {
         self.test_new(text)?;
         NameText::read(alloc, text)
-    }
-
-    /// The calendar that a text names, in a copy: `Name` where the text is no name, `Unknown` where it names nothing.
-    pub(crate) fn calendar(&self, text: &[u8]) -> Result<Calendar, TableFault>
-        ensures { Gives (λ calendar. calendar) result (calendar_of (seen self.now) text.now) }
-    {
-        self.calendars.built(text)
     }
 
     /// The terms of an object that is an index, or `Kind`.

@@ -14,7 +14,6 @@ mod places;
 mod presence;
 mod taken;
 mod version;
-mod words;
 
 pub use earlier::{Earlier, Named, served};
 pub use field::{

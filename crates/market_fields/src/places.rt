@@ -7,13 +7,17 @@ ghost use Rattle.market_fields.specs.Places as due;
 
 use crate::field::Field;
 use crate::keys::ObjectPlace;
-use crate::words::{convention_of, counter_of, leg_of, position_of, rule_of, target_of};
-use crate::{Earlier, Named, Notional, TermRate, served};
-use day_number::{Tenor, Unit, read_tenor};
-use desk_terms::Wanted;
+use crate::{Earlier, Named, Notional, Sign, TermRate, served};
+use day_number::{Convention, Tenor, Unit, read_tenor};
+use desk_terms::{HandleKind, Wanted};
 use market_tables::{MarketKind, TableFault, day_in, integer_in, text_in};
+use schedule_rules::Rule;
 use std::alloc::Global;
 use toml::Value;
+use year_parts::Counter;
+
+// The fault of a word that is not one of those listed.
+const NO_CHOICE: TableFault = TableFault::Kind(MarketKind::Choice);
 
 /// The greatest magnitude of a weight.
 const MOST_WEIGHT: i64 = 1_000_000;
@@ -69,7 +73,7 @@ fn calendar_field(earlier: Earlier<'_>, value: &Value) -> Result<Field, TableFau
     ensures { Gives (λ f. f) result (due.calendar_field (seen earlier.entry) (view value.now)) }
 {
     let text = text_in(value)?;
-    Ok(Field::Calendar(earlier.calendar(text.as_bytes())?))
+    Ok(Field::Calendar(earlier.calendars.built(text.as_bytes())?))
 }
 
 // A number of days from 0 to 30, or `Number`.
@@ -147,46 +151,82 @@ fn rate_field(value: &Value) -> Result<Field, TableFault>
     Ok(Field::Rate(TermRate::read(text.as_bytes())?))
 }
 
+// The kind of a handle's target.
 fn target_field(value: &Value) -> Result<Field, TableFault>
     ensures { Says (λ f. f) result (due.target_field (view value.now)) }
 {
-    let word = text_in(value)?;
-    Ok(Field::Target(target_of(word)?))
+    match text_in(value)? {
+        "quote" => Ok(Field::Target(HandleKind::Quote)),
+        "curve" => Ok(Field::Target(HandleKind::Curve)),
+        _ => Err(NO_CHOICE),
+    }
 }
 
+// The rule of schedules.
 fn rule_field(value: &Value) -> Result<Field, TableFault>
     ensures { Says (λ f. f) result (due.rule_field (view value.now)) }
 {
-    let word = text_in(value)?;
-    Ok(Field::Rule(rule_of(word)?))
+    match text_in(value)? {
+        "backward" => Ok(Field::Rule(Rule::Backward)),
+        "forward" => Ok(Field::Rule(Rule::Forward)),
+        "zero" => Ok(Field::Rule(Rule::Zero)),
+        _ => Err(NO_CHOICE),
+    }
 }
 
+// The business-day convention.
 fn convention_field(value: &Value) -> Result<Field, TableFault>
     ensures { Says (λ f. f) result (due.convention_field (view value.now)) }
 {
-    let word = text_in(value)?;
-    Ok(Field::Convention(convention_of(word)?))
+    match text_in(value)? {
+        "unadjusted" => Ok(Field::Convention(Convention::Unadjusted)),
+        "following" => Ok(Field::Convention(Convention::Following)),
+        "preceding" => Ok(Field::Convention(Convention::Preceding)),
+        "modified_following" => Ok(Field::Convention(Convention::ModifiedFollowing)),
+        "modified_preceding" => Ok(Field::Convention(Convention::ModifiedPreceding)),
+        "half_month_modified_following" => Ok(Field::Convention(
+            Convention::HalfMonthModifiedFollowing,
+        )),
+        "nearest" => Ok(Field::Convention(Convention::Nearest)),
+        _ => Err(NO_CHOICE),
+    }
 }
 
+// The day counter.
 fn counter_field(value: &Value) -> Result<Field, TableFault>
     ensures { Says (λ f. f) result (due.counter_field (view value.now)) }
 {
-    let word = text_in(value)?;
-    Ok(Field::Counter(counter_of(word)?))
+    match text_in(value)? {
+        "act360" => Ok(Field::Counter(Counter::Act360)),
+        "act365" => Ok(Field::Counter(Counter::Act365)),
+        "actact" => Ok(Field::Counter(Counter::ActAct)),
+        "thirty360" => Ok(Field::Counter(Counter::Thirty360)),
+        "thirtye360" => Ok(Field::Counter(Counter::ThirtyE360)),
+        "bus252" => Ok(Field::Counter(Counter::Bus252)),
+        _ => Err(NO_CHOICE),
+    }
 }
 
+// The sign of a swap's fixed leg: what is paid is negative.
 fn leg_field(value: &Value) -> Result<Field, TableFault>
     ensures { Says (λ f. f) result (due.leg_field (view value.now)) }
 {
-    let word = text_in(value)?;
-    Ok(Field::Sign(leg_of(word)?))
+    match text_in(value)? {
+        "pay" => Ok(Field::Sign(Sign::Minus)),
+        "receive" => Ok(Field::Sign(Sign::Plus)),
+        _ => Err(NO_CHOICE),
+    }
 }
 
+// The sign of a forward rate agreement: the short one is negative.
 fn position_field(value: &Value) -> Result<Field, TableFault>
     ensures { Says (λ f. f) result (due.position_field (view value.now)) }
 {
-    let word = text_in(value)?;
-    Ok(Field::Sign(position_of(word)?))
+    match text_in(value)? {
+        "long" => Ok(Field::Sign(Sign::Plus)),
+        "short" => Ok(Field::Sign(Sign::Minus)),
+        _ => Err(NO_CHOICE),
+    }
 }
 
 // What a place says that holds no tables.

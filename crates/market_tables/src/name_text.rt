@@ -49,6 +49,6 @@ impl NameText {
         ensures text { result.now ≡ self.now }
         ensures named { IsName result.now }
     {
-        self.text.as_slice()
+        &self.text
     }
 }

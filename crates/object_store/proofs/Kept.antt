@@ -1,5 +1,5 @@
 -- What is stored of each object, by number.
-use Rattle.std.proofs.Common.{max, ◌≡◌, ◌≢◌, inl, inr, ℕ, zero, suc, ◌+◌, ◌<◌, Bool, true, false, List, [], ◌∷◌, ◌++◌, length, refl, sym, ◌∙◌, ap, subst, arith, Option, Some, None}
+use Rattle.std.proofs.Common.{◌≡◌, ◌≢◌, inl, inr, ℕ, zero, suc, ◌+◌, ◌<◌, Bool, true, false, List, [], ◌∷◌, ◌++◌, length, refl, sym, ◌∙◌, ap, subst, arith, Option, Some, None}
 use Rattle.std.specs.Prelude.{slice_index_or, slice_set, map, is_some, IsSome, IfSome, IfNone}
 use Rattle.std.proofs.lemmas.List.{length-set, length-append, get_or-set_same, get_or-set_other, get_or_past, map-set, map-append}
 use Rattle.std.proofs.lemmas.Bool.{cases_eq, cases_lt, false≢true}
@@ -428,12 +428,3 @@ module _ (graph new : GraphView) (lasts : List (Option Value)) (on : Bool) where
     let p = pairs_kept graph new lasts (ap (λ (g : GraphView). g.nodes) some.1) (ap (λ (g : GraphView). g.sources) some.1) in
         same_view (view_of new lasts on) (record (view_of graph lasts on) { noticed = new.noticed }) p.0 (same_shape graph new p.1 (ap (λ (g : GraphView). g.subjects) some.1) (ap (λ (g : GraphView). g.spare) some.1)) refl refl,
   )
-
--- the same graph with other room
-pub spared_view : (graph new : GraphView) (lasts : List (Option Value)) (on : Bool) (pairs : ℕ)
-    → new ≡ record graph { spare = max graph.spare pairs }
-    → view_of new lasts on ≡ record (view_of graph lasts on) { shape = record (shape_of graph) { spare = max graph.spare pairs } }
-spared_view graph new lasts on pairs same =
-    let p = pairs_kept graph new lasts (ap (λ (g : GraphView). g.nodes) same) (ap (λ (g : GraphView). g.sources) same) in
-    same_view (view_of new lasts on) (record (view_of graph lasts on) { shape = record (shape_of graph) { spare = max graph.spare pairs } })
-    p.0 (λ i. record { roles = p.1 i; subjects = (same i).subjects; spare = (same i).spare }) refl (ap (λ (g : GraphView). g.noticed) same)

@@ -4,6 +4,7 @@ ghost use Rattle.toml.specs.View.{view};
 ghost use Rattle.market_tables.specs.Given.{Gives, Says};
 ghost use Rattle.market_fields.specs.Earlier.{seen};
 ghost use Rattle.market_fields.specs.Places as due;
+ghost use Rattle.market_fields.specs.Words.{convention_of, counter_of};
 
 use crate::field::Field;
 use crate::keys::ObjectPlace;
@@ -175,36 +176,46 @@ fn rule_field(value: &Value) -> Result<Field, TableFault>
 }
 
 // The business-day convention.
-fn convention_field(value: &Value) -> Result<Field, TableFault>
-    ensures { Says (λ f. f) result (due.convention_field (view value.now)) }
+fn convention_of(word: &str) -> Result<Convention, TableFault>
+    ensures { Says (λ said. said) result (convention_of word.now) }
 {
-    match text_in(value)? {
-        "unadjusted" => Ok(Field::Convention(Convention::Unadjusted)),
-        "following" => Ok(Field::Convention(Convention::Following)),
-        "preceding" => Ok(Field::Convention(Convention::Preceding)),
-        "modified_following" => Ok(Field::Convention(Convention::ModifiedFollowing)),
-        "modified_preceding" => Ok(Field::Convention(Convention::ModifiedPreceding)),
-        "half_month_modified_following" => Ok(Field::Convention(
-            Convention::HalfMonthModifiedFollowing,
-        )),
-        "nearest" => Ok(Field::Convention(Convention::Nearest)),
+    match word {
+        "unadjusted" => Ok(Convention::Unadjusted),
+        "following" => Ok(Convention::Following),
+        "preceding" => Ok(Convention::Preceding),
+        "modified_following" => Ok(Convention::ModifiedFollowing),
+        "modified_preceding" => Ok(Convention::ModifiedPreceding),
+        "half_month_modified_following" => Ok(Convention::HalfMonthModifiedFollowing),
+        "nearest" => Ok(Convention::Nearest),
         _ => Err(NO_CHOICE),
     }
 }
 
+fn convention_field(value: &Value) -> Result<Field, TableFault>
+    ensures { Says (λ f. f) result (due.convention_field (view value.now)) }
+{
+    Ok(Field::Convention(convention_of(text_in(value)?)?))
+}
+
 // The day counter.
+fn counter_of(word: &str) -> Result<Counter, TableFault>
+    ensures { Says (λ said. said) result (counter_of word.now) }
+{
+    match word {
+        "act360" => Ok(Counter::Act360),
+        "act365" => Ok(Counter::Act365),
+        "actact" => Ok(Counter::ActAct),
+        "thirty360" => Ok(Counter::Thirty360),
+        "thirtye360" => Ok(Counter::ThirtyE360),
+        "bus252" => Ok(Counter::Bus252),
+        _ => Err(NO_CHOICE),
+    }
+}
+
 fn counter_field(value: &Value) -> Result<Field, TableFault>
     ensures { Says (λ f. f) result (due.counter_field (view value.now)) }
 {
-    match text_in(value)? {
-        "act360" => Ok(Field::Counter(Counter::Act360)),
-        "act365" => Ok(Field::Counter(Counter::Act365)),
-        "actact" => Ok(Field::Counter(Counter::ActAct)),
-        "thirty360" => Ok(Field::Counter(Counter::Thirty360)),
-        "thirtye360" => Ok(Field::Counter(Counter::ThirtyE360)),
-        "bus252" => Ok(Field::Counter(Counter::Bus252)),
-        _ => Err(NO_CHOICE),
-    }
+    Ok(Field::Counter(counter_of(text_in(value)?)?))
 }
 
 // The sign of a swap's fixed leg: what is paid is negative.

@@ -16,10 +16,10 @@ pub trait Beside<P: Picker> {
     ghost use Rattle.session_model.specs.Course.{Running};
     ghost use Rattle.session_model.specs.Grown.{interned_in};
 
-    /// It was told of this session.
+    /// It fits this session: what it tells of its names and its actions is so.
     ghost stands: { Running P → Self → Type 0 };
 
-    /// It tells what it told.
+    /// What the new one tells is what the old one told.
     ghost keeps: { Self → Self → Type 0 };
 
     /// How many actions its session has.

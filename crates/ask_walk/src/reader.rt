@@ -102,7 +102,7 @@ fn look_at(objects: &Objects, scratch: &Scratch, object: ObjId) -> Look
     match objects.terms(object) {
         None => Look::Is(Entry::Refuses(Cause::Unset(object))),
         Some(terms) => match terms {
-            Terms::Quote(_) => Look::Is(quoted(object, objects.value(object))),
+            Terms::Quote(_) => Look::Is(quoted(object, objects.quote(object))),
             Terms::Derived { .. }
             | Terms::Handle { .. }
             | Terms::Index(..)

@@ -17,12 +17,13 @@ ghost use Rattle.desk_terms.specs.declared.terms.Terms.TheVariants as terms;
 use ask_walk::Books;
 use day_number::Day;
 use desk_names::ObjId;
-use desk_terms::{InputList, Kind, Terms, Value};
+use desk_terms::{InputList, Kind, Value};
 use fixed_amount::Rate;
 use object_store::{Market, Objects, Scratch, Store, index_of};
 use observer_graph::Role;
 use std::alloc::{AllocError, Global};
 use std::marker::Model;
+use std::ops::Deref;
 
 /// The objects of a session by number, and what is stored of each. It takes memory from the allocator that it was made
 /// with. While deferral is on, a change tells nobody: what was changed holds its notice back until `resume`. A watcher
@@ -53,6 +54,18 @@ impl Model for Desk {
     ghost view = { λ d. state_in d.market d.books.store };
 
     ghost invariant = { λ d. Stands (state_in d.market d.books.store) d.books.scratch × IsJoined (market_in d.market) d.books.store.shape };
+}
+
+// What is read of the objects by their numbers (`kind`, `terms`, `quote`, `len`) is read of them.
+impl Deref for Desk {
+    type Target = Objects;
+
+    fn deref(&self) -> &Objects
+        ensures { result.now ≡ self.now.market.objects }
+    {
+        let _ = &self.books;
+        &self.market.objects
+    }
 }
 
 impl Desk {
@@ -177,40 +190,10 @@ impl Desk {
     }
 
     /// How many numbers were given, that of `today` among them.
-    pub fn len(&self) -> usize
-        ensures { result ≡ length self.now.market.objects }
-    {
-        self.market.objects.len()
-    }
-
-    /// The same, as a number of 32 bits.
     pub fn numbers(&self) -> u32
         ensures number { result ≡ length self.now.market.objects }
         ensures limit { result ≤ 2 ^ 16 }
     {
         self.market.objects.len() as u32
-    }
-
-    /// The value that a quote has; none where it has none. It takes no memory.
-    pub fn quote(&self, quote: ObjId) -> Option<Rate>
-        requires { kind_at self.now.market quote ≡ Some kind.Quote }
-        ensures { terms_at self.now.market quote ≡ Some (terms.Quote result) }
-    {
-        self.market.objects.value(quote)
-    }
-
-    /// What an object is; none where no live object has the number.
-    pub fn kind(&self, object: ObjId) -> Option<Kind>
-        ensures { result ≡ kind_at self.now.market object }
-    {
-        self.market.objects.kind(object)
-    }
-
-    /// The terms of an object as they stand, with its links, members and fixings: those of a quote without its value, which
-    /// `quote` tells. None where no live object has the number, of `today`, and of a watcher.
-    pub fn terms(&self, object: ObjId) -> Option<&Terms>
-        ensures { option_copied result ≡ bare (terms_at self.now.market object) }
-    {
-        self.market.objects.terms(object)
     }
 }

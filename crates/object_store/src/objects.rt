@@ -106,7 +106,7 @@ impl Objects {
         Ok(())
     }
 
-    /// How many numbers were given.
+    /// How many numbers were given, that of `today` among them.
     pub fn len(&self) -> usize
         ensures { result ≡ length self.now }
     {
@@ -120,7 +120,8 @@ impl Objects {
         kind_of(&self.slots, object)
     }
 
-    /// The terms of an object, if it has any: those of a quote without its value.
+    /// The terms of an object as they stand, with its links, members and fixings: those of a quote without its value, which
+    /// `quote` tells. None where no live object has the number, of `today`, and of a watcher.
     pub fn terms(&self, object: ObjId) -> Option<&Terms>
         ensures { option_copied result ≡ bare (terms_in (slice_index_or self.now object Free)) }
     {
@@ -138,9 +139,9 @@ impl Objects {
         }
     }
 
-    /// The value of a quote, or none.
-    pub fn value(&self, quote: ObjId) -> Option<Rate>
-        requires { has_quote (slice_index_or self.now quote Free) ≡ true }
+    /// The value that a quote has; none where it has none. It takes no memory.
+    pub fn quote(&self, quote: ObjId) -> Option<Rate>
+        requires { kind_in (slice_index_or self.now quote Free) ≡ Some kind.Quote }
         ensures { terms_in (slice_index_or self.now quote Free) ≡ Some (Quote result) }
     {
         self.board.get(quote)

@@ -43,6 +43,17 @@ impl Drop for Desk {
     }
 }
 
+/// How the value of an object stands (QuantLib's `LazyObject`).
+#[derive(Clone, Copy)]
+pub struct Marks {
+    /// Nothing that it was computed from has changed since (`calculated_`).
+    pub current: bool,
+    /// The object answers it until it is thawed (`freeze`).
+    pub frozen: bool,
+    /// The object changed while notices are held back, and has told nobody yet: it is a deferred source.
+    pub source: bool,
+}
+
 impl Model for Desk {
     ghost use Rattle.desk_model.specs.State.{State};
     ghost use Rattle.object_store.specs.Market.{market_in, state_in};
@@ -140,25 +151,17 @@ impl Desk {
         self.books.store.last(object)
     }
 
-    /// Whether the last value of an object is current: nothing that it was computed from has changed since.
-    pub fn is_current(&self, object: ObjId) -> bool
-        ensures { result ≡ (kept_at self.now object).current }
+    /// How the value of an object stands: nothing of it holds where no object lives at the number.
+    pub fn marks(&self, object: ObjId) -> Marks
+        ensures current { result.current ≡ (kept_at self.now object).current }
+        ensures frozen { result.frozen ≡ (kept_at self.now object).frozen }
+        ensures source { result.source ≡ (kept_at self.now object).source }
     {
-        self.books.store.is_current(object)
-    }
-
-    /// Whether an object is frozen.
-    pub fn is_frozen(&self, object: ObjId) -> bool
-        ensures { result ≡ (kept_at self.now object).frozen }
-    {
-        self.books.store.is_frozen(object)
-    }
-
-    /// Whether an object is a deferred source: it changed while notices are held back, and has told nobody yet.
-    pub fn is_source(&self, object: ObjId) -> bool
-        ensures { result ≡ (kept_at self.now object).source }
-    {
-        self.books.store.is_source(object)
+        Marks {
+            current: self.books.store.is_current(object),
+            frozen: self.books.store.is_frozen(object),
+            source: self.books.store.is_source(object),
+        }
     }
 
     /// Does nothing: what is known of the shape of every desk: each object names others of the right kinds, and its terms

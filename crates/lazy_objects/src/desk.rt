@@ -102,36 +102,34 @@ impl Desk {
         })
     }
 
-    /// Whether a watcher is registered with an object. It takes no memory, and costs what the watcher is registered with.
+    /// Whether an object is a watcher that is registered with another. It takes no memory, and costs what the watcher is
+    /// registered with.
     pub fn is_registered(&self, watcher: ObjId, object: ObjId) -> bool
-        requires watcher { is_watcher (slot_at self.now.market watcher) ≡ true }
-        requires subject { is_observable (slot_at self.now.market object) ≡ true }
         ensures { result ≡ is_registered self.now watcher object }
     {
+        if !self.books.store.is_live(object) {
+            return false;
+        }
+        if !self.is_watcher(watcher) {
+            return false;
+        }
         self.books.store.has_pair(object, watcher)
     }
 
     /// Whether an object is a watcher that is registered with any object.
-    pub fn is_watching(&self, object: ObjId) -> bool
+    pub fn watching(&self, object: ObjId) -> bool
         ensures { result ≡ is_watching self.now object }
     {
-        let _ = &self.books;
-        self.is_watcher(object) && self.watching(object)
+        let books = &self.books;
+        self.is_watcher(object) && books.store.has_subject(object)
     }
 
     // Whether an object is a watcher.
     fn is_watcher(&self, object: ObjId) -> bool
         ensures { result ≡ is_watcher (slot_at self.now.market object) }
     {
-        matches!(self.kind(object), Some(Kind::Watcher))
-    }
-
-    /// Whether a watcher is registered with any object.
-    pub fn watching(&self, watcher: ObjId) -> bool
-        requires { is_watcher (slot_at self.now.market watcher) ≡ true }
-        ensures { result ≡ is_watching self.now watcher }
-    {
-        self.books.store.has_subject(watcher)
+        let _ = &self.books;
+        matches!(self.market.objects.kind(object), Some(Kind::Watcher))
     }
 
     /// The least object that observes another, if any does: a watcher observes nothing.

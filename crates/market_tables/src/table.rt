@@ -1,7 +1,5 @@
 // The steps of a table.
-ghost use Rattle.std.specs.Prelude.{◌≡◌, Option, option_map, map, string_bytes};
-ghost use Rattle.std.specs.List.{list_all};
-ghost use Rattle.std.specs.BTreeMap.{keys as map_keys};
+ghost use Rattle.std.specs.Prelude.{◌≡◌, Option, option_map, map};
 ghost use Rattle.toml.specs.View.{view, table_view};
 ghost use Rattle.toml.specs.Data.{get_member};
 ghost use Rattle.market_tables.specs.Given.{Gives};
@@ -81,20 +79,13 @@ fn may_have<W, P>(kinds: bool, keys: &[Key<W, P>], word: &str) -> bool
     (kinds && word == "kind") || is_listed(keys, word)
 }
 
-// Whether each key of the table's map is a listed one.
-fn keys_are_listed<W, P>(kinds: bool, keys: &[Key<W, P>], table: &Table) -> bool
-    ensures { result ≡ list_all (λ k. may_have kinds (map listed keys.now) (string_bytes k)) (map_keys table.now) }
-{
-    table
-        .keys()
-        .all(|word| may_have(kinds, keys, word.as_str()))
-}
-
 /// Whether each key of the table is a listed one.
 pub(crate) fn are_listed<W, P>(kinds: bool, keys: &[Key<W, P>], table: &Table) -> bool
     ensures { result ≡ are_listed kinds (map listed keys.now) (table_view table.now) }
 {
-    keys_are_listed(kinds, keys, table)
+    table
+        .keys()
+        .all(|word| may_have(kinds, keys, word.as_str()))
 }
 
 /// The fields of a table without kinds, or its first fault: an unlisted key, a key's in listed order.

@@ -5,7 +5,7 @@ ghost use Rattle.flow_terms.specs.Ranges.{AreFlowsInRange};
 ghost use Rattle.bond_yield.specs.Fixed.{is_payment, is_known, are_known, is_fixed};
 ghost use Rattle.bond_yield.specs.Accrued as accrual;
 
-use crate::amounts::{amount, days_from, nearest, units_of};
+use crate::amounts::{amount, days_from, nearest};
 use day_number::Day;
 use fixed_amount::Amount;
 use flow_terms::{FlowTerm, FlowTerms};
@@ -74,7 +74,7 @@ fn share(amount: Amount, start: Day, end: Day, settle: Day) -> u128
     ensures bound { result ≤ MOST_AMOUNT }
 {
     nearest(
-        units_of(amount) * days_from(start, settle),
+        amount.units().unsigned_abs() * days_from(start, settle),
         days_from(start, end),
     )
 }

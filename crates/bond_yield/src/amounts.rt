@@ -1,5 +1,5 @@
 // Days, amounts and quotients as whole numbers.
-ghost use Rattle.std.specs.Prelude.{◌≡◌, true, ◌≤◌, ◌<◌, ◌^◌, ◌+◌, ◌*◌, pos, unsigned_abs};
+ghost use Rattle.std.specs.Prelude.{◌≡◌, true, ◌≤◌, ◌<◌, ◌^◌, ◌+◌, ◌*◌, pos};
 ghost use Rattle.fixed_amount.specs.Rounding.{closest};
 ghost use Rattle.flow_terms.specs.declared.limits.TheConstants.{MOST_AMOUNT};
 ghost use Rattle.bond_yield.specs.Fixed.{is_known};
@@ -24,16 +24,9 @@ pub(crate) fn amount_of(flow: &FlowTerm) -> u128
     ensures bound { result ≤ MOST_AMOUNT }
 {
     match flow {
-        FlowTerm::Known { amount, .. } => units_of(*amount),
+        FlowTerm::Known { amount, .. } => amount.units().unsigned_abs(),
         FlowTerm::Float { .. } | FlowTerm::Forward { .. } => 0,
     }
-}
-
-/// The units of an amount that is 0 or more.
-pub(crate) fn units_of(amount: Amount) -> u128
-    ensures { result ≡ unsigned_abs amount }
-{
-    amount.units().unsigned_abs()
 }
 
 /// A quotient rounded to the nearest whole number, a half up.

@@ -1,5 +1,5 @@
 // Scripts, read.
-ghost use Rattle.std.specs.Prelude.{◌≡◌, ◌<◌, ◌^◌, ◌+◌, ◌∷◌, [], ℕ, List, length, None, is_some, false, IfOk, OnOk, OnErr, IsErrOf};
+ghost use Rattle.std.specs.Prelude.{◌≡◌, ◌<◌, ◌≤◌, ◌^◌, ◌+◌, ◌∷◌, [], ℕ, List, length, None, is_some, false, IfOk, OnOk, OnErr, IsErrOf};
 ghost use Rattle.std.specs.Str.Lines.{lines};
 ghost use Rattle.session_lang.specs.Given.{GivesAt, at_number};
 ghost use Rattle.script_words.specs.Given.{Grows};
@@ -169,22 +169,16 @@ fn finished(alloc: Global, names: &Names, begun: &Names, read: Read) -> Result<S
     }
 }
 
-// The same as `read_script`, which has one exit, where what follows of this answer is said once.
-#[tactic(auto, unfolding(crate::specs::Reading::script_meaning), using(script_words::proofs::Interning::grows_same))]
-fn read_text(alloc: Global, text: &[u8], names: &mut Names) -> Result<Script, ScriptFault>
+// The script that a text says that is not too long, or its first fault.
+#[tactic(auto, unfolding(crate::specs::Reading::script_meaning))]
+fn read_short(alloc: Global, text: &[u8], names: &mut Names) -> Result<Script, ScriptFault>
+    requires { length text.now ≤ MOST_BYTES }
     ensures gives { GivesAt (λ s. (s, names.new)) result (script_meaning names.old text.now) }
     ensures left { AreLeft result names.new (script_left names.old text.now) }
     ensures added { IsNames names.old → AddsFront names.old (names_said (lines text.now)) names.new }
-    ensures long { MOST_BYTES < length text.now → IsErrOf result (At 0 TooLong) }
     ensures paired { IfOk result (λ s. length s.actions ≡ length s.action_names) }
     ensures grows { Grows names.old names.new }
 {
-    if text.len() > MOST_BYTES {
-        return Err(ScriptFault::At {
-            line: 0,
-            kind: ScriptKind::TooLong,
-        });
-    }
     let mut begun = Names::new(alloc);
     let read = read_lines(alloc, text, names, &mut begun)?;
     finished(alloc, names, &begun, read)
@@ -197,6 +191,7 @@ fn read_text(alloc: Global, text: &[u8], names: &mut Names) -> Result<Script, Sc
 /// added, and no other; the old ones keep their numbers however it ends. The numbers in a script that is read stand for names
 /// and actions that are there.
 /// It takes time in proportion to the text, with a few look-ups of a name for each word.
+#[tactic(auto, unfolding(crate::specs::Reading::script_meaning), using(script_words::proofs::Interning::grows_same))]
 pub fn read_script(alloc: Global, text: &[u8], names: &mut Names) -> Result<Script, ScriptFault>
     ensures gives { GivesAt (λ s. (s, names.new)) result (script_meaning names.old text.now) }
     // A text that is too long is told whatever memory there is.
@@ -210,5 +205,11 @@ pub fn read_script(alloc: Global, text: &[u8], names: &mut Names) -> Result<Scri
     ensures added { IsNames names.old → AddsFront names.old (names_said (lines text.now)) names.new }
     ensures grows { Grows names.old names.new }
 {
-    read_text(alloc, text, names)
+    if text.len() > MOST_BYTES {
+        return Err(ScriptFault::At {
+            line: 0,
+            kind: ScriptKind::TooLong,
+        });
+    }
+    read_short(alloc, text, names)
 }

@@ -1,6 +1,6 @@
 -- Which changes leave every object's life, and so its name, as it was.
-use Rattle.std.proofs.Common.{◌≡◌, ◌≢◌, inl, inr, ℕ, ◌<◌, ◌≤◌, ◌+◌, ◌-◌, Bool, true, false, ◌||◌, length, List, [], ◌∷◌, Option, Some, None, ℤ, if◌then◌else◌, refl, sym, ◌∙◌, ap, subst, arith}
-use Rattle.std.specs.Prelude.{slice_index_or, slice_set, nat_le, Result, Ok, Err, IfSome, IfNone, OnOk, OnErr}
+use Rattle.std.proofs.Common.{◌≡◌, ◌≢◌, inl, inr, ℕ, ◌<◌, ◌≤◌, ◌+◌, ◌-◌, Bool, true, false, ◌||◌, length, List, Option, Some, None, ℤ, if◌then◌else◌, refl, sym, ◌∙◌, ap, subst, arith}
+use Rattle.std.specs.Prelude.{slice_index_or, slice_set, nat_le, Result, Ok, Err, OnOk, OnErr}
 use Rattle.std.specs.Ordering.{int_eq}
 use Rattle.std.proofs.lemmas.List.{get_or-set_same, get_or-set_other, length-set}
 use Rattle.std.proofs.lemmas.Option.{get_or_from_slice_get, slice_get_read}
@@ -31,7 +31,7 @@ use Rattle.session_model.specs.Place.{takes_found}
 use Rattle.session_model.specs.Standing.{Standing, is_full}
 use Rattle.session_core.specs.Allowed.{MayChange, MayGrow}
 use Rattle.session_core.specs.HasNames.{IsNamed, HasNames}
-use Rattle.session_core.proofs.Naming.{given_within, AreAlike, apart_from, living_within, name_within, names_dropped}
+use Rattle.session_core.proofs.Naming.{given_within, AreAlike, apart_from, living_within, name_within, names_alike, names_dropped}
 
 pub alike_same : (m n : Market) → n ≡ m → AreAlike m n
 alike_same m n same = record {
@@ -39,6 +39,11 @@ alike_same m n same = record {
   given = λ o. ap (λ (x : Market). is_given (slot_at x o)) same;
   today = λ is. ap (λ (x : Market). slot_at x 0) same ∙ is;
 }
+
+-- so the names stay where the desk changes and its market does not
+pub names_stay : (p : Standing) (of_name : List (Option ℕ)) (live : ℕ) (t : State) → t.market ≡ p.state.market
+    → HasNames p of_name live → HasNames (record p { state = t }) of_name live
+names_stay p of_name live t same = names_alike p of_name live t p.stopped (alike_same p.state.market t.market same)
 
 -- what is of some kind is live
 kind_given : (slot : Slot) (kind : Kind) → kind_in slot ≡ Some kind → is_given slot ≡ true
@@ -186,11 +191,6 @@ pub growth_alike : {A E : Type 0} (s t : State) (g : Growth) (result : Result A 
     → OnOk result (t ≡ grown g s) → OnErr result (t ≡ s) → AreAlike s.market t.market
 growth_alike s t g (Ok x) may is same = to s t (grown g s) is (alike_grown s g may)
 growth_alike s t g (Err e) may is same = to s t s same (alike_same s.market s.market refl)
-
-pub told_alike : (s t : State) (result : Option ℕ) → IfNone result ((s.noticed ≡ []) × (t ≡ s))
-    → IfSome result (λ w. (s.noticed ≡ w ∷ t.noticed) × (t ≡ record s { noticed = t.noticed })) → AreAlike s.market t.market
-told_alike s t None none some = to s t s none.1 (alike_same s.market s.market refl)
-told_alike s t (Some w) none some = to s t (record s { noticed = t.noticed }) some.1 (alike_same s.market s.market refl)
 
 pub stored_alike : (s t : State) (calls : List (ℕ × Outcome)) → t ≡ stored s calls → AreAlike s.market t.market
 unfolding stored

@@ -22,8 +22,10 @@ use Rattle.ask_walk.specs.Recalcs as recalcs
 use Rattle.session_model.specs.Standing.{Standing}
 use Rattle.session_model.specs.Pricing.{Pricing, asking, recalculating}
 use Rattle.session_core.specs.Pricing.{Prices, StopsShort}
-use Rattle.session_core.proofs.Naming.{none_some, AreAlike}
+use Rattle.session_core.specs.HasNames.{HasNames}
+use Rattle.session_core.proofs.Naming.{none_some, AreAlike, names_alike}
 use Rattle.session_core.proofs.Alike.{stored_alike, asked_alike}
+use Rattle.session_core.proofs.Turns.{on_err_of}
 
 abbrev Log : Type 0
 Log = Option (List (ℕ × Bool))
@@ -203,9 +205,26 @@ module _ (calc : Calc) (o : ℕ) (s t : State) (count_old count_new : ℕ) (log_
       none_some (sym early
       ∙ (subst (λ (x : Recalced). recalcs.RecalcEnds calc o s t x count_old count_new log_old log_new) is ends).0)
 
--- the market stays
-pub ask_alike : {E : Type 0} (calc : Calc) (o : ℕ) (s t : State) (count_old count_new : ℕ) (log_old log_new : Log)
-    (result : Result Asked E) → IfOk result (λ answer. asks.Asks calc o s t answer count_old count_new log_old log_new)
-    → OnErr result (asks.Stops calc o s t count_old count_new log_old log_new) → AreAlike s.market t.market
-ask_alike calc o s t count_old count_new log_old log_new (Ok answer) a stops = asked_alike calc s t o a.state
-ask_alike calc o s t count_old count_new log_old log_new (Err e) a stops = stored_alike s t stops.front stops.state
+-- a session whose desk was asked, however that ends
+module _ {E : Type 0} (calc : Calc) (o : ℕ) (p : Standing) (t : State) (count_old count_new : ℕ) (log_old log_new : Log)
+    (result : Result Asked E) (done : IfOk result (λ answer. asks.Asks calc o p.state t answer count_old count_new log_old log_new))
+    (broken : OnErr result (asks.Stops calc o p.state t count_old count_new log_old log_new)) where
+  pub ask_names : (of_name : List (Option ℕ)) (live : ℕ) → HasNames p of_name live → HasNames (record p { state = t }) of_name live
+  ask_names of_name live = names_alike p of_name live t p.stopped (alike result done broken)
+    where
+      alike : (r : Result Asked E) → IfOk r (λ answer. asks.Asks calc o p.state t answer count_old count_new log_old log_new)
+          → OnErr r (asks.Stops calc o p.state t count_old count_new log_old log_new) → AreAlike p.state.market t.market
+      alike (Ok answer) a stops = asked_alike calc p.state t o a.state
+      alike (Err e) a stops = stored_alike p.state t stops.front stops.state
+
+  pub ask_done : (q : Standing) → p ≡ q → IfOk result
+      (λ answer. Prices (asking calc o q.state) o q (record p { state = t }) answer count_old count_new log_old log_new)
+  ask_done q same = subst (λ (r : Standing). IfOk result
+      (λ (answer : Asked). Prices (asking calc o r.state) o r (record p { state = t }) answer count_old count_new log_old log_new)) same
+      (if_ok result (ask_prices calc o p t count_old count_new log_old log_new) done)
+
+  pub ask_broken : (q : Standing) → p ≡ q
+      → OnErr result (StopsShort (asking calc o q.state) q (record p { state = t }) count_old count_new log_old log_new)
+  ask_broken q same = subst
+      (λ (r : Standing). OnErr result (StopsShort (asking calc o r.state) r (record p { state = t }) count_old count_new log_old log_new)) same
+      (on_err_of result (ask_stops calc o p t count_old count_new log_old log_new) broken)

@@ -1,5 +1,5 @@
 // What a command does: its turn, its change, and want of memory in it; and who was told by it.
-ghost use Rattle.std.specs.Prelude.{◌≡◌, ◌++◌, true, false, [], ◌∷◌, is_err, is_ok, IfNone, IfSome, OnOk, OnErr, ◌≤◌};
+ghost use Rattle.std.specs.Prelude.{◌≡◌, ◌++◌, true, false, is_err, is_ok, IfSome, OnOk, OnErr, ◌≤◌};
 ghost use Rattle.desk_terms.specs.Reading.{Calc};
 ghost use Rattle.desk_model.specs.Sound.{IsSound, KeepsCurrent};
 ghost use Rattle.price_report.specs.Line.{refusal_line};
@@ -8,7 +8,6 @@ ghost use Rattle.session_model.specs.Standing.{IsKnown};
 ghost use Rattle.session_model.specs.Resolve.{resolve};
 ghost use Rattle.session_core.specs.Allowed.{IsAllowed, MayChange, MayGrow};
 ghost use Rattle.session_core.specs.Steps.{Acts, Halts, Carries, BreaksOff, takes_no_memory, is_without_memory, with_state};
-ghost use Rattle.session_core.specs.Watchers.{IsAWatcher};
 ghost use Rattle.std.specs.Result.{result_err};
 ghost use Rattle.desk_model.specs.declared.slot.Slot.TheVariants.{Today};
 ghost use Rattle.desk_model.specs.Market.{live_count, slot_at};
@@ -17,7 +16,6 @@ ghost use Rattle.session_model.specs.Quiet.{is_quiet, is_quiet_act};
 ghost use Rattle.session_model.specs.Turn.{turn, effect_of};
 
 use crate::Session;
-use desk_names::ObjId;
 use desk_terms::{Bench, FixFault};
 use lazy_objects::Desk;
 use price_report::refusal_line;
@@ -28,7 +26,7 @@ use std::alloc::AllocError;
 impl Session {
     /// Does one command, and appends its line where it writes one: the answer of an ask or of a recalculation, or why the
     /// command is refused. A refused command changes nothing, and a command that writes nothing appends nothing. The
-    /// notices that it gives to watchers are kept for `next_told`. After want of memory the session is stopped; what was
+    /// notices that it gives to watchers are kept for `Desk::next_told`. After want of memory the session is stopped; what was
     /// computed before stays, and where the line alone found no memory, the command is done.
     pub fn act<B: Bench>(
         &mut self,
@@ -176,20 +174,8 @@ impl Session {
         refusal_line(self.alloc, command.word(), refusal, &self.namer(), lines)
     }
 
-    /// The first by creation of the watchers that were told and not handed out since; it is forgotten, so that only a
-    /// later change tells it again. It takes no memory.
-    pub fn next_told(&mut self) -> Option<ObjId>
-        ensures none { IfNone result ((self.old.state.noticed ≡ []) × (self.new ≡ self.old)) }
-        ensures some { IfSome result (λ w. (self.old.state.noticed ≡ w ∷ self.new.state.noticed)
-            × (self.new ≡ record self.old { state = record self.old.state { noticed = self.new.state.noticed } })) }
-        ensures watcher { IfSome result (IsAWatcher self.old) }
-        ensures sound { (calc : Calc) → IsSound calc self.old.state → IsSound calc self.new.state }
-    {
-        self.desk.next_told()
-    }
-
     /// Does a quiet command by itself, and answers why it is refused, if it is: a refused command changes nothing. The
-    /// notices that it gives are kept for `next_told`. It computes nothing, writes no line and takes no memory.
+    /// notices that it gives are kept for `Desk::next_told`. It computes nothing, writes no line and takes no memory.
     pub fn change(&mut self, command: &Command) -> Option<Refusal>
         requires running { self.old.stopped ≡ false }
         requires known { IsKnown self.old command.now }

@@ -2,11 +2,10 @@
 ghost use Rattle.std.specs.Prelude.{◌≡◌, ◌++◌, true, option_copied, IfOk, OnOk, OnErr};
 ghost use Rattle.desk_terms.specs.Asked.{Shows};
 ghost use Rattle.desk_terms.specs.Reading.{Outcome};
-ghost use Rattle.desk_model.specs.Links.{is_lazy_at};
 ghost use Rattle.desk_model.specs.Sound.{IsSound};
 ghost use Rattle.desk_model.specs.State.{kept_at};
 ghost use Rattle.session_model.specs.declared.act.Act.TheVariants as act;
-ghost use Rattle.session_model.specs.Pricing.{pricing_of, asking, recalculating, discount_in, priced_line};
+ghost use Rattle.session_model.specs.Pricing.{pricing_of, recalculating, discount_in, priced_line};
 ghost use Rattle.session_core.specs.Allowed.{MayPrice, MayRecalc};
 ghost use Rattle.session_core.specs.Pricing.{Prices, StopsShort};
 ghost use Rattle.session_core.specs.Steps.{Carries, BreaksOff};
@@ -66,25 +65,9 @@ impl Session {
         ensures sound { IsSound (B.calc bench.old) self.new.state }
     {
         match how {
-            How::Ask | How::Df(_) => self.ask(object, bench),
+            How::Ask | How::Df(_) => self.desk.ask(object, bench),
             How::Recalc => self.recalc(object, bench),
         }
-    }
-
-    /// Asks a lazy object. It computes only what it uses and has no current value.
-    pub fn ask<B: Bench>(&mut self, object: ObjId, bench: &mut B) -> Result<Asked, AllocError>
-        requires lazy { is_lazy_at self.old.state.market object ≡ true }
-        requires sound { IsSound (B.calc bench.old) self.old.state }
-        ensures same { B.calc bench.new ≡ B.calc bench.old }
-        ensures prices { IfOk result (λ answer. Prices (asking (B.calc bench.old) object self.old.state)
-            object self.old self.new answer (B.count bench.old) (B.count bench.new)
-            (B.log bench.old) (B.log bench.new)) }
-        ensures stops { OnErr result (StopsShort (asking (B.calc bench.old) object self.old.state)
-            self.old self.new (B.count bench.old) (B.count bench.new)
-            (B.log bench.old) (B.log bench.new)) }
-        ensures sound { IsSound (B.calc bench.old) self.new.state }
-    {
-        self.desk.ask(object, bench)
     }
 
     // Prices a lazy object that is not late, whatever its flags say.

@@ -2,15 +2,11 @@
 ghost use Rattle.std.specs.Prelude.{◌≡◌, ◌<◌, ◌≤◌, ◌+◌, ◌^◌, true, length, codes, None, [], IfOk, IfSome, replicate, slice_get, slice_index_or};
 ghost use Rattle.desk_names.specs.Names.{has_text};
 ghost use Rattle.desk_terms.specs.Reading.{Calc};
-ghost use Rattle.desk_model.specs.Uses.{input_at};
-ghost use Rattle.desk_model.specs.Links.{is_lazy_at};
 ghost use Rattle.desk_model.specs.Sound.{IsSound};
-ghost use Rattle.desk_model.specs.State.{least_source};
 ghost use Rattle.session_model.specs.Standing.{start_of, name_of};
 ghost use Rattle.session_core.specs.Watchers.{AreWatchers};
 
 use day_number::Day;
-use desk_model::Entry;
 use desk_names::{NameId, NameList, Names, ObjId};
 use lazy_objects::Desk;
 use price_report::Namer;
@@ -21,7 +17,8 @@ use std::ops::Deref;
 
 /// A session: its objects with their names, the values that are stored, and the actions of its script.
 pub struct Session {
-    pub(crate) desk: Desk,
+    /// Its objects, by number. Who changes them from outside leaves each of them alive or not as it was: the names stand.
+    pub desk: Desk,
     pub(crate) names: Names,
     pub(crate) of_object: NameList,
     pub(crate) actions: Actions,
@@ -197,15 +194,6 @@ impl Session {
         }
     }
 
-    /// What an object gives where another names it.
-    pub fn given(&mut self, object: ObjId) -> Result<Entry, AllocError>
-        requires within { object < length self.old.state.market.objects }
-        ensures entry { IfOk result (λ entry. entry ≡ input_at self.old.state.market object) }
-        ensures same { self.new ≡ self.old }
-    {
-        self.desk.given(object)
-    }
-
     /// How many numbers were given to objects.
     pub fn numbers(&self) -> u32
         ensures numbers { result ≡ length self.now.of_object }
@@ -213,15 +201,6 @@ impl Session {
     {
         let _ = &self.of_name;
         self.desk.numbers()
-    }
-
-    /// The least deferred source that makes a lazy object late, if any does.
-    pub fn late(&mut self, object: ObjId) -> Option<ObjId>
-        requires lazy { is_lazy_at self.old.state.market object ≡ true }
-        ensures late { result ≡ least_source self.old.state object }
-        ensures same { self.new ≡ self.old }
-    {
-        self.desk.late(object)
     }
 }
 

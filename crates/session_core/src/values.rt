@@ -35,7 +35,7 @@ impl Session {
         ensures { result ≡ is_current_of self.now name }
     {
         match self.find(Place::Priced, name) {
-            Ok(object) => self.desk.is_current(object),
+            Ok(object) => self.desk.marks(object).current,
             Err(_) => false,
         }
     }

@@ -1,5 +1,6 @@
 -- Notices are handed out one at a time.
 use Rattle.std.proofs.Common.{◌≡◌, ℕ, List, [], ◌∷◌, ◌++◌, refl, sym, ap, subst, ◌∙◌}
+use Rattle.desk_model.specs.State.{State}
 use Rattle.session_model.specs.Standing.{Standing}
 use Rattle.session_model.specs.Course.{Running, Course, quiet, before, and_then, notice, noticed, heard, all_handed_out}
 use Rattle.session_rounds.specs.Goes.{Output, Does, Halts, Goes}
@@ -13,6 +14,13 @@ with_noticed ws p = record p { state = record p.state { noticed = ws } }
 
 abbrev pub leaving : {P : Type 0} → List ℕ → Running P → Running P
 leaving ws r = record r { standing = with_noticed ws r.standing }
+
+-- a session whose desk stayed, and one whose desk forgot its notices
+pub kept : (p q : Standing) (t : State) → p ≡ q → t ≡ p.state → (record p { state = t }) ≡ q
+kept p q t same is = ap (λ (s : State). let z : Standing = record p { state = s } in z) is ∙ same
+
+pub forgotten : (p q : Standing) (t : State) → p ≡ q → t ≡ record p.state { noticed = [] } → (record p { state = t }) ≡ all_handed_out q
+forgotten p q t same is = ap (λ (s : State). let z : Standing = record p { state = s } in z) is ∙ ap all_handed_out same
 
 heard_first : {P : Type 0} → (r : Running P) (w : ℕ) (rest : List ℕ) → r.standing.state.noticed ≡ w ∷ rest
     → heard r ≡ and_then (notice w (drained r)) (noticed rest)

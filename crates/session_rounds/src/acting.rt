@@ -110,11 +110,14 @@ impl<P: Picker> WatchedSession<P> {
         ensures stopped { self.new.standing.stopped ≡ self.old.standing.stopped }
         ensures sound { (calc : Calc) → IsSound calc self.old.standing.state → IsSound calc self.new.standing.state }
     {
-        while let Some(watcher) = self.session.next_told() {
+        loop {
+            let session = &mut self.session;
+            let Some(watcher) = session.desk.next_told() else {
+                self.heard = true;
+                return Ok(());
+            };
             self.notice(watcher, lines)?;
         }
-        self.heard = true;
-        Ok(())
     }
 
     // A notice to a watcher: it is due, or its name is over, which the first time writes a line.
@@ -193,7 +196,7 @@ fn settled_with(settled: bool, notice: Notice, session: &Session, watcher: ObjId
     ensures { result ≡ true
         → (settled ≡ true) × (notice ≡ Due → is_watching session.now.state watcher ≡ true) }
 {
-    settled && (notice != Notice::Due || session.is_watching(watcher))
+    settled && (notice != Notice::Due || session.watching(watcher))
 }
 
 // Takes out of the due who has no registration left, unless each of them is known to have one.
@@ -217,7 +220,7 @@ fn forget_idle(rounds: &mut Rounds, session: &Session)
     while at > 0 {
         at -= 1;
         let watcher = rounds.due()[at].watcher;
-        if !session.is_watching(watcher) {
+        if !session.watching(watcher) {
             rounds.gone(watcher);
         }
     }

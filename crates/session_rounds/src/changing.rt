@@ -1,13 +1,10 @@
-// Quiet commands by themselves, without a round, and asks of what is held.
-ghost use Rattle.std.specs.Prelude.{◌≡◌, ◌<◌, true, false, length, IfOk, OnErr};
+// Quiet commands by themselves, and asks, without a round.
+ghost use Rattle.std.specs.Prelude.{◌≡◌, true, false, IfOk, OnErr};
 ghost use Rattle.std.specs.Result.{result_err};
 ghost use Rattle.desk_terms.specs.Reading.{Calc};
 ghost use Rattle.desk_model.specs.Links.{is_lazy_at};
-ghost use Rattle.desk_model.specs.State.{least_source};
-ghost use Rattle.desk_model.specs.Uses.{input_at};
 ghost use Rattle.desk_model.specs.Sound.{IsSound, KeepsCurrent};
 ghost use Rattle.session_core.specs.Pricing.{Prices, StopsShort};
-ghost use Rattle.session_core.specs.Values.{held_of};
 ghost use Rattle.session_model.specs.Pricing.{asking};
 ghost use Rattle.session_model.specs.Standing.{IsKnown};
 ghost use Rattle.session_model.specs.Quiet.{is_quiet};
@@ -17,8 +14,7 @@ ghost use Rattle.session_model.specs.Course.{taken};
 
 use crate::WatchedSession;
 use crate::acting::settle;
-use desk_model::Entry;
-use desk_names::{NameId, ObjId};
+use desk_names::ObjId;
 use desk_terms::{Asked, Bench};
 use session_commands::{Command, Refusal};
 use std::alloc::AllocError;
@@ -49,16 +45,6 @@ impl<P: Picker> WatchedSession<P> {
         refusal
     }
 
-    /// What an ask of the live lazy object that has a name answers where the object is frozen, late or current: its last
-    /// value, or that it has none. None exactly where it is none of these, or no such object has the name. Nothing is
-    /// computed, and it takes no memory.
-    pub fn ask_held(&mut self, name: NameId) -> Option<Asked>
-        ensures answer { result ≡ held_of self.old.standing name }
-        ensures same { self.new ≡ self.old }
-    {
-        self.session.ask_held(name)
-    }
-
     /// Asks a lazy object between rounds. It computes only what it uses and has no current value, and tells nobody.
     pub fn ask<B: Bench>(&mut self, object: ObjId, bench: &mut B) -> Result<Asked, AllocError>
         requires lazy { is_lazy_at self.old.standing.state.market object ≡ true }
@@ -75,24 +61,7 @@ impl<P: Picker> WatchedSession<P> {
     {
         self.settled = false;
         self.heard = false;
-        self.session.ask(object, bench)
-    }
-
-    /// The least deferred source that makes a lazy object late, if any does. It takes no memory.
-    pub fn late(&mut self, object: ObjId) -> Option<ObjId>
-        requires lazy { is_lazy_at self.old.standing.state.market object ≡ true }
-        ensures answer { result ≡ least_source self.old.standing.state object }
-        ensures same { self.new ≡ self.old }
-    {
-        self.session.late(object)
-    }
-
-    /// What an object gives where another names it: a quote its rate, a handle what its target gives, a lazy object itself.
-    pub fn given(&mut self, object: ObjId) -> Result<Entry, AllocError>
-        requires within { object < length self.old.standing.state.market.objects }
-        ensures entry { IfOk result (λ entry. entry ≡ input_at self.old.standing.state.market object) }
-        ensures same { self.new ≡ self.old }
-    {
-        self.session.given(object)
+        let session = &mut self.session;
+        session.desk.ask(object, bench)
     }
 }

@@ -3,7 +3,7 @@ ghost use Rattle.std.specs.Prelude.{◌≡◌, ◌≤◌, true, false, length, i
 ghost use Rattle.desk_terms.specs.Reading.{Calc};
 ghost use Rattle.desk_model.specs.Sound.{IsSound};
 ghost use Rattle.session_model.specs.Standing.{IsKnown, name_of};
-ghost use Rattle.session_model.specs.Course.{running, opened, round_of, course_of_all, action_of, runs_by, all_handed_out};
+ghost use Rattle.session_model.specs.Course.{running, opened, round_of, course_of_all, action_of, runs_by};
 ghost use Rattle.session_model.specs.Moments.{moments_of_round, moments_of_all, moments_of_runs};
 ghost use Rattle.session_rounds.specs.Fits.{AreKnown, IsHeard, IsLive};
 ghost use Rattle.session_rounds.specs.Goes.{Does, Halts, Stays, HasEnded};
@@ -13,6 +13,7 @@ ghost use Rattle.watch_rounds.specs.Round.{runs_left, watcher_at, with_run};
 
 use desk_names::ObjId;
 use desk_terms::Bench;
+use lazy_objects::Desk;
 use session_commands::{ActionId, Command};
 use session_core::Session;
 use std::alloc::{AllocError, Global};
@@ -22,7 +23,8 @@ use watch_rounds::{Picker, Rounds};
 
 /// A session whose watchers run their actions, and what picks who of the due runs next.
 pub struct WatchedSession<P> {
-    pub(crate) session: Session,
+    /// The session, with its objects and their names. Who changes it from outside leaves who is due as it was.
+    pub session: Session,
     pub(crate) rounds: Rounds,
     pub(crate) picker: P,
     // Whether each due watcher is known to have a registration.
@@ -173,7 +175,8 @@ impl<P: Picker> WatchedSession<P> {
         ensures opens { self.new ≡ opened self.old }
         ensures sound { (calc : Calc) → IsSound calc self.old.standing.state → IsSound calc self.new.standing.state }
     {
-        forget_notices(&mut self.session, self.heard);
+        let session = &mut self.session;
+        forget_notices(&mut session.desk, self.heard);
         self.heard = true;
         self.rounds.begin();
         self.settled = true;
@@ -300,23 +303,23 @@ impl<P: Picker> WatchedSession<P> {
 
 // Forgets the notices that are left, where any may be.
 #[inline(always)]
-fn forget_notices(session: &mut Session, heard: bool)
-    requires { IsHeard heard session.old.state }
-    ensures drained { session.new ≡ all_handed_out session.old }
-    ensures sound { (calc : Calc) → IsSound calc session.old.state → IsSound calc session.new.state }
+fn forget_notices(desk: &mut Desk, heard: bool)
+    requires { IsHeard heard desk.old }
+    ensures drained { desk.new ≡ record desk.old { noticed = [] } }
+    ensures sound { (calc : Calc) → IsSound calc desk.old → IsSound calc desk.new }
 {
     if !heard {
-        drain(session);
+        drain(desk);
     }
 }
 
 // Forgets the notices that are left.
 #[inline(never)]
-fn drain(session: &mut Session)
-    ensures drained { session.new ≡ all_handed_out session.old }
-    ensures sound { (calc : Calc) → IsSound calc session.old.state → IsSound calc session.new.state }
+fn drain(desk: &mut Desk)
+    ensures drained { desk.new ≡ record desk.old { noticed = [] } }
+    ensures sound { (calc : Calc) → IsSound calc desk.old → IsSound calc desk.new }
 {
-    while let Some(watcher) = session.next_told() {
+    while let Some(watcher) = desk.next_told() {
         let _ = watcher;
     }
 }

@@ -9,14 +9,14 @@ use Rattle.session_rounds.proofs.acting.forget_idle.Goals as goal
 before : (n : ℕ) → 0 < n → n ≡ suc (n - 1)
 before n some = omega arith
 
-pub loop-at-preserved-then-not-is_watching : goal.loop-at-preserved-then-not-is_watching
-loop-at-preserved-then-not-is_watching c =
+pub loop-at-preserved-then-not-watching : goal.loop-at-preserved-then-not-watching
+loop-at-preserved-then-not-watching c =
     let here = c.index.ensures ∙ ap (λ (l : List DueWatcher). get_or l (c.loop-at.at - 1) c.index.result.now) c.due-in-loop-at.ensures.due in
     let step = step_gone c.args.session.now.state c.args.rounds.now c.loop-at.rounds c.loop-at.at (c.loop-at.at - 1) c.index.result.now
     (before c.loop-at.at c.loop-at-test.true) c.loop-at.invariant.low here c.loop-at.invariant.others c.loop-at.invariant.kept
     c.loop-at.invariant.rest c.gone.new.self _
     refl c.due-in-loop-at.ensures.round.rising (subst (λ (s : State). is_watching s c.index.result.now.watcher ≡ false) c.deref.ensures
-    (sym c.is_watching.ensures ∙ c.if-not-is_watching.true))
+    (sym c.watching.ensures ∙ c.if-not-watching.true))
     c.gone.ensures.gone in
     record { low = step.0; others = step.1; kept = step.2; rest = step.3 }
 
@@ -32,7 +32,7 @@ loop-at-preserved c =
           (before c.loop-at.at c.loop-at-test.true) c.loop-at.invariant.low here c.loop-at.invariant.others c.loop-at.invariant.kept
           c.loop-at.invariant.rest _ refl
           (subst (λ (s : State). is_watching s c.index.result.now.watcher ≡ true) c.deref.ensures
-          (sym c.is_watching.ensures ∙ c.if-not-is_watching.false));
+          (sym c.watching.ensures ∙ c.if-not-watching.false));
     }
 
 pub returns-clause-undue : goal.returns-clause-undue

@@ -77,7 +77,7 @@ fn play(session: &mut WatchedSession<Order>, commands: &[Command], bench: &mut D
     }
 }
 
-// As `load_summary` counts.
+// As `session_play` counts.
 struct Tally {
     lines: u128,
     bytes: u128,

@@ -7,7 +7,7 @@ use Rattle.session_model.specs.Ends.{names_of_watchers}
 use Rattle.session_model.specs.Shows.{Shows}
 use Rattle.watch_rounds.specs.declared.picker.Order.{Order}
 use Rattle.watch_rounds.specs.declared.picker.Order.TheVariants.{First}
-use Rattle.load_summary.specs.Summary.{tally_of, summary}
+use Rattle.session_play.specs.Summary.{tally_of, summary}
 use Rattle.desk_plan.specs.declared.status.Status.{Status}
 use Rattle.desk_plan.specs.Verdict.{ScriptRun, Plan, Run, Load, Check}
 use Rattle.session_play.specs.Output.{first_standing, ordered, written_by}

@@ -4,3 +4,4 @@ pub mod Played
 pub mod Progress
 pub mod Reported
 pub mod Summed
+pub mod Tallies

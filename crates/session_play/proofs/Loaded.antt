@@ -10,7 +10,7 @@ use Rattle.watch_rounds.specs.declared.picker.Order.{Order}
 use Rattle.watch_rounds.specs.declared.picker.Order.TheVariants.{First}
 use Rattle.session_play.specs.Early.{outside, IsCut, IsHalted}
 use Rattle.session_play.specs.Round.{StopsWithin}
-use Rattle.load_summary.specs.Summary.{Tally, tally_of, summary}
+use Rattle.session_play.specs.Summary.{Tally, tally_of, summary}
 use Rattle.desk_plan.specs.Verdict.{ScriptRun, Load}
 use Rattle.session_play.specs.Output.{first_standing, ordered, written_by, made_by, as_round, output_in, computed_in, rounds_in}
 use Rattle.session_play.proofs.Progress.{Log}

@@ -9,11 +9,11 @@ use Rattle.session_rounds.specs.Goes.{Output, Does, Halts, Stays}
 use Rattle.session_model.specs.Rounds.{rounds, calls_in, calls_of, transcript}
 use Rattle.session_play.specs.Early.{Outside, outside, next_of, IsHalted}
 use Rattle.session_play.specs.Round.{IsCounted, StopsWithin}
-use Rattle.load_summary.specs.Summary.{Tally, tally_of, with_bytes}
+use Rattle.session_play.specs.Summary.{Tally, tally_of, with_bytes}
 use Rattle.session_play.proofs.Played.{begun_with}
 use Rattle.session_play.proofs.Progress.{Log, Progress, progress_none, progress_more, progress_next, progress_last, progress_bytes, progress_count, progress_log, progress_halted, calls_front, calls_long}
 use Rattle.session_play.proofs.Reported.{all_made}
-use Rattle.load_summary.proofs.Tallies.{tally_more}
+use Rattle.session_play.proofs.Tallies.{tally_more}
 
 -- where a load stands that began at `first`: `rest` is left of its commands
 pub record Summed (P : Type 0) (m : Meaning P) (first : Running P) (commands rest : List Command) (state : Running P) (tally : Tally) (count0 : ℕ) (log0 : Log) (count : ℕ) (log : Log) : Type 0 where

@@ -3,4 +3,5 @@ pub mod Output
 pub mod Report
 pub mod Round
 pub mod Rows
+pub mod Summary
 pub mod Written

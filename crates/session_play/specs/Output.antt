@@ -8,7 +8,7 @@ use Rattle.session_model.specs.Standing.{Standing, start_of, start_with}
 use Rattle.watch_rounds.specs.Order.{order_at, order_after}
 use Rattle.watch_rounds.specs.declared.picker.Order.{Order}
 use Rattle.watch_rounds.specs.declared.picker.Order.TheVariants.{First}
-use Rattle.load_summary.specs.Summary.{tally_of, summary}
+use Rattle.session_play.specs.Summary.{tally_of, summary}
 use Rattle.desk_plan.specs.declared.status.Status.{Status}
 use Rattle.desk_plan.specs.Verdict.{ScriptRun, Plan, Run, Load, Check}
 use Rattle.session_play.specs.Early.{Outside, IsToldSoFar}

@@ -3,7 +3,7 @@ use Rattle.std.specs.Prelude.{◌≡◌, ◌+◌, ◌<◌, ◌≤◌, ℕ, Bool,
 use Rattle.desk_edge.specs.Sink.{appended}
 use Rattle.desk_terms.specs.Bench.{counted, logged}
 use Rattle.session_model.specs.Course.{Running, Course}
-use Rattle.load_summary.specs.Summary.{Tally, with_bytes}
+use Rattle.session_play.specs.Summary.{Tally, with_bytes}
 use Rattle.desk_plan.specs.declared.status.Status.{Status}
 use Rattle.desk_plan.specs.declared.status.Status.TheVariants.{Done, Usage, Market, Script, ReadFault, WriteFault, NoMemory, Absent}
 use Rattle.session_play.specs.Early.{Outside}

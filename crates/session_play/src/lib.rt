@@ -5,9 +5,11 @@
 #![tactic(auto)]
 
 mod carrying;
+mod load_lines;
 mod play;
 mod report;
 mod rows;
 mod summing;
+mod tally;
 
 pub use carrying::carry_out;

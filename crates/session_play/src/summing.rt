@@ -12,13 +12,14 @@ ghost use Rattle.desk_plan.specs.Found.{CanRun, run_in};
 ghost use Rattle.desk_plan.specs.Verdict.{Load as LoadWanted};
 ghost use Rattle.session_play.specs.Round.{IsCounted, StopsWithin};
 ghost use Rattle.session_play.specs.Written.{IsLate, Writes, ended};
-ghost use Rattle.load_summary.specs.Summary.{tally_of};
+ghost use Rattle.session_play.specs.Summary.{tally_of};
 ghost use Rattle.session_play.specs.Output.{output_in, computed_in, rounds_in};
 
+use crate::load_lines::summary;
+use crate::tally::Tally;
 use desk_edge::{Sink, write_whole};
 use desk_plan::{ScriptRun, Status};
 use desk_terms::Bench;
-use load_summary::{Tally, summary};
 use market_session::begun;
 use session_commands::Command;
 use session_rounds::WatchedSession;

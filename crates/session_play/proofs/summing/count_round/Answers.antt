@@ -2,8 +2,8 @@ use Rattle.std.proofs.Common.{◌∙◌, ℕ, List, ap, subst, arith}
 use Rattle.std.proofs.lemmas.Result.{err_from_is_err_and}
 use Rattle.session_model.specs.Course.{Meaning, round_of}
 use Rattle.session_rounds.specs.Goes.{Output, Does, Halts}
-use Rattle.load_summary.specs.Summary.{Tally}
-use Rattle.load_summary.proofs.Tallies.{bytes_long}
+use Rattle.session_play.specs.Summary.{Tally}
+use Rattle.session_play.proofs.Tallies.{bytes_long}
 use Rattle.session_play.proofs.Summed.{counted_done, counted_halts, counted_all}
 use Rattle.session_play.proofs.summing.count_round.Goals as goal
 

@@ -3,7 +3,7 @@ use Rattle.std.proofs.lemmas.Result.{err_from_is_err_and}
 use Rattle.desk_terms.specs.Reading.{Calc}
 use Rattle.session_model.specs.Course.{Meaning, round_of}
 use Rattle.session_rounds.specs.Goes.{Stays}
-use Rattle.load_summary.specs.Summary.{Tally}
+use Rattle.session_play.specs.Summary.{Tally}
 use Rattle.session_play.specs.Early.{outside}
 use Rattle.session_play.specs.Round.{IsCounted, StopsWithin}
 use Rattle.std.specs.Prelude.{None}

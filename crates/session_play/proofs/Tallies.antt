@@ -2,7 +2,7 @@
 use Rattle.std.proofs.Common.{◌≡◌, ◌∙◌, ℕ, suc, ◌+◌, ◌-◌, ◌≤◌, Bool, true, false, not, ◌&&◌, ◌==◌, if◌then◌else◌, List, [], ◌∷◌, ◌++◌, length, slice_index_or, refl, sym, ap, arith, true≢false, append_assoc, length-append}
 use Rattle.std.proofs.lemmas.List.{append-nil}
 use Rattle.std.specs.List.{filter}
-use Rattle.load_summary.specs.Summary.{Tally, tally_of, line_count, is_one_line, last_line, ends_line, with_byte, with_bytes}
+use Rattle.session_play.specs.Summary.{Tally, tally_of, line_count, is_one_line, last_line, ends_line, with_byte, with_bytes}
 
 and_true : (a : Bool) → (a && true) ≡ a
 and_true true = refl

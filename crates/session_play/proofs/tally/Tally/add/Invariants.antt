@@ -1,6 +1,6 @@
 use Rattle.std.proofs.Common.{◌≡◌, ◌+◌, take}
-use Rattle.load_summary.specs.Summary.{with_bytes}
-use Rattle.load_summary.proofs.tally.Tally.add.Given as goal
+use Rattle.session_play.specs.Summary.{with_bytes}
+use Rattle.session_play.proofs.tally.Tally.add.Given as goal
 
 abbrev pub invariant-loop-byte : goal.invariant-loop-byte
 invariant-loop-byte l = record {

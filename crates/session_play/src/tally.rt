@@ -1,6 +1,6 @@
 // What is kept of a text that is not held: how long it is, and its last line.
 ghost use Rattle.std.specs.Prelude.{◌≡◌, ◌+◌, ◌<◌, ◌^◌, [], length, OnOk};
-ghost use Rattle.load_summary.specs.Summary.{tally_of, ends_line, with_byte, with_bytes};
+ghost use Rattle.session_play.specs.Summary.{tally_of, ends_line, with_byte, with_bytes};
 
 use std::alloc::{AllocError, Global};
 use std::marker::Model;
@@ -15,7 +15,7 @@ pub struct Tally {
 
 impl Model for Tally {
     ghost use Rattle.std.specs.Prelude.{◌≤◌};
-    ghost use Rattle.load_summary.specs.Summary.{Tally as Kept};
+    ghost use Rattle.session_play.specs.Summary.{Tally as Kept};
 
     ghost Value = { Kept };
 

@@ -1,6 +1,6 @@
 use Rattle.std.proofs.Common.{refl}
 use Rattle.std.specs.Fmt.{digits}
-use Rattle.load_summary.proofs.rows.loads_are_summed_up.Goals as goal
+use Rattle.session_play.proofs.rows.loads_are_summed_up.Goals as goal
 
 pub returns : goal.returns
 unfolding digits

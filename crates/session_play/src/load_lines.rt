@@ -1,8 +1,8 @@
 // The lines of a load.
 ghost use Rattle.std.specs.Prelude.{◌≡◌, IfOk};
-ghost use Rattle.load_summary.specs.Summary.{summary};
+ghost use Rattle.session_play.specs.Summary.{summary};
 
-use crate::Tally;
+use crate::tally::Tally;
 use std::alloc::{AllocError, Global};
 
 /// The summary of a load of this size, whose transcript has this tally: the line `load SIZE lines LINES bytes BYTES`, and the

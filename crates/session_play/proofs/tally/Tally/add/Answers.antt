@@ -1,8 +1,8 @@
 use Rattle.std.proofs.Common.{◌∙◌, ℕ, List, take, get_or, refl, sym, ap, arith}
 use Rattle.std.proofs.lemmas.List.{take_more}
-use Rattle.load_summary.specs.Summary.{Tally, with_byte, with_bytes}
-use Rattle.load_summary.proofs.Tallies.{bytes_more}
-use Rattle.load_summary.proofs.tally.Tally.add.Goals as goal
+use Rattle.session_play.specs.Summary.{Tally, with_byte, with_bytes}
+use Rattle.session_play.proofs.Tallies.{bytes_more}
+use Rattle.session_play.proofs.tally.Tally.add.Goals as goal
 
 pub loop-byte-init : goal.loop-byte-init
 unfolding with_bytes

@@ -1,9 +1,0 @@
--- The lines of loads, written by hand.
-use Rattle.std.specs.Prelude.{◌≡◌, [], codes}
-use Rattle.load_summary.specs.Summary.{summary, tally_of}
-
-pub record AreWritten : Type 0 where
-  pub nothing : summary 1 (tally_of []) ≡ codes "load 1 lines 0 bytes 0\n"
-  pub two : summary 2 (tally_of (codes "c2 6.000000 fresh 4\nc2 7.000000 fresh 3\n")) ≡
-      codes "load 2 lines 2 bytes 40\nc2 7.000000 fresh 3\n"
-  pub begun : summary 1_000 (tally_of (codes "a\nb")) ≡ codes "load 1000 lines 1 bytes 3\nb"

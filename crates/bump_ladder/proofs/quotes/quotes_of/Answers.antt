@@ -11,7 +11,7 @@ pub loop-number-preserved : goal.loop-number-preserved
 loop-number-preserved c =
     let market = c.args.desk.now.market in
     let o = c.loop-number.number in
-    rw c.kind.ensures at c.in_ok-push_quote.ensures
+    rw (c.kind.ensures, c.deref.ensures) at c.in_ok-push_quote.ensures
     ∙ ap (λ (l : List ℕ). l ++ quote_by o (kind_at market o)) c.loop-number.invariant ∙ sym (quotes_next market o)
 
 pub returns-clause-quotes : goal.returns-clause-quotes

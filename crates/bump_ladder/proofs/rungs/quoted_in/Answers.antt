@@ -16,7 +16,7 @@ loop-quote-init c = record {
 pub quote-requires : goal.quote-requires
 quote-requires c =
     let steps = next_item c.args.quotes.now c.loop-quote.quote-index c.quote-item.result c.loop-quote-test.true c.quote-item.is in
-    quote_first _ _ _ steps c.args.desk.now.market c.loop-quote.invariant.quotes
+    rw c.deref.ensures (quote_first _ _ _ steps c.args.desk.now.market c.loop-quote.invariant.quotes)
 
 pub loop-quote-preserved : goal.loop-quote-preserved
 loop-quote-preserved c =
@@ -25,7 +25,7 @@ loop-quote-preserved c =
     record {
       quoted = c.in_ok-quote_any.ensures (quoted_in m (drop (c.loop-quote.quote-index + 1) c.args.quotes.now))
           ∙ ap (λ (l : List Quoted). c.loop-quote.quoted.items ++ l)
-          (sym (quoted_step _ _ _ steps m c.quote.result (quoted_value m c.quote-item.result c.quote.result c.quote.ensures)))
+          (sym (quoted_step _ _ _ steps m c.quote.result (quoted_value m c.quote-item.result c.quote.result (rw c.deref.ensures at c.quote.ensures))))
           ∙ c.loop-quote.invariant.quoted;
       quotes = quotes_rest _ _ _ steps m c.loop-quote.invariant.quotes;
     }

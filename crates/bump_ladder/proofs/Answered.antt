@@ -1,9 +1,8 @@
 -- What one ask of an instrument gives, and what it leaves.
-use Rattle.std.proofs.Common.{◌≡◌, ℕ, Option, Some, None, Result, Err, sym, ◌∙◌, ap, subst, arith, Ok, length}
-use Rattle.std.specs.Prelude.{IfSome, IfOk, OnErr}
+use Rattle.std.proofs.Common.{◌≡◌, ℕ, Option, Some, None, Result, Err, sym, ◌∙◌, ap, subst, arith, Ok}
+use Rattle.std.specs.Prelude.{IfSome}
 use Rattle.std.proofs.lemmas.Int.{ints}
 use Rattle.desk_terms.specs.declared.asked.Asked.{Asked}
-use Rattle.desk_terms.specs.declared.cause.Cause.{Cause}
 use Rattle.desk_terms.specs.declared.value.Value.{Value}
 use Rattle.desk_terms.specs.declared.value.Value.TheVariants.{Money, Curve}
 use Rattle.desk_terms.specs.declared.kind.Kind.{Kind}
@@ -11,12 +10,11 @@ use Rattle.desk_terms.specs.declared.kind.Kind.TheVariants as kind
 use Rattle.desk_terms.specs.declared.terms.Terms.{Terms}
 use Rattle.desk_terms.specs.Terms.{kind_of}
 use Rattle.desk_terms.specs.Asked.{Shows}
-use Rattle.desk_terms.specs.Reading.{Outcome, Calc, IsValueOf}
+use Rattle.desk_terms.specs.Reading.{Calc, IsValueOf}
 use Rattle.desk_model.specs.Links.{IsValued}
 use Rattle.desk_model.specs.Fresh.{fresh}
 use Rattle.desk_model.specs.Market.{terms_at}
 use Rattle.desk_model.specs.State.{State, kept_at}
-use Rattle.desk_model.specs.Visit.{runs}
 use Rattle.desk_model.specs.Unheld.{HoldsNothing}
 use Rattle.desk_model.proofs.Unheld.{others_hold_nothing, unheld_afresh}
 use Rattle.ask_walk.specs.Asks as asks
@@ -25,47 +23,6 @@ use Rattle.bump_model.specs.Sides.{IsPaid}
 use Rattle.bump_model.specs.Asking.{Asking, Asks, MadeFront, ask_of}
 use Rattle.bump_model.proofs.Calls.{Log, Did, front_all}
 use Rattle.bump_model.proofs.Asking.{stored_market, stored_unheld, asked_market}
-
-module _ {E : Type 0} (calc : Calc) (o : ℕ) (s t : State) (count now : ℕ) (log log_now : Log) where
-  abbrev pub Answered : Result Asked E → Type 0
-  Answered result = IfOk result (λ answer. asks.Asks calc o s t answer count now log log_now)
-
-  abbrev pub Stopped : Result Asked E → Type 0
-  Stopped result = OnErr result (Stops calc o s t count now log log_now)
-
-  pub ended_asks : (result : Result Asked E) → Answered result → Stopped result → Asks (ask_of calc o s) result t
-      count now log log_now
-  ended_asks (Ok answer) does stops = (does.state, record { count = does.count; log = does.log })
-  ended_asks (Err fault) does stops =
-      record { front = stops.front; rest = stops.rest; whole = stops.whole; count = stops.count; log = stops.log }
-
-  pub ended_market : (result : Result Asked E) → Answered result → Stopped result → t.market ≡ s.market
-  ended_market (Ok answer) does stops = ap (λ (u : State). u.market) does.state ∙ asked_market calc o s
-  ended_market (Err fault) does stops = ap (λ (u : State). u.market) stops.state ∙ stored_market s stops.front
-
-  pub ended_unheld : (result : Result Asked E) → Answered result → Stopped result → HoldsNothing s → HoldsNothing t
-  ended_unheld (Ok answer) does stops free =
-      subst (λ (u : State). HoldsNothing u) (sym does.state) ((others_hold_nothing s free).ask calc o)
-  ended_unheld (Err fault) does stops free =
-      subst (λ (u : State). HoldsNothing u) (sym stops.state) (stored_unheld s stops.front free)
-
-  -- what is shown is the price afresh
-  pub ended_shown : (result : Result Asked E) → Answered result → HoldsNothing s
-      → IfOk result (λ answer. Shows answer.cause (kept_at t o).last (fresh calc s.market o))
-  ended_shown (Ok answer) does free =
-      subst (λ (outcome : Outcome). Shows answer.cause (kept_at t o).last outcome) (unheld_afresh s free calc o).value
-      does.shown
-  ended_shown (Err fault) does free = tt
-
-  pub ended_runs : (result : Result Asked E) → Answered result → IfOk result (λ answer. answer.runs ≡ length (runs
-      calc s o))
-  ended_runs (Ok answer) does = does.number
-  ended_runs (Err fault) does = tt
-
-pub shown_last : (cause : Option Cause) (last stored : Option Value) (outcome : Outcome) → last ≡ stored → Shows cause
-    stored outcome
-    → Shows cause last outcome
-shown_last cause last stored outcome is shown = subst (λ (l : Option Value). Shows cause l outcome) (sym is) shown
 
 -- whatever comes behind asks that were answered
 pub asks_any : {A E : Type 0} (asking : Asking) (result : Result A E) (t : State) (count now : ℕ) (log log_now : Log)
@@ -78,6 +35,42 @@ pub front_asks : {A E : Type 0} (asking : Asking) (result : Result A E) (t : Sta
     (fault : E) → result ≡ Err fault → MadeFront asking.calls count now log log_now
     → Asks asking result t count now log log_now
 front_asks asking result t count now log log_now fault is made = rw is made
+
+-- an ask that was answered, in a state that holds nothing back
+module _ {calc : Calc} {o : ℕ} {s t : State} {answer : Asked} {count now : ℕ} {log log_now : Log} (does : asks.Asks calc o s t answer count now log log_now) where
+  pub answered_asks : Did (ask_of calc o s) t count now log log_now
+  answered_asks = (does.state, record { count = does.count; log = does.log })
+
+  pub answered_market : t.market ≡ s.market
+  answered_market = ap (λ (u : State). u.market) does.state ∙ asked_market calc o s
+
+  pub answered_unheld : HoldsNothing s → HoldsNothing t
+  answered_unheld free = subst HoldsNothing (sym does.state) ((others_hold_nothing s free).ask calc o)
+
+  -- what is shown is the price afresh
+  pub answered_shown : HoldsNothing s → (last : Option Value) → last ≡ (kept_at t o).last
+      → Shows answer.cause last (fresh calc s.market o)
+  answered_shown free last is =
+      subst (λ (l : Option Value). Shows answer.cause l (fresh calc s.market o)) (sym is)
+      (subst (Shows answer.cause (kept_at t o).last) (unheld_afresh s free calc o).value does.shown)
+
+-- an ask for which memory ran out
+module _ {calc : Calc} {o : ℕ} {s t : State} {count now : ℕ} {log log_now : Log} (stops : Stops calc o s t count now log log_now) where
+  pub stopped_asks : {A E : Type 0} (result : Result A E) (fault : E) → result ≡ Err fault
+      → Asks (ask_of calc o s) result t count now log log_now
+  stopped_asks result fault is = front_asks (ask_of calc o s) result t count now log log_now fault is record {
+    front = stops.front;
+    rest = stops.rest;
+    whole = stops.whole;
+    count = stops.count;
+    log = stops.log;
+  }
+
+  pub stopped_market : t.market ≡ s.market
+  stopped_market = ap (λ (u : State). u.market) stops.state ∙ stored_market s stops.front
+
+  pub stopped_unheld : HoldsNothing s → HoldsNothing t
+  stopped_unheld free = subst HoldsNothing (sym stops.state) (stored_unheld s stops.front free)
 
 -- ---- the last value of an object is money within its limit, or no money
 

@@ -8,7 +8,6 @@ ghost use Rattle.desk_model.specs.Unheld.{HoldsNothing};
 ghost use Rattle.bump_model.specs.Asking.{Asks, ask_of};
 ghost use Rattle.bump_ladder.specs.Curves.{curve_of, curve_at, curve_given, given_asking};
 
-use crate::pricing::ask;
 use curve_points::{CurveValue, copy_curve};
 use desk_model::Entry;
 use desk_names::ObjId;
@@ -61,7 +60,7 @@ pub fn curve_at<B: Bench>(
     ensures sound { IsSound (B.calc bench.old) desk.new }
     ensures unheld { HoldsNothing desk.new }
 {
-    let asked = ask(desk, object, bench)?;
+    let asked = desk.ask(object, bench)?;
     curve_of(alloc, object, &asked, desk.last(object))
 }
 

@@ -1,13 +1,9 @@
-// What an object is worth now: an instrument, or a curve.
-ghost use Rattle.std.specs.Prelude.{◌≡◌, ◌<◌, ◌≤◌, ◌^◌, unsigned_abs, Some, true, length, IfOk, IfSome, option_copied};
-ghost use Rattle.desk_model.specs.Fresh.{fresh};
-ghost use Rattle.desk_model.specs.Market.{terms_at};
-ghost use Rattle.desk_model.specs.State.{kept_at};
+// What an instrument is worth now.
+ghost use Rattle.std.specs.Prelude.{◌≡◌, ◌<◌, ◌≤◌, ◌^◌, unsigned_abs, true, length, IfOk, IfSome, option_copied};
 ghost use Rattle.desk_model.specs.Visit.{runs};
-ghost use Rattle.desk_model.specs.Links.{is_lazy_at, IsValued};
+ghost use Rattle.desk_model.specs.Links.{is_lazy_at};
 ghost use Rattle.desk_model.specs.Sound.{IsSound};
 ghost use Rattle.desk_model.specs.Unheld.{HoldsNothing};
-ghost use Rattle.desk_terms.specs.declared.value.Value as priced;
 ghost use Rattle.desk_terms.specs.Asked.{Shows};
 ghost use Rattle.desk_terms.specs.Reading.{Outcome};
 ghost use Rattle.bump_model.specs.Sides.{IsPaid, amount_of, worth};
@@ -24,29 +20,6 @@ use std::alloc::AllocError;
 pub(crate) struct Priced {
     pub(crate) amount: Result<Amount, Cause>,
     pub(crate) runs: u64,
-}
-
-// Asks an object. It shows its price afresh.
-pub(crate) fn ask<B: Bench>(
-    desk: &mut Desk,
-    object: ObjId,
-    bench: &mut B,
-) -> Result<Asked, AllocError>
-    requires lazy { is_lazy_at desk.old.market object ≡ true }
-    requires sound { IsSound (B.calc bench.old) desk.old }
-    requires unheld { HoldsNothing desk.old }
-    ensures same { B.calc bench.new ≡ B.calc bench.old }
-    ensures shown { IfOk result (λ asked. Shows asked.cause (kept_at desk.new object).last (fresh (B.calc bench.old) desk.old.market object)) }
-    ensures valued { (value : priced.Value) → (kept_at desk.new object).last ≡ Some value → IsValued (terms_at desk.new.market object) object value }
-    ensures runs { IfOk result (λ asked. asked.runs ≡ length (runs (B.calc bench.old) desk.old object)) }
-    ensures few { IfOk result (λ asked. asked.runs < 2 ^ 17) }
-    ensures asks { Asks (ask_of (B.calc bench.old) object desk.old) result desk.new
-        (B.count bench.old) (B.count bench.new) (B.log bench.old) (B.log bench.new) }
-    ensures market { desk.new.market ≡ desk.old.market }
-    ensures sound { IsSound (B.calc bench.old) desk.new }
-    ensures unheld { HoldsNothing desk.new }
-{
-    desk.ask(object, bench)
 }
 
 // Asks an instrument.
@@ -69,7 +42,7 @@ pub(crate) fn price<B: Bench>(
     ensures sound { IsSound (B.calc bench.old) desk.new }
     ensures unheld { HoldsNothing desk.new }
 {
-    let asked = ask(desk, object, bench)?;
+    let asked = desk.ask(object, bench)?;
     Ok(Priced {
         amount: amount_of(object, &asked, desk.last(object)),
         runs: asked.runs,

@@ -12,7 +12,7 @@ pub loop-number-preserved : goal.loop-number-preserved
 loop-number-preserved c =
     let market = c.args.desk.now.market in
     let n = c.loop-number.number in
-    let is : c.is_curve.result ≡ is_curve (kind_at market n) = rw c.kind.ensures at c.is_curve.ensures in
+    let is : c.is_curve.result ≡ is_curve (kind_at market n) = rw (c.kind.ensures, c.deref.ensures) at c.is_curve.ensures in
     elim c.if-is_curve.branch [
       | then-is_curve w ↦ w.found-is ∙ w.if-is_curve.true ∙ sym (curve_next market n ∙ ap (λ (b : Bool). b || curve_below market n) (sym is ∙ w.if-is_curve.true))
       | else-is_curve w ↦ w.found-is ∙ c.loop-number.invariant ∙ sym (curve_next market n ∙ ap (λ (b : Bool). b || curve_below market n) (sym is ∙ w.if-is_curve.false))

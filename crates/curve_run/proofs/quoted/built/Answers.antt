@@ -5,4 +5,4 @@ use Rattle.curve_run.proofs.Quoting.{built_bare}
 use Rattle.curve_run.proofs.quoted.built.Goals as goal
 
 pub returns : goal.returns
-returns c = c.built_of.ensures ∙ ap built_in c.terms.ensures ∙ built_bare (terms_at c.args.desk.now.market c.args.object)
+returns c = c.built_of.ensures ∙ ap built_in (rw c.deref.ensures at c.terms.ensures) ∙ built_bare (terms_at c.args.desk.now.market c.args.object)

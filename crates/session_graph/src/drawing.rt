@@ -23,7 +23,7 @@ pub fn session_graph<P: Picker>(
     ensures err { OnErr result (out.new.items ≡ out.old.items) }
     ensures same { session.new ≡ session.old }
 {
-    let nodes = nodes_of(alloc, session)?;
+    let nodes = nodes_of(alloc, &mut session.session)?;
     let edges = edges_of(alloc, session.session())?;
     let of_object = names_of(alloc, session.session())?;
     let namer = Namer {

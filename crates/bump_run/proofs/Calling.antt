@@ -2,7 +2,7 @@
 use Rattle.std.proofs.Common.{◌≡◌, ℕ, Bool, List, [], Option, Result, Ok, Err, ℤ, codes, sym, ◌∙◌, ap, subst}
 use Rattle.desk_terms.specs.declared.kind.Wanted.TheVariants.{Member}
 use Rattle.desk_terms.specs.declared.cause.Cause.{Cause}
-use Rattle.desk_terms.specs.Reading.{Outcome, Calc}
+use Rattle.desk_terms.specs.Reading.{Calc}
 use Rattle.desk_model.specs.State.{State}
 use Rattle.bump_model.specs.Asking.{Made, IsLadder, IsRefused, ladder_asking}
 use Rattle.bump_model.specs.Sides.{rungs_of}

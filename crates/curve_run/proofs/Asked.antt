@@ -1,6 +1,6 @@
 -- The prices of curves, one behind another.
-use Rattle.std.proofs.Common.{◌≡◌, ℕ, ◌+◌, ◌<◌, ◌≤◌, true, List, [], ◌∷◌, ◌++◌, length, get_or, drop, Result, refl, sym, ◌∙◌, ap, subst}
-use Rattle.std.proofs.lemmas.List.{drop_more, drop_all}
+use Rattle.std.proofs.Common.{◌≡◌, ℕ, ◌+◌, ◌<◌, true, List, [], ◌∷◌, ◌++◌, length, get_or, drop, Result, refl, sym, ◌∙◌, ap, subst}
+use Rattle.std.proofs.lemmas.List.{drop_more}
 use Rattle.std.proofs.lemmas.List.Elements.{All-head, All-tail}
 use Rattle.curve_points.specs.Curve.{Curve}
 use Rattle.desk_terms.specs.declared.cause.Cause.{Cause}
@@ -8,10 +8,8 @@ use Rattle.desk_terms.specs.declared.kind.Wanted.TheVariants.{CurveTarget}
 use Rattle.desk_terms.specs.Reading.{Calc}
 use Rattle.desk_model.specs.Links.{serves_as, is_lazy_at}
 use Rattle.desk_model.specs.Market.{Market, kind_at}
-use Rattle.desk_model.specs.State.{State}
-use Rattle.bump_model.specs.Asking.{MadeFront, none, ask_of, then_ask}
+use Rattle.bump_model.specs.Asking.{none}
 use Rattle.bump_ladder.specs.Curves.{curve_at}
-use Rattle.bump_model.proofs.Calls.{Log, Did}
 use Rattle.curve_run.specs.Named.{AreCurves}
 use Rattle.curve_run.specs.Pricing.{curve_in, refused_in, curves_of, refused_lines}
 use Rattle.curve_run.proofs.Served.{curve_lazy}

@@ -1,25 +1,19 @@
--- The quotes of a curve's helpers are objects of the market, and the helpers are in range.
-use Rattle.std.proofs.Common.{◌≡◌, ◌∙◌, inl, inr, ℕ, ℤ, ◌<◌, Bool, true, false, List, [], ◌∷◌, length, Option, Some, None, refl, sym, ap, subst}
+-- The quotes of a curve's helpers are objects of the market.
+use Rattle.std.proofs.Common.{◌≡◌, inl, inr, ℕ, ◌<◌, Bool, true, false, List, [], ◌∷◌, length, Option, Some, None, refl, sym, ap, subst}
 use Rattle.std.specs.Prelude.{if◌then◌else◌}
 use Rattle.std.specs.List.{All}
 use Rattle.std.proofs.lemmas.List.Elements.{All-nil, All-cons}
 use Rattle.walks.specs.Walk.{Among}
 use Rattle.curve_terms.specs.declared.terms.CurveTerms.{CurveTerms}
 use Rattle.curve_terms.specs.declared.terms.Helper.{Helper}
-use Rattle.curve_terms.specs.Terms.{IsHelper}
 use Rattle.desk_terms.specs.declared.terms.Terms.{Terms}
 use Rattle.desk_terms.specs.declared.terms.Terms.TheVariants as terms
 use Rattle.desk_terms.specs.Terms.{moves, helper_references}
 use Rattle.desk_model.specs.Market.{Market, terms_at, named, each_once, edges_of}
 use Rattle.object_store.specs.Objects.{bare}
-use Rattle.desk_model.specs.Links.{IsLinked, AreRanged, IsRanged}
+use Rattle.desk_model.specs.Links.{IsLinked}
 use Rattle.desk_model.proofs.Edges.{once_among}
-use Rattle.desk_model.specs.Uses.{input_at}
-use Rattle.curve_points.specs.Curve.{Curve}
-use Rattle.curve_lines.specs.declared.lines.Plot.{Plot}
-use Rattle.curve_lines.specs.Lines.{line_of}
-use Rattle.curve_run.specs.Plotting.{line_at}
-use Rattle.curve_run.specs.Quoted.{built_in, helper_quotes, rates_by, quotes_by, quotes_named}
+use Rattle.curve_run.specs.Quoted.{built_in, helper_quotes, quotes_by, quotes_named}
 
 all_within : (n : ℕ) (helpers : List Helper) → ((x : ℕ) → Among x (named (helper_references helpers)) → x < n)
     → All (λ quote. quote < n) (helper_quotes helpers)
@@ -78,14 +72,3 @@ module _ (m : Market) (o : ℕ) where
 
   pub quotes_within : IsLinked m → All (λ quote. quote < n) (quotes_named (terms_at m o))
   quotes_within links = of_built (built_in (terms_at m o)) refl links
-
-  pub helpers_ranged : AreRanged m → (held : CurveTerms) → built_in (terms_at m o) ≡ Some held → All IsHelper held.helpers
-  helpers_ranged ranged held is = (subst IsRanged (built_curve (terms_at m o) held is) (ranged o)).helpers
-
--- the line of a curve by what was read of the market
-pub line_read : (plot : Plot) (m : Market) (curve : Curve) (rates : List ℤ) (found : Option CurveTerms)
-    → rates ≡ rates_by (input_at m) (quotes_named (terms_at m curve.owner)) → found ≡ built_in (terms_at m curve.owner)
-    → line_of plot (quotes_by rates found) curve ≡ line_at plot m curve
-line_read plot m curve rates found are is =
-    ap (λ (l : List ℤ). line_of plot (quotes_by l found) curve) are
-    ∙ ap (λ (f : Option CurveTerms). line_of plot (quotes_by (rates_by (input_at m) (quotes_named (terms_at m curve.owner))) f) curve) is

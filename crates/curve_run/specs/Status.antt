@@ -2,7 +2,6 @@
 use Rattle.std.specs.Prelude.{◌≡◌, ◌⊎◌, ◌<◌, ℕ, List, [], length, take, codes, Option, Result, Ok, Err}
 use Rattle.desk_edge.specs.Count.{Rose}
 use Rattle.desk_edge.specs.Sink.{appended}
-use Rattle.tool_run.specs.declared.status.MarketStatus.{MarketStatus}
 use Rattle.tool_run.specs.declared.status.MarketStatus.TheVariants as ended
 use Rattle.tool_run.specs.Stage.{Stage, Done}
 use Rattle.tool_run.specs.Status as market

@@ -1,4 +1,4 @@
-use Rattle.std.proofs.Common.{◌≡◌, inl, ℕ, List, Ok, sym, subst}
+use Rattle.std.proofs.Common.{inl, ℕ, List, Ok, sym, subst}
 use Rattle.std.specs.Prelude.{IfOk, map}
 use Rattle.std.specs.declared.alloc.AllocError.{AllocError}
 use Rattle.std.specs.String.{string_bytes}

@@ -1,14 +1,8 @@
-use Rattle.std.proofs.Common.{◌≡◌, ◌∙◌, ◌<◌, ℕ, ℤ, List, length, Option, Some, None, Result, sym, ap, subst}
-use Rattle.std.specs.Prelude.{IfOk}
+use Rattle.std.proofs.Common.{◌∙◌, ◌<◌, ℕ, List, length, sym, ap, subst}
 use Rattle.std.specs.List.{All}
-use Rattle.curve_terms.specs.declared.terms.CurveTerms.{CurveTerms}
-use Rattle.desk_terms.specs.declared.cause.Cause.{Cause}
 use Rattle.desk_model.specs.Market.{Market, terms_at}
-use Rattle.desk_model.specs.State.{State}
-use Rattle.desk_model.specs.Uses.{input_at}
-use Rattle.curve_lines.specs.Lines.{Line}
-use Rattle.curve_run.specs.Quoted.{built_in, rates_by, quotes_named}
-use Rattle.curve_run.proofs.Quoting.{quotes_within, helpers_ranged, line_read}
+use Rattle.curve_run.specs.Quoted.{quotes_named}
+use Rattle.curve_run.proofs.Quoting.{quotes_within}
 use Rattle.curve_run.proofs.quoted.line_at.Goals as goal
 
 pub rates_of-requires : goal.rates_of-requires

@@ -1,4 +1,4 @@
--- Sums over parts and over flows, from a place on.
+-- Sums over parts, from a place on.
 use Rattle.std.proofs.Common.{◌≡◌, ℕ, ◌+◌, ◌<◌, ◌≤◌, ◌^◌, arith, refl, sym, ap, ◌∙◌, ℤ, pos, neg_ℤ, ◌≤ℤ◌, ◌+ℤ◌, ◌*ℤ◌, List, [], ◌∷◌, length, get_or, drop, drop_of_length-le, Result, Ok, Err, IsErrAnd, to_z, of_z, w64, FitsSigned, to_z-of_z}
 use Rattle.std.specs.Int.{w128}
 use Rattle.std.specs.Int.RustNames.{unsigned_abs}
@@ -11,8 +11,7 @@ use Rattle.jiff_core.proofs.SignedLemmas.{signed_arith, unsigned_abs-parts, one_
 use Rattle.desk_terms.specs.declared.cause.Cause.{Cause}
 use Rattle.desk_terms.specs.declared.terms.Part.{Part}
 use Rattle.desk_terms.specs.Parts.{IsWeight, AreEachInRange}
-use Rattle.cash_flow_legs.specs.declared.live_flows.Flow.{Flow}
-use Rattle.risk_run.specs.Dues.{added, and_sum, summed, amount_by, amounts}
+use Rattle.risk_run.specs.Dues.{added, and_sum, summed}
 
 -- the next of several, and the others
 next : {A : Type 0} (xs : List A) (at : ℕ) (x : A) → at < length xs → x ≡ get_or xs at x → drop at xs ≡ x ∷ drop (at + 1) xs
@@ -60,14 +59,6 @@ is_refused due (Err e) cause is by = ap (λ (c : Cause). Err c) by ∙ sym is
 pub weights_are : (parts : List Part) → AreEachInRange parts → All (λ part. IsWeight part.weight) parts
 weights_are [] are = All-nil (λ part. IsWeight part.weight)
 weights_are (part ∷ parts) are = All-cons (λ part. IsWeight part.weight) part parts are.0 (weights_are parts are.1.1)
-
--- ---- flows
-
-pub flow_more : (until : ℤ) (flows : List Flow) (at : ℕ) (flow : Flow) (sum : ℤ) → at < length flows → flow ≡ get_or flows at flow
-    → sum +ℤ amounts until (drop at flows) ≡ (sum +ℤ amount_by until flow) +ℤ amounts until (drop (at + 1) flows)
-flow_more until flows at flow sum within is =
-    ap (λ (l : List Flow). sum +ℤ amounts until l) (next flows at flow within is)
-    ∙ sym (+ℤ_assoc sum (amount_by until flow) (amounts until (drop (at + 1) flows)))
 
 -- ---- numbers of the code
 

@@ -38,6 +38,10 @@ use Rattle.why_model.specs.Answer.{source_text, behind, terms_text, slot_text, o
 abbrev pub with_state : Standing → State → Standing
 with_state p s = record p { state = s }
 
+-- a session whose state was lent, and is as it was
+pub lent : (s : State) (old p : Standing) → old ≡ p → s ≡ old.state → with_state old s ≡ p
+lent s old p is same = ap (with_state old) same ∙ is
+
 module _ (p : Standing) (t : State) where
   shown_alike : (outcome : Outcome) → shown_text (with_state p t) outcome ≡ shown_text p outcome
   shown_alike (Ok (value.Money amount)) = refl

@@ -122,7 +122,7 @@ fn push_listed<P: Picker, B: Bench>(
     ensures same { B.calc bench.new ≡ B.calc bench.old }
 {
     session.shape();
-    list_all(alloc, session, object, list)?;
+    list_all(alloc, &mut session.session, object, list)?;
     push_asked(alloc, session, name, object, bench, out)?;
     push_each(alloc, session, list.as_slice(), bench, out)
 }

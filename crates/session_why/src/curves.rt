@@ -12,9 +12,7 @@ use desk_names::ObjId;
 use desk_terms::Terms;
 use flow_terms::{FlowTerms, IndexUse, expired, needs_forecast};
 use lazy_objects::Desk;
-use session_rounds::WatchedSession;
 use std::alloc::AllocError;
-use watch_rounds::Picker;
 
 // The curves that a price reads: that of its engine, and that of its index where a rate has to be forecast.
 #[derive(Clone, Copy)]
@@ -31,21 +29,18 @@ struct Naming {
 }
 
 // The curves that the price of an object reads: none where all its flows are paid, and where it reads no curve.
-pub(crate) fn curves_of<P: Picker>(
-    session: &mut WatchedSession<P>,
-    object: ObjId,
-) -> Result<Option<Curves>, AllocError>
-    requires kind { kind_at session.old.standing.state.market object ≡ Some Flows }
-    requires can { CanWork session.old.standing.state object }
-    ensures curves { IfOk result (λ curves. curves ≡ curves_in (uses session.old.standing.state.market object)) }
-    ensures same { session.new ≡ session.old }
+pub(crate) fn curves_of(desk: &mut Desk, object: ObjId) -> Result<Option<Curves>, AllocError>
+    requires kind { kind_at desk.old.market object ≡ Some Flows }
+    requires can { CanWork desk.old object }
+    ensures curves { IfOk result (λ curves. curves ≡ curves_in (uses desk.old.market object)) }
+    ensures same { desk.new ≡ desk.old }
 {
-    session.shape();
-    let naming = naming_of(session.session().desk(), object);
+    desk.shape();
+    let naming = naming_of(desk, object);
     let Some(engine) = naming.engine else {
         return Ok(None);
     };
-    let Entry::Needs(discount) = session.given(engine)? else {
+    let Entry::Needs(discount) = desk.given(engine)? else {
         return Ok(None);
     };
     let Some(index) = naming.index else {
@@ -54,12 +49,13 @@ pub(crate) fn curves_of<P: Picker>(
             forecast: None,
         }));
     };
-    match session.given(index)? {
+    match desk.given(index)? {
         Entry::Needs(forecast) => Ok(Some(Curves {
             discount,
             forecast: Some(forecast),
         })),
-        Entry::Gives(_) | Entry::Refuses(_) => Ok(None),
+        Entry::Gives(_) => Ok(None),
+        Entry::Refuses(_cause) => Ok(None),
     }
 }
 

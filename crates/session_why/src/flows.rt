@@ -17,26 +17,24 @@ use desk_names::ObjId;
 use desk_terms::{Terms, Value};
 use lazy_objects::Desk;
 use session_core::Session;
-use session_rounds::WatchedSession;
 use std::alloc::{AllocError, Global};
-use watch_rounds::Picker;
 
 // Appends each flow that is still to be paid, and their sum; nothing of flows that are all paid.
-pub(crate) fn push_flows<P: Picker>(
+pub(crate) fn push_flows(
     alloc: Global,
-    session: &mut WatchedSession<P>,
+    session: &mut Session,
     object: ObjId,
     out: &mut Vec<u8>,
 ) -> Result<(), AllocError>
-    requires kind { kind_at session.old.standing.state.market object ≡ Some Flows }
-    requires can { CanWork session.old.standing.state object }
-    ensures text { OnOk result (out.new.items ≡ out.old.items ++ workings_in session.old.standing object
-        (terms_at session.old.standing.state.market object) (kept_at session.old.standing.state object).last) }
+    requires kind { kind_at session.old.state.market object ≡ Some Flows }
+    requires can { CanWork session.old.state object }
+    ensures text { OnOk result (out.new.items ≡ out.old.items ++ workings_in session.old object
+        (terms_at session.old.state.market object) (kept_at session.old.state object).last) }
     ensures same { session.new ≡ session.old }
 {
-    match curves_of(session, object)? {
+    match curves_of(&mut session.desk, object)? {
         None => Ok(()),
-        Some(curves) => push_over(alloc, session.session(), object, curves, out),
+        Some(curves) => push_over(alloc, session, object, curves, out),
     }
 }
 

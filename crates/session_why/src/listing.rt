@@ -9,62 +9,76 @@ use desk_names::ObjId;
 use desk_terms::Kind;
 use indexmap::IndexSet;
 use lazy_objects::Desk;
+use session_core::Session;
 use session_graph::subjects_of;
-use session_rounds::WatchedSession;
 use std::alloc::{AllocError, Global};
-use watch_rounds::Picker;
 
-// Lists the numbers of an object and of those on which it rests, depth first, each once.
-pub(crate) fn list_all<P: Picker>(
+// Lists the numbers of an object of a session and of those on which it rests, depth first, each once.
+pub(crate) fn list_all(
     alloc: Global,
-    session: &mut WatchedSession<P>,
+    session: &mut Session,
     object: ObjId,
     list: &mut IndexSet<u32>,
 ) -> Result<(), AllocError>
-    requires within { object < length session.old.standing.state.market.objects }
+    requires within { object < length session.old.state.market.objects }
     requires empty { list.old.keys ≡ [] }
-    ensures list { OnOk result (list.new.keys ≡ listing session.old.standing.state object) }
+    ensures list { OnOk result (list.new.keys ≡ listing session.old.state object) }
     ensures same { session.new ≡ session.old }
 {
-    session.shape();
+    list_beneath(alloc, &mut session.desk, object, list)
+}
+
+// The same over its objects alone.
+fn list_beneath(
+    alloc: Global,
+    desk: &mut Desk,
+    object: ObjId,
+    list: &mut IndexSet<u32>,
+) -> Result<(), AllocError>
+    requires within { object < length desk.old.market.objects }
+    requires empty { list.old.keys ≡ [] }
+    ensures list { OnOk result (list.new.keys ≡ listing desk.old object) }
+    ensures same { desk.new ≡ desk.old }
+{
+    desk.shape();
     let mut waiting: Vec<ObjId> = Vec::new(alloc);
     waiting.push(object)?;
     while let Some(next) = waiting.pop() {
         let (_, is_new) = list.insert_full(next.0)?;
         if is_new {
-            push_rest(alloc, session, next, &mut waiting)?;
+            push_rest(alloc, desk, next, &mut waiting)?;
         }
     }
     Ok(())
 }
 
 // Puts what an object's value rests on onto a stack, the first on top.
-fn push_rest<P: Picker>(
+fn push_rest(
     alloc: Global,
-    session: &mut WatchedSession<P>,
+    desk: &mut Desk,
     object: ObjId,
     waiting: &mut Vec<ObjId>,
 ) -> Result<(), AllocError>
     ensures waiting { OnOk result (waiting.new.items
-        ≡ waiting.old.items ++ reverse (rests_on session.old.standing.state object)) }
-    ensures same { session.new ≡ session.old }
+        ≡ waiting.old.items ++ reverse (rests_on desk.old object)) }
+    ensures same { desk.new ≡ desk.old }
 {
-    if shows_last(session, object) {
+    if shows_last(desk, object) {
         return Ok(());
     }
-    push_edges(alloc, session.session().desk(), object, waiting)
+    push_edges(alloc, desk, object, waiting)
 }
 
 // Whether a priced object shows its last value, whatever stands beneath it: it is frozen or late.
-fn shows_last<P: Picker>(session: &mut WatchedSession<P>, object: ObjId) -> bool
-    ensures answer { result ≡ shows_last session.old.standing.state object }
-    ensures same { session.new ≡ session.old }
+fn shows_last(desk: &mut Desk, object: ObjId) -> bool
+    ensures answer { result ≡ shows_last desk.old object }
+    ensures same { desk.new ≡ desk.old }
 {
-    if !is_priced(session.session().desk(), object) {
+    if !is_priced(desk, object) {
         return false;
     }
-    session.shape();
-    session.session().desk().is_frozen(object) || session.late(object).is_some()
+    desk.shape();
+    desk.marks(object).frozen || desk.late(object).is_some()
 }
 
 // Whether an object is priced.

@@ -40,8 +40,8 @@ pub(crate) fn push_priced<P: Picker, B: Bench>(
     ensures same { B.calc bench.new ≡ B.calc bench.old }
 {
     let asked = ask(session, object, bench)?;
-    push_line(alloc, session.session(), object, &asked, out)?;
-    push_behind(alloc, session, object, &asked, out)
+    push_line(alloc, &session.session, object, &asked, out)?;
+    push_behind(alloc, &mut session.session, object, &asked, out)
 }
 
 // Appends the line of a priced object: its kind, its mark, and what it shows.
@@ -75,17 +75,17 @@ fn push_line(
 
 // Appends what stands behind the line of a priced object: of a frozen one nothing, of a late one its source, of any other the
 // workings of its value.
-fn push_behind<P: Picker>(
+fn push_behind(
     alloc: Global,
-    session: &mut WatchedSession<P>,
+    session: &mut Session,
     object: ObjId,
     asked: &Asked,
     out: &mut Vec<u8>,
 ) -> Result<(), AllocError>
-    requires lazy { is_lazy_at session.old.standing.state.market object ≡ true }
-    requires inputs { HasWorkings session.old.standing.state object asked.now.mark asked.now.cause }
+    requires lazy { is_lazy_at session.old.state.market object ≡ true }
+    requires inputs { HasWorkings session.old.state object asked.now.mark asked.now.cause }
     ensures text { OnOk result (out.new.items ≡ out.old.items
-        ++ behind_in session.old.standing object asked.now.mark asked.now.cause) }
+        ++ behind_in session.old object asked.now.mark asked.now.cause) }
     ensures same { session.new ≡ session.old }
 {
     match asked.mark {
@@ -99,20 +99,16 @@ fn push_behind<P: Picker>(
 }
 
 // Appends the source that makes an object late.
-fn push_source<P: Picker>(
-    session: &mut WatchedSession<P>,
-    object: ObjId,
-    out: &mut Vec<u8>,
-) -> Result<(), AllocError>
-    requires lazy { is_lazy_at session.old.standing.state.market object ≡ true }
+fn push_source(session: &mut Session, object: ObjId, out: &mut Vec<u8>) -> Result<(), AllocError>
+    requires lazy { is_lazy_at session.old.state.market object ≡ true }
     ensures text { OnOk result (out.new.items ≡ out.old.items
-        ++ source_text session.old.standing object (least_source session.old.standing.state object)) }
+        ++ source_text session.old object (least_source session.old.state object)) }
     ensures same { session.new ≡ session.old }
 {
-    let Some(source) = session.late(object) else {
+    let Some(source) = session.desk.late(object) else {
         return Ok(());
     };
-    push_head(session.session(), object, b" source", out)?;
-    push_name(session.session(), source, out)?;
+    push_head(session, object, b" source", out)?;
+    push_name(session, source, out)?;
     out.extend_from_slice(b"\n")
 }

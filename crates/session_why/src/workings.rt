@@ -22,27 +22,25 @@ use desk_terms::{Helper, Kind, Part, Terms, Value};
 use fixed_amount::{Amount, Rate};
 use lazy_objects::Desk;
 use session_core::Session;
-use session_rounds::WatchedSession;
 use std::alloc::{AllocError, Global};
-use watch_rounds::Picker;
 
 // Appends the workings of what an object shows, which is neither frozen nor late.
-pub(crate) fn push_workings<P: Picker>(
+pub(crate) fn push_workings(
     alloc: Global,
-    session: &mut WatchedSession<P>,
+    session: &mut Session,
     object: ObjId,
     out: &mut Vec<u8>,
 ) -> Result<(), AllocError>
-    requires lazy { is_lazy_at session.old.standing.state.market object ≡ true }
-    requires can { CanWork session.old.standing.state object }
-    ensures text { OnOk result (out.new.items ≡ out.old.items ++ workings_in session.old.standing object
-        (terms_at session.old.standing.state.market object) (kept_at session.old.standing.state object).last) }
+    requires lazy { is_lazy_at session.old.state.market object ≡ true }
+    requires can { CanWork session.old.state object }
+    ensures text { OnOk result (out.new.items ≡ out.old.items ++ workings_in session.old object
+        (terms_at session.old.state.market object) (kept_at session.old.state object).last) }
     ensures same { session.new ≡ session.old }
 {
-    match session.session().desk().kind(object) {
-        Some(Kind::Composite) => push_parts(alloc, session.session(), object, out),
+    match session.desk().kind(object) {
+        Some(Kind::Composite) => push_parts(alloc, session, object, out),
         Some(Kind::Curve) => push_built(alloc, session, object, out),
-        Some(Kind::Implied) => push_seen(alloc, session.session(), object, out),
+        Some(Kind::Implied) => push_seen(alloc, session, object, out),
         Some(Kind::Flows) => push_flows(alloc, session, object, out),
         None
         | Some(
@@ -131,25 +129,25 @@ fn times(weight: i64, worth: Amount) -> i128
 }
 
 // Appends each node of a curve that is built, with the quote of its helper and the rate that was read there.
-fn push_built<P: Picker>(
+fn push_built(
     alloc: Global,
-    session: &mut WatchedSession<P>,
+    session: &mut Session,
     object: ObjId,
     out: &mut Vec<u8>,
 ) -> Result<(), AllocError>
-    requires kind { kind_at session.old.standing.state.market object ≡ Some Curve }
-    requires can { CanWork session.old.standing.state object }
-    ensures text { OnOk result (out.new.items ≡ out.old.items ++ workings_in session.old.standing object
-        (terms_at session.old.standing.state.market object) (kept_at session.old.standing.state object).last) }
+    requires kind { kind_at session.old.state.market object ≡ Some Curve }
+    requires can { CanWork session.old.state object }
+    ensures text { OnOk result (out.new.items ≡ out.old.items ++ workings_in session.old object
+        (terms_at session.old.state.market object) (kept_at session.old.state object).last) }
     ensures same { session.new ≡ session.old }
 {
     session.shape();
-    let quotes = quotes_of(alloc, session.session().desk(), object)?;
-    let rates = rates_of(alloc, session, quotes.as_slice())?;
-    let nodes = nodes_of(session.session().desk(), object);
+    let quotes = quotes_of(alloc, session.desk(), object)?;
+    let rates = rates_of(alloc, &mut session.desk, quotes.as_slice())?;
+    let nodes = nodes_of(session.desk(), object);
     push_node_rates(
         alloc,
-        session.session(),
+        session,
         object,
         nodes,
         quotes.as_slice(),
@@ -180,20 +178,17 @@ fn push_quotes(helpers: &[Helper], quotes: &mut Vec<ObjId>) -> Result<(), AllocE
 }
 
 // The rates that quotes give, up to the first that gives none.
-fn rates_of<P: Picker>(
-    alloc: Global,
-    session: &mut WatchedSession<P>,
-    quotes: &[ObjId],
-) -> Result<Vec<Rate>, AllocError>
-    requires within { All (λ quote. quote < length session.old.standing.state.market.objects) quotes.now }
-    ensures rates { IfOk result (λ rates. rates.items ≡ rates_by (input_at session.old.standing.state.market) quotes.now) }
-    ensures same { session.new ≡ session.old }
+fn rates_of(alloc: Global, desk: &mut Desk, quotes: &[ObjId]) -> Result<Vec<Rate>, AllocError>
+    requires within { All (λ quote. quote < length desk.old.market.objects) quotes.now }
+    ensures rates { IfOk result (λ rates. rates.items ≡ rates_by (input_at desk.old.market) quotes.now) }
+    ensures same { desk.new ≡ desk.old }
 {
     let mut rates = Vec::new(alloc);
     for quote in quotes {
-        match session.given(*quote)? {
+        match desk.given(*quote)? {
             Entry::Gives(rate) => rates.push(rate)?,
-            Entry::Needs(_) | Entry::Refuses(_) => return Ok(rates),
+            Entry::Needs(_) => return Ok(rates),
+            Entry::Refuses(_cause) => return Ok(rates),
         }
     }
     Ok(rates)

@@ -15,7 +15,7 @@ use Rattle.why_model.specs.Answer.{lines_of_each}
 use Rattle.why_model.specs.Listing.{listing}
 use Rattle.session_why.specs.Computed.{ask_each, asks_of}
 use Rattle.session_why.proofs.Alike.{with_state}
-use Rattle.session_why.proofs.Answered.{standing_stays, lines_behind}
+use Rattle.session_why.proofs.Answered.{lines_behind}
 use Rattle.session_why.proofs.Counted.{asks_failed, asks_more}
 use Rattle.session_why.proofs.answering.push_listed.Goals as goal
 
@@ -24,8 +24,7 @@ returns-in_err-push_asked-clause-asks g c =
     let calc : Calc = g.B.Bench.calc c.args.bench.now in
     let s : State = c.args.session.now.standing.state in
     let o = c.args.object in
-    let same : c.list_all.new.session.standing ≡ c.args.session.now.standing =
-    ap (λ r. r.standing) c.list_all.ensures.same in
+    let same = c.list_all.ensures.same ∙ ap (λ r. r.standing) c.session.view_is in
     let p = err_from_is_err_and c.from_residual-in_err-push_asked.result c.from_residual-in_err-push_asked.ensures.1 in
     asks_failed (asks_of calc o s) c.from_residual-in_err-push_asked.result c.push_asked.new.session.standing.state
     (g.B.Bench.count c.args.bench.now) (g.B.Bench.count c.push_asked.new.bench)
@@ -46,13 +45,14 @@ returns-clause-text g c =
     let old = c.args.out.now.items in
     let middle = c.push_asked.new.out.items in
     let new = c.push_each.new.out.items in
-    let same : c.list_all.new.session.standing ≡ p = ap (λ r. r.standing) c.list_all.ensures.same in
-    let keys : c.as_slice.result.now ≡ listing p.state o = c.as_slice.ensures.keys ∙ c.in_ok-list_all.ensures.list in
+    let here : c.session.inside.session ≡ c.args.session.now.standing = ap (λ r. r.standing) c.session.view_is in
+    let same = c.list_all.ensures.same ∙ here in
+    let keys : c.as_slice.result.now ≡ listing p.state o =
+    c.as_slice.ensures.keys ∙ c.in_ok-list_all.ensures.list ∙ ap (λ (z : Standing). listing z.state o) here in
     lines_behind calc p q o (listing p.state o) old middle new (line_of p c.args.name o Ask (asking calc o p.state))
     c.push_each.result
     (subst IsWhole (c.deref-2.ensures ∙ ap (λ (p : Standing). p.state) c.deref.ensures) c.shape.ensures.whole)
-    (standing_stays c.list_all.new.session c.push_asked.new.session c.push_asked.ensures.stays
-    ∙ ap (λ (z : Standing). with_state z q.state) same)
+    (ap (λ r. r.standing) c.push_asked.ensures.stays ∙ ap (λ (z : Standing). with_state z q.state) same)
     (c.in_ok-push_asked.ensures.asks.0 ∙ ap (λ (z : Standing). asked calc o z.state) same)
     (c.in_ok-push_asked.ensures.text ∙ ap (λ (z : Standing). old ++ line_of z c.args.name o Ask (asking calc o z.state))
     same)
@@ -66,9 +66,10 @@ returns-clause-asks g c =
     let s : State = c.args.session.now.standing.state in
     let q : Standing = c.push_asked.new.session.standing in
     let o = c.args.object in
-    let same : c.list_all.new.session.standing ≡ c.args.session.now.standing =
-    ap (λ r. r.standing) c.list_all.ensures.same in
-    let keys : c.as_slice.result.now ≡ listing s o = c.as_slice.ensures.keys ∙ c.in_ok-list_all.ensures.list in
+    let here : c.session.inside.session ≡ c.args.session.now.standing = ap (λ r. r.standing) c.session.view_is in
+    let same = c.list_all.ensures.same ∙ here in
+    let keys : c.as_slice.result.now ≡ listing s o =
+    c.as_slice.ensures.keys ∙ c.in_ok-list_all.ensures.list ∙ ap (λ (z : Standing). listing z.state o) here in
     asks_more (ask_of calc o s) (ask_each calc (listing s o)) c.push_asked.result c.push_each.result
     q.state c.push_each.new.session.standing.state (g.B.Bench.count c.args.bench.now)
     (g.B.Bench.count c.push_asked.new.bench)

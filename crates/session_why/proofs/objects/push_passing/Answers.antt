@@ -9,6 +9,6 @@ returns c = λ calc.
     ends c.extend_from_slice.result _ c.push_subjects.new.out.items (codes "\n") _ c.extend_from_slice.ensures.items
     (passing_line calc c.args.session.now c.args.object c.desk.result.now c.desk.ensures _ _ _ c.in-Some.terms.now
     c.as_slice.result.now
-    c.word_of.result.now c.in-Some.ensures c.requires (c.as_slice.ensures.value ∙ c.in_ok-subjects.ensures)
+    c.word_of.result.now (rw c.deref.ensures at c.in-Some.ensures) c.requires (c.as_slice.ensures.value ∙ c.in_ok-subjects.ensures)
     c.word_of.ensures
     c.in_ok-push_head.ensures c.in_ok-push_subjects.ensures)

@@ -10,12 +10,12 @@ returns-in-None c = λ calc.
     let old = c.args.out.now.items in
     sym (append-nil old)
     ∙ ap (λ (l : List ℕ). old ++ l) (sym (no_lines calc c.args.session.now c.args.object
-    (sym (c.in-None.ensures ∙ ap (λ (t : State). kind_at t.market c.args.object) c.desk.ensures))))
+    (sym ((rw c.deref.ensures at c.in-None.ensures) ∙ ap (λ (t : State). kind_at t.market c.args.object) c.desk.ensures))))
 
 pub returns-in-Some-Watcher : goal.returns-in-Some-Watcher
 returns-in-Some-Watcher c = λ calc.
     let old = c.args.out.now.items in
-    let given = rw c.in-Some-Watcher.field-0-is at c.in-Some-Watcher.ensures in
+    let given = rw c.deref.ensures at (rw c.in-Some-Watcher.field-0-is at c.in-Some-Watcher.ensures) in
     sym (append-nil old)
     ∙ ap (λ (l : List ℕ). old ++ l) (sym (watcher_lines calc c.args.session.now c.args.object
     (sym (given ∙ ap (λ (t : State). kind_at t.market c.args.object) c.desk.ensures))))

@@ -7,5 +7,5 @@ pub returns : goal.returns
 returns c = λ calc.
     ends c.extend_from_slice.result _ c.push_value.new.out.items (codes "\n") _ c.extend_from_slice.ensures.items
     (quote_line calc c.args.session.now c.args.object c.desk.result.now c.desk.ensures _ _ _ c.quote.result
-    c.quote.ensures
+    (rw c.deref.ensures at c.quote.ensures)
     c.in_ok-push_head.ensures c.in_ok-push_value.ensures)

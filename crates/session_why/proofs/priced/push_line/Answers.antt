@@ -11,7 +11,7 @@ use Rattle.session_why.proofs.priced.push_line.Goals as goal
 
 pub returns : goal.returns
 returns c = λ outcome shows.
-    let are = sym (c.in-Some.ensures ∙ ap (λ (t : State). bare (terms_at t.market c.args.object)) c.desk.ensures
+    let are = sym ((rw c.deref.ensures at c.in-Some.ensures) ∙ ap (λ (t : State). bare (terms_at t.market c.args.object)) c.desk.ensures
     ∙ lazy_told (terms_at c.args.session.now.state.market c.args.object) c.requires) in
     let last = c.last.ensures ∙ ap (λ (t : State). (kept_at t c.args.object).last) c.desk-2.ensures in
     let shown = subst (λ (l : Option Value). Shows c.args.asked.now.cause l outcome) (sym last) shows in

@@ -17,7 +17,7 @@ push_each_part-requires-clause-weights c =
     let o = c.args.object in
     let parts : List Part = c.in-Some-Composite.parts in
     let given : Some (Composite parts) ≡ bare (terms_at c.desk.result.now.market o) =
-    rw c.in-Some-Composite.field-0-is at c.in-Some-Composite.ensures in
+    rw c.deref-2.ensures at (rw c.in-Some-Composite.field-0-is at c.in-Some-Composite.ensures) in
     let are =
     told (terms_at s.market o) (Composite parts) refl
     (given ∙ ap (λ (t : State). bare (terms_at t.market o)) c.desk.ensures) in

@@ -3,6 +3,7 @@ use Rattle.std.specs.List.{All}
 use Rattle.std.proofs.lemmas.List.Elements.{All-rest}
 use Rattle.desk_model.specs.declared.entry.Entry.{Entry}
 use Rattle.desk_model.specs.declared.entry.Entry.TheVariants.{Gives}
+use Rattle.desk_model.specs.State.{State}
 use Rattle.desk_model.specs.Uses.{input_at}
 use Rattle.session_why.specs.Lasts.{and_rates, rates_by}
 use Rattle.session_why.proofs.Pieces.{next_at}
@@ -23,12 +24,12 @@ rates_more n read quotes at quote rate old new whole within is gives grown so_fa
     )
 
 pub loop-quote-preserved : goal.loop-quote-preserved
-loop-quote-preserved g c =
-    let m = c.args.session.now.standing.state.market in
+loop-quote-preserved c =
+    let m = c.args.desk.now.market in
     let quote = c.quote-item.result in
     let r = rates_more (length m.objects) (input_at m) c.args.quotes.now c.loop-quote.quote-index quote c.in-Gives.rate
     c.loop-quote.rates.items c.push.new.self.items _ c.loop-quote-test.true c.quote-item.is
     (sym c.in-Gives.is ∙ c.in_ok-rate.ensures.entry
-    ∙ ap (λ r. input_at r.standing.state.market quote) c.loop-quote.invariant.same)
+    ∙ ap (λ (t : State). input_at t.market quote) c.loop-quote.invariant.same)
     c.in_ok-push-in-Gives.ensures.items c.loop-quote.invariant.rates c.loop-quote.invariant.within in
     record { same = c.given.ensures.same ∙ c.loop-quote.invariant.same; rates = r.0; within = r.1 }

@@ -6,9 +6,9 @@ use Rattle.session_why.proofs.workings.rates_of.Given as goal
 
 -- the rates before the one at hand are there
 abbrev pub invariant-loop-quote : goal.invariant-loop-quote
-invariant-loop-quote g l = record {
-  same : l.session ≡ l.initial.session;
-  rates : l.rates.items ++ rates_by (input_at l.initial.session.standing.state.market) (drop l.quote-index l.quotes)
-      ≡ rates_by (input_at l.initial.session.standing.state.market) l.quotes;
-  within : All (λ quote. quote < length l.initial.session.standing.state.market.objects) (drop l.quote-index l.quotes);
+invariant-loop-quote l = record {
+  same : l.desk ≡ l.initial.desk;
+  rates : l.rates.items ++ rates_by (input_at l.initial.desk.market) (drop l.quote-index l.quotes)
+      ≡ rates_by (input_at l.initial.desk.market) l.quotes;
+  within : All (λ quote. quote < length l.initial.desk.market.objects) (drop l.quote-index l.quotes);
 }

@@ -8,7 +8,6 @@ use Rattle.desk_terms.specs.declared.kind.Wanted.TheVariants.{CurveTarget}
 use Rattle.desk_terms.specs.Reading.{Calc}
 use Rattle.desk_model.specs.Links.{serves_as, is_lazy_at}
 use Rattle.desk_model.specs.Market.{Market, kind_at}
-use Rattle.bump_model.specs.Asking.{none}
 use Rattle.bump_ladder.specs.Curves.{curve_at}
 use Rattle.curve_run.specs.Named.{AreCurves}
 use Rattle.curve_run.specs.Pricing.{curve_in, refused_in, curves_of, refused_lines}

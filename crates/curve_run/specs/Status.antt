@@ -1,5 +1,5 @@
 -- The exit codes, and the words on standard error behind the program's name (this project's profile).
-use Rattle.std.specs.Prelude.{◌≡◌, ◌⊎◌, ◌<◌, ℕ, List, [], length, take, codes, Option, Result, Ok, Err}
+use Rattle.std.specs.Prelude.{◌≡◌, ◌⊎◌, ◌<◌, ℕ, List, length, take, codes, Option, Result, Ok, Err}
 use Rattle.desk_edge.specs.Count.{Rose}
 use Rattle.desk_edge.specs.Sink.{appended}
 use Rattle.tool_run.specs.declared.status.MarketStatus.TheVariants as ended

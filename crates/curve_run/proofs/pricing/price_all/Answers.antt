@@ -1,4 +1,4 @@
-use Rattle.std.proofs.Common.{ℕ, ◌+◌, ◌++◌, List, refl, sym, ◌∙◌, ap, subst, Result}
+use Rattle.std.proofs.Common.{ℕ, ◌++◌, List, refl, sym, ◌∙◌, ap, subst, Result}
 use Rattle.std.proofs.lemmas.List.{drop_all}
 use Rattle.std.proofs.lemmas.Result.{err_from_is_err_and}
 use Rattle.curve_points.specs.Curve.{Curve}

@@ -4,6 +4,7 @@ ghost use Rattle.desk_edge.specs.Count.{raised};
 ghost use Rattle.desk_model.specs.Sound.{IsSound};
 ghost use Rattle.session_model.specs.Standing.{IsKnown};
 ghost use Rattle.desk_plan.specs.Found.{CanRun};
+ghost use Rattle.live_session.specs.Lines.{live_of, StandBy};
 ghost use Rattle.live_run.specs.Ends.{outside, ended, Ends, IsLater};
 ghost use Rattle.live_run.specs.Replies.{ordered, replies_of, replies_behind, replies_in};
 ghost use Rattle.live_run.specs.Verdict.{live_in};
@@ -15,9 +16,10 @@ use desk_edge::{Feed, Sink};
 use desk_plan::Status;
 use desk_terms::Bench;
 use line_feed::{AnswerFault, answer_all};
-use live_session::{LineSession, texts_of};
+use live_session::{Lines, texts_of};
 use market_session::begun;
 use session_commands::Command;
+use session_rounds::WatchedSession;
 use std::alloc::Global;
 use watch_rounds::Picker;
 
@@ -43,7 +45,7 @@ pub(crate) fn converse<F: Feed, K: Sink, B: Bench>(
 {
     let Wanted { run, order, ready } = wanted;
     let texts = texts_of(alloc, &run.market.names, run.script.action_names.items())?;
-    let (session, commands) = begun(
+    let (mut session, commands) = begun(
         alloc,
         run.market.names,
         run.market.today,
@@ -51,10 +53,11 @@ pub(crate) fn converse<F: Feed, K: Sink, B: Bench>(
         run.script,
         order,
     )?;
-    let mut session = LineSession::new(alloc, session, texts);
+    let mut lines = Lines::new(alloc, texts);
     converse_with(
         alloc,
         &mut session,
+        &mut lines,
         commands.items(),
         ready,
         feed,
@@ -66,19 +69,21 @@ pub(crate) fn converse<F: Feed, K: Sink, B: Bench>(
 // The same with a session. It is lent: a function that owns one lets it go at each exit.
 fn converse_with<P: Picker, F: Feed, K: Sink, B: Bench>(
     alloc: Global,
-    session: &mut LineSession<P>,
+    session: &mut WatchedSession<P>,
+    lines: &mut Lines,
     commands: &[Command],
     ready: bool,
     feed: &mut F,
     out: &mut K,
     bench: &mut B,
 ) -> Result<(), Status>
-    requires running { session.old.running.standing.stopped ≡ false }
-    requires known { All (IsKnown session.old.running.standing) commands.now }
-    requires sound { IsSound (B.calc bench.old) session.old.running.standing.state }
+    requires running { session.old.standing.stopped ≡ false }
+    requires known { All (IsKnown session.old.standing) commands.now }
+    requires sound { IsSound (B.calc bench.old) session.old.standing.state }
+    requires stands { StandBy P session.old lines.old }
     ensures same { B.calc bench.new ≡ B.calc bench.old }
     ensures ends { Ends (record { calc = B.calc bench.old; at = P.at; after = P.after }) ready
-        (replies_behind (record { calc = B.calc bench.old; at = P.at; after = P.after }) ready session.old commands.now) (F.content feed.old) (F.content feed.new)
+        (replies_behind (record { calc = B.calc bench.old; at = P.at; after = P.after }) ready (live_of session.old lines.old) commands.now) (F.content feed.old) (F.content feed.new)
         (outside (K.bytes out.old) (K.sent out.old) (B.count bench.old) (B.log bench.old))
         (outside (K.bytes out.new) (K.sent out.new) (B.count bench.new) (B.log bench.new)) (ended result) }
     ensures sent { OnOk result (K.sent out.new ≡ K.bytes out.new) }
@@ -89,22 +94,24 @@ fn converse_with<P: Picker, F: Feed, K: Sink, B: Bench>(
     ensures clean { OnOk result (K.faults out.new ≡ K.faults out.old) }
 {
     play(alloc, session, commands, out, bench)?;
-    listen(alloc, session, ready, feed, out, bench)
+    listen(alloc, session, lines, ready, feed, out, bench)
 }
 
 // What was written so far is sent on, and then the lines of the feed are answered.
 fn listen<P: Picker, F: Feed, K: Sink, B: Bench>(
     alloc: Global,
-    session: &mut LineSession<P>,
+    session: &mut WatchedSession<P>,
+    lines: &mut Lines,
     ready: bool,
     feed: &mut F,
     out: &mut K,
     bench: &mut B,
 ) -> Result<(), Status>
-    requires sound { IsSound (B.calc bench.old) session.old.running.standing.state }
+    requires sound { IsSound (B.calc bench.old) session.old.standing.state }
+    requires stands { StandBy P session.old lines.old }
     ensures same { B.calc bench.new ≡ B.calc bench.old }
     ensures ends { Ends (record { calc = B.calc bench.old; at = P.at; after = P.after }) ready
-        (replies_of (record { calc = B.calc bench.old; at = P.at; after = P.after }) ready session.old) (F.content feed.old) (F.content feed.new)
+        (replies_of (record { calc = B.calc bench.old; at = P.at; after = P.after }) ready (live_of session.old lines.old)) (F.content feed.old) (F.content feed.new)
         (outside (K.bytes out.old) (K.sent out.old) (B.count bench.old) (B.log bench.old))
         (outside (K.bytes out.new) (K.sent out.new) (B.count bench.new) (B.log bench.new)) (ended result) }
     ensures sent { OnOk result (K.sent out.new ≡ K.bytes out.new) }
@@ -120,6 +127,7 @@ fn listen<P: Picker, F: Feed, K: Sink, B: Bench>(
     let mut talk = Talk {
         alloc,
         session,
+        lines,
         bench,
         ready,
     };

@@ -8,39 +8,41 @@ ghost use Rattle.session_model.specs.Standing.{IsKnown};
 ghost use Rattle.session_model.specs.Course.{round_of};
 ghost use Rattle.session_model.specs.Rounds.{transcript, calls_of};
 ghost use Rattle.line_feed.specs.Answers.{PutsFront};
-ghost use Rattle.live_run.specs.Replies.{played};
+ghost use Rattle.live_model.specs.Log.{done};
 ghost use Rattle.live_run.specs.Ends.{IsLate};
 
 use desk_edge::{Sink, write_whole};
 use desk_plan::Status;
 use desk_terms::Bench;
-use live_session::LineSession;
 use session_commands::Command;
+use session_rounds::WatchedSession;
 use std::alloc::Global;
 use watch_rounds::Picker;
 
 // Does the round of each command in order, and writes the lines of each before the next begins.
 pub(crate) fn play<P: Picker, K: Sink, B: Bench>(
     alloc: Global,
-    session: &mut LineSession<P>,
+    session: &mut WatchedSession<P>,
     commands: &[Command],
     out: &mut K,
     bench: &mut B,
 ) -> Result<(), Status>
-    requires running { session.old.running.standing.stopped ≡ false }
-    requires known { All (IsKnown session.old.running.standing) commands.now }
-    requires sound { IsSound (B.calc bench.old) session.old.running.standing.state }
+    requires running { session.old.standing.stopped ≡ false }
+    requires known { All (IsKnown session.old.standing) commands.now }
+    requires sound { IsSound (B.calc bench.old) session.old.standing.state }
     ensures same { B.calc bench.new ≡ B.calc bench.old }
     ensures written { OnOk result (K.bytes out.new ≡ appended
-        (transcript (record { calc = B.calc bench.old; at = P.at; after = P.after }) session.old.running commands.now) (K.bytes out.old)) }
+        (transcript (record { calc = B.calc bench.old; at = P.at; after = P.after }) session.old commands.now) (K.bytes out.old)) }
     ensures count { OnOk result (B.count bench.new ≡ counted (B.count bench.old)
-        (length (calls_of (record { calc = B.calc bench.old; at = P.at; after = P.after }) session.old.running commands.now))) }
+        (length (calls_of (record { calc = B.calc bench.old; at = P.at; after = P.after }) session.old commands.now))) }
     ensures log { OnOk result (B.log bench.new ≡ logged (B.log bench.old)
-        (calls_of (record { calc = B.calc bench.old; at = P.at; after = P.after }) session.old.running commands.now)) }
-    ensures next { OnOk result (session.new ≡ played (record { calc = B.calc bench.old; at = P.at; after = P.after }) session.old commands.now) }
-    ensures sound { OnOk result (IsSound (B.calc bench.old) session.new.running.standing.state) }
+        (calls_of (record { calc = B.calc bench.old; at = P.at; after = P.after }) session.old commands.now)) }
+    ensures next { OnOk result (session.new ≡ done (record { calc = B.calc bench.old; at = P.at; after = P.after }) session.old commands.now) }
+    ensures names { OnOk result (session.new.standing.names ≡ session.old.standing.names) }
+    ensures actions { OnOk result (session.new.standing.actions ≡ session.old.standing.actions) }
+    ensures sound { OnOk result (IsSound (B.calc bench.old) session.new.standing.state) }
     ensures front { OnErr result (PutsFront
-        (transcript (record { calc = B.calc bench.old; at = P.at; after = P.after }) session.old.running commands.now) (K.bytes out.old) (K.bytes out.new)) }
+        (transcript (record { calc = B.calc bench.old; at = P.at; after = P.after }) session.old commands.now) (K.bytes out.old) (K.bytes out.new)) }
     ensures late { IfErr result IsLate }
     ensures clean { OnOk result (K.faults out.new ≡ K.faults out.old) }
     ensures once { IsErrOf result Status.WriteFault → K.faults out.new ≡ raised (K.faults out.old) }
@@ -54,31 +56,30 @@ pub(crate) fn play<P: Picker, K: Sink, B: Bench>(
 
 // Does one round, and writes its lines; where memory ran out in it, those so far. `lines` is room for them.
 fn play_round<P: Picker, K: Sink, B: Bench>(
-    session: &mut LineSession<P>,
+    session: &mut WatchedSession<P>,
     command: &Command,
     lines: &mut Vec<u8>,
     out: &mut K,
     bench: &mut B,
 ) -> Result<(), Status>
-    requires running { session.old.running.standing.stopped ≡ false }
-    requires known { IsKnown session.old.running.standing command.now }
-    requires sound { IsSound (B.calc bench.old) session.old.running.standing.state }
+    requires running { session.old.standing.stopped ≡ false }
+    requires known { IsKnown session.old.standing command.now }
+    requires sound { IsSound (B.calc bench.old) session.old.standing.state }
     ensures same { B.calc bench.new ≡ B.calc bench.old }
     ensures written { OnOk result (K.bytes out.new ≡ appended
-        (round_of (record { calc = B.calc bench.old; at = P.at; after = P.after }) session.old.running command.now).lines (K.bytes out.old)) }
+        (round_of (record { calc = B.calc bench.old; at = P.at; after = P.after }) session.old command.now).lines (K.bytes out.old)) }
     ensures count { OnOk result (B.count bench.new ≡ counted (B.count bench.old)
-        (length (round_of (record { calc = B.calc bench.old; at = P.at; after = P.after }) session.old.running command.now).calls)) }
+        (length (round_of (record { calc = B.calc bench.old; at = P.at; after = P.after }) session.old command.now).calls)) }
     ensures log { OnOk result (B.log bench.new ≡ logged (B.log bench.old)
-        (round_of (record { calc = B.calc bench.old; at = P.at; after = P.after }) session.old.running command.now).calls) }
-    ensures next { OnOk result (session.new ≡ record session.old {
-      running = (round_of (record { calc = B.calc bench.old; at = P.at; after = P.after }) session.old.running command.now).next;
-    }) }
-    ensures names { session.new.running.standing.names ≡ session.old.running.standing.names }
-    ensures actions { session.new.running.standing.actions ≡ session.old.running.standing.actions }
-    ensures sound { IsSound (B.calc bench.old) session.new.running.standing.state }
-    ensures running { OnOk result (session.new.running.standing.stopped ≡ false) }
+        (round_of (record { calc = B.calc bench.old; at = P.at; after = P.after }) session.old command.now).calls) }
+    ensures next { OnOk result (session.new
+        ≡ (round_of (record { calc = B.calc bench.old; at = P.at; after = P.after }) session.old command.now).next) }
+    ensures names { session.new.standing.names ≡ session.old.standing.names }
+    ensures actions { session.new.standing.actions ≡ session.old.standing.actions }
+    ensures sound { IsSound (B.calc bench.old) session.new.standing.state }
+    ensures running { OnOk result (session.new.standing.stopped ≡ false) }
     ensures front { OnErr result (PutsFront
-        (round_of (record { calc = B.calc bench.old; at = P.at; after = P.after }) session.old.running command.now).lines (K.bytes out.old) (K.bytes out.new)) }
+        (round_of (record { calc = B.calc bench.old; at = P.at; after = P.after }) session.old command.now).lines (K.bytes out.old) (K.bytes out.new)) }
     ensures late { IfErr result IsLate }
     ensures clean { OnOk result (K.faults out.new ≡ K.faults out.old) }
     ensures once { IsErrOf result Status.WriteFault → K.faults out.new ≡ raised (K.faults out.old) }

@@ -17,6 +17,12 @@ begins_beside P r begun l is paired = subst (StandBy P r) (sym is) (record {
   block = paired;
 })
 
+-- a session keeps its names and its actions
+pub stays_beside : (P : Type 0) (r new : Running P) (l : Lines) → new.standing.names ≡ r.standing.names
+    → new.standing.actions ≡ r.standing.actions → StandBy P r l → StandBy P new l
+stays_beside P r new l names actions stands =
+    record { copied = rw names stands.copied; begun = stands.begun; block = rw (names, actions) stands.block }
+
 -- a session that interned a text has it among its names
 interned_names : {P : Type 0} → (text : List ℕ) (r : Running P) → (interned_in text r).standing.names ≡ with_text r.standing.names text
 unfolding with_text has_text

@@ -26,7 +26,7 @@ use watch_rounds::Picker;
 #[derive(Drop)]
 pub struct Lines {
     blocks: Blocks,
-    pub(crate) line: u64,
+    line: u64,
     reader: Reader,
     alloc: Global,
 }
@@ -121,7 +121,14 @@ impl Lines {
         Vec::new(self.alloc)
     }
 
-    /// What a line says is done in its session, as `LineSession::say` does it.
+    /// What a line says is done in its session, and what it writes is appended: the lines of its round, or that of its fault,
+    /// which changes nothing else. `line` is without what ends it. Of one that is longer than `MOST_LINE` bytes, any front
+    /// that is longer says the same. `words` is room for its words, so that it need not be made for each line: what stands in
+    /// it is not looked at, and not promised.
+    ///
+    /// Lines are counted from 1. A session that is stopped takes none, and none is taken behind line 2^64 - 1. After want of
+    /// memory the line is not counted: a front of its lines was appended, and the session is stopped, where memory ran out in
+    /// a round; else nothing was appended, and it is as it was, but for a front of the names that are new in the line.
     pub fn say<'a, P: Picker, B: Bench>(
         &mut self,
         session: &mut WatchedSession<P>,
@@ -133,6 +140,7 @@ impl Lines {
         requires sound { IsSound (B.calc bench.old) session.old.standing.state }
         requires stands { StandBy P session.old self.old }
         ensures same { B.calc bench.new ≡ B.calc bench.old }
+        // It does what the definition says, exactly.
         ensures says { OnOk result (IsSaid P (said (record { calc = B.calc bench.old; at = P.at; after = P.after }) (live_of session.old self.old) line.now)
             (live_of session.new self.new) (record { lines = out.old.items; count = B.count bench.old; log = B.log bench.old })
             (record { lines = out.new.items; count = B.count bench.new; log = B.log bench.new })) }
@@ -144,6 +152,7 @@ impl Lines {
         ensures runs { OnOk result (session.new.standing.stopped ≡ false) }
         ensures sound { IsSound (B.calc bench.old) session.new.standing.state }
         ensures stands { StandBy P session.new self.new }
+        // It is not tried in these cases exactly, and then changes nothing.
         ensures stopped { IsErrOf result SayFault.Stopped ↔ (session.old.standing.stopped ≡ true) }
         ensures many { IsErrOf result SayFault.TooManyLines
             ↔ ((session.old.standing.stopped ≡ false) × (self.old.line ≡ 2 ^ 64 - 1)) }

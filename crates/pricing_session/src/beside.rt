@@ -77,7 +77,8 @@ impl<P: Picker> Beside<P> for ActionCount {
 
 impl<P: Picker> Beside<P> for Lines {
     ghost use Rattle.live_session.specs.Lines.{StandBy};
-    ghost use Rattle.pricing_session.specs.Beside.{IsAsSaid, stays_beside};
+    ghost use Rattle.live_session.proofs.Beside.{stays_beside};
+    ghost use Rattle.pricing_session.specs.Beside.{IsAsSaid};
 
     ghost stands = { StandBy P };
 

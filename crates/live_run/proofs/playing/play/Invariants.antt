@@ -14,8 +14,10 @@ invariant-loop-command g l = record {
       (outside (g.K.Sink.bytes l.initial.out) (g.K.Sink.sent l.initial.out) (g.B.Bench.count l.initial.bench) (g.B.Bench.log l.initial.bench))
       (drop l.command-index l.commands) l.session
       (outside (g.K.Sink.bytes l.out) (g.K.Sink.sent l.out) (g.B.Bench.count l.bench) (g.B.Bench.log l.bench));
-  known : All (IsKnown l.session.running.standing) (drop l.command-index l.commands);
-  sound : IsSound (g.B.Bench.calc l.initial.bench) l.session.running.standing.state;
-  running : l.session.running.standing.stopped ≡ false;
+  names : l.session.standing.names ≡ l.initial.session.standing.names;
+  actions : l.session.standing.actions ≡ l.initial.session.standing.actions;
+  known : All (IsKnown l.session.standing) (drop l.command-index l.commands);
+  sound : IsSound (g.B.Bench.calc l.initial.bench) l.session.standing.state;
+  running : l.session.standing.stopped ≡ false;
   faults : g.K.Sink.faults l.out ≡ g.K.Sink.faults l.initial.out;
 }

@@ -1,5 +1,5 @@
 // A session that is spoken to line by line, with its bench.
-ghost use Rattle.std.specs.Prelude.{◌≡◌, ◌⊎◌, ◌↔◌, ◌^◌, ◌-◌, true, false, None, All, IfOk, IfSome, OnOk, IsErrOf};
+ghost use Rattle.std.specs.Prelude.{◌≡◌, ◌⊎◌, ◌↔◌, ◌^◌, ◌-◌, true, false, All, IfOk, OnOk, IsErrOf};
 ghost use Rattle.market_file.specs.Standing.{IsReady};
 ghost use Rattle.session_lang.specs.Given.{GivesAt};
 ghost use Rattle.session_model.specs.Standing.{IsKnown};
@@ -101,20 +101,5 @@ impl<P: Picker + Drop, B: Bench + Drop> LiveSession<P, B> {
         let mut words = self.beside.words();
         self.beside
             .say(&mut self.session, line, &mut words, &mut self.bench, out)
-    }
-
-    /// How many lines were said.
-    pub fn count(&self) -> u64
-        ensures { result ≡ self.now.beside.line }
-    {
-        self.beside.count()
-    }
-
-    /// The line at which the block began that stands open, if one does, counted from 1.
-    pub fn open_block(&self) -> Option<u64>
-        ensures none { (result ≡ None) ↔ (self.now.beside.block ≡ None) }
-        ensures line { IfSome result (λ line. IfSome self.now.beside.block (λ block. line ≡ block.line)) }
-    {
-        self.beside.open_block()
     }
 }

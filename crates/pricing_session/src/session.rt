@@ -29,7 +29,8 @@ use watch_rounds::Picker;
 pub struct BenchSession<P: Picker + Drop, B: Bench + Drop, L: Beside<P> + Drop> {
     pub(crate) session: WatchedSession<P>,
     pub(crate) bench: B,
-    pub(crate) beside: L,
+    /// What stands beside it: of a session that is spoken to, what was said.
+    pub beside: L,
 }
 
 /// A session with the bench by which it prices, to which actions are added.
@@ -97,7 +98,7 @@ impl<P: Picker + Drop, B: Bench + Drop, L: Beside<P> + Drop> BenchSession<P, B, 
         ensures answer { result ≡ held_of self.old.running.standing name }
         ensures same { self.new ≡ self.old }
     {
-        self.session.ask_held(name)
+        self.session.session.ask_held(name)
     }
 
     /// Does a quiet command by itself, and answers why it is refused, if it is: a refused command changes nothing. No

@@ -98,7 +98,7 @@ fn talk(
     if say_all(session, said, out).is_err() {
         out.extend_from_slice(b"stopped\n")?;
     }
-    if let Some(line) = session.open_block() {
+    if let Some(line) = session.beside.open_block() {
         out.extend_from_slice(format!(in alloc; "fault {line} unclosed\n")?.as_bytes())?;
     }
     Ok(())

@@ -1,7 +1,9 @@
-use Rattle.std.proofs.Common.{◌≡◌, ◌∙◌, ◌<◌, ◌≤◌, ◌==◌, ℕ, true, arith, length, sym, ap}
+use Rattle.std.proofs.Common.{◌≡◌, ◌∙◌, ◌<◌, ◌≤◌, ◌==◌, ℕ, true, arith, List, length, sym, ap}
 use Rattle.std.specs.Prelude.{is_some, slice_index_or}
+use Rattle.desk_model.specs.declared.slot.Slot.{Slot}
+use Rattle.desk_model.specs.declared.slot.Slot.TheVariants.{Free}
 use Rattle.desk_model.specs.State.{State}
-use Rattle.desk_model.specs.Market.{kind_in, slot_at, kind_at}
+use Rattle.desk_model.specs.Market.{kind_in, slot_at}
 use Rattle.pricing_session.proofs.Found.{named_here, named_later, dead_later, named_done}
 use Rattle.pricing_session.proofs.finding.object_in.Goals as goal
 use Rattle.pricing_session.proofs.finding.object_in.Goals.{else-eq-via-then-eq+else-is_some, else-eq-via-else-eq}
@@ -14,7 +16,8 @@ returns-then-is_some c =
     let same : (slice_index_or session.of_object number 0 == c.args.name) ≡ true =
     ap (λ (n : ℕ). n == c.args.name) (sym c.name_of.ensures) ∙ sym c.eq.ensures ∙ c.if-eq.true in
     let live : is_some (kind_in (slot_at session.state.market number)) ≡ true =
-    ap (λ (s : State). is_some (kind_at s.market number)) (sym c.desk.ensures) ∙ ap is_some (sym c.kind.ensures) ∙ sym c.is_some.ensures ∙ c.if-is_some.true in
+    ap (λ (l : List Slot). is_some (kind_in (slice_index_or l number Free))) (sym (c.deref.ensures ∙ ap (λ (s : State). s.market.objects) c.desk.ensures))
+    ∙ ap is_some (sym c.kind.ensures) ∙ sym c.is_some.ensures ∙ c.if-is_some.true in
     sym (c.loop-number.invariant ∙ named_here session.state.market c.args.name number session.of_object within same live)
 
 pub loop-number-preserved : goal.loop-number-preserved
@@ -26,7 +29,8 @@ loop-number-preserved c =
     c.loop-number.invariant ∙ (elim c.else-eq.branch [
       | else-eq-via-then-eq+else-is_some w ↦
           dead_later session.state.market c.args.name number session.of_object within (same ∙ w.if-eq.true)
-          (ap (λ (s : State). is_some (kind_at s.market number)) (sym w.desk.ensures) ∙ ap is_some (sym w.kind.ensures) ∙ sym w.is_some.ensures ∙ w.if-is_some.false)
+          (ap (λ (l : List Slot). is_some (kind_in (slice_index_or l number Free))) (sym (w.deref.ensures ∙ ap (λ (s : State). s.market.objects) w.desk.ensures))
+          ∙ ap is_some (sym w.kind.ensures) ∙ sym w.is_some.ensures ∙ w.if-is_some.false)
       | else-eq-via-else-eq w ↦ named_later session.state.market c.args.name number session.of_object within (same ∙ w.if-eq.false)
     ])
 

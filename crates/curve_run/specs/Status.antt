@@ -1,5 +1,5 @@
 -- The exit codes, and the words on standard error behind the program's name (this project's profile).
-use Rattle.std.specs.Prelude.{◌≡◌, ◌⊎◌, ◌<◌, ℕ, List, length, take, codes, Option, Result, Ok, Err}
+use Rattle.std.specs.Prelude.{◌≡◌, ◌⊎◌, ◌<◌, ℕ, List, length, take, codes, Option, Some, Result, Ok, Err}
 use Rattle.desk_edge.specs.Count.{Rose}
 use Rattle.desk_edge.specs.Sink.{appended}
 use Rattle.tool_run.specs.declared.status.MarketStatus.TheVariants as ended
@@ -15,6 +15,11 @@ code_of Refused = 10
 abbrev pub words_of : CurveStatus → List ℕ
 words_of (Of status) = market.words_of status
 words_of Refused = codes "refused"
+
+-- the line on standard error after the program's name: one that is done has none
+abbrev pub said_of : CurveStatus → Option (List ℕ)
+said_of (Of status) = market.said_of status
+said_of Refused = Some (words_of Refused)
 
 -- how far a run came that ended so: where it is refused, all is computed, and the text to be written is none
 abbrev pub stage_of : CurveStatus → Stage

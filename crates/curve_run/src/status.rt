@@ -13,13 +13,13 @@ pub enum CurveStatus {
 }
 
 impl Ending for CurveStatus {
-    ghost use Rattle.curve_run.specs.Status.{code_of, words_of};
+    ghost use Rattle.curve_run.specs.Status.{code_of, said_of};
 
     type Words = CurveWords;
 
     ghost code = { code_of };
 
-    ghost line = { words_of };
+    ghost line = { said_of };
 
     fn code(&self) -> u8 {
         match self {

@@ -5,7 +5,7 @@
 #![tactic(auto)]
 
 use desk_bench::DeskBench;
-use desk_edge::{Shelf, Sink};
+use desk_edge::{Feed, Shelf, Sink};
 use desk_top::{Status, run};
 use std::alloc::Global;
 use tool_process::{Ended, Program, run_process};
@@ -16,11 +16,13 @@ struct Desk;
 impl Program for Desk {
     type Status = Status;
 
-    fn run<H: Shelf, K: Sink>(
+    fn run<H: Shelf, F: Feed, K: Sink, N: Sink>(
         alloc: Global,
         words: &[String],
         shelf: &mut H,
+        _feed: &mut F,
         out: &mut K,
+        _notes: &mut N,
     ) -> Status {
         run(alloc, words, shelf, out, &mut DeskBench::new())
     }

@@ -6,7 +6,7 @@
 
 use bump_run::{BumpStatus, NAME, run_bump};
 use desk_bench::DeskBench;
-use desk_edge::{Shelf, Sink};
+use desk_edge::{Feed, Shelf, Sink};
 use std::alloc::Global;
 use tool_process::{Ended, Program, run_process};
 
@@ -16,11 +16,13 @@ struct DeskBump;
 impl Program for DeskBump {
     type Status = BumpStatus;
 
-    fn run<H: Shelf, K: Sink>(
+    fn run<H: Shelf, F: Feed, K: Sink, N: Sink>(
         alloc: Global,
         words: &[String],
         shelf: &mut H,
+        _feed: &mut F,
         out: &mut K,
+        _notes: &mut N,
     ) -> BumpStatus {
         run_bump(alloc, words, shelf, out, &mut DeskBench::new())
     }

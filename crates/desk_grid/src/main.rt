@@ -5,7 +5,7 @@
 #![tactic(auto)]
 
 use desk_bench::DeskBench;
-use desk_edge::{Shelf, Sink};
+use desk_edge::{Feed, Shelf, Sink};
 use grid_run::{NAME, run_grid};
 use script_steps::BlocksStatus;
 use std::alloc::Global;
@@ -17,11 +17,13 @@ struct DeskGrid;
 impl Program for DeskGrid {
     type Status = BlocksStatus;
 
-    fn run<H: Shelf, K: Sink>(
+    fn run<H: Shelf, F: Feed, K: Sink, N: Sink>(
         alloc: Global,
         words: &[String],
         shelf: &mut H,
+        _feed: &mut F,
         out: &mut K,
+        _notes: &mut N,
     ) -> BlocksStatus {
         run_grid(alloc, words, shelf, out, &mut DeskBench::new())
     }

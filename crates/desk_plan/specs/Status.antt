@@ -1,5 +1,5 @@
 -- The exit codes and the lines on standard error (this project's profile).
-use Rattle.std.specs.Prelude.{ℕ, List, [], ◌++◌, codes, decimal}
+use Rattle.std.specs.Prelude.{ℕ, List, [], ◌++◌, codes, decimal, Option, None, Some}
 use Rattle.market_file.specs.Fault.{section_text}
 use Rattle.market_tables.specs.MarketKind.{kind_text as market_kind_text}
 use Rattle.session_commands.specs.ScriptKind.{kind_text}
@@ -37,6 +37,17 @@ words_of ReadFault = codes "read fault"
 words_of WriteFault = codes "write fault"
 words_of NoMemory = codes "no memory"
 words_of (Absent role) = codes "no file " ++ role_text role
+
+-- the line on standard error after the program's name: Done has none
+abbrev pub said_of : Status → Option (List ℕ)
+said_of Done = None
+said_of Usage = Some (words_of Usage)
+said_of (Market section entry why) = Some (words_of (Market section entry why))
+said_of (Script line why) = Some (words_of (Script line why))
+said_of ReadFault = Some (words_of ReadFault)
+said_of WriteFault = Some (words_of WriteFault)
+said_of NoMemory = Some (words_of NoMemory)
+said_of (Absent role) = Some (words_of (Absent role))
 
 abbrev pub line_of : Status → List ℕ
 line_of status = codes "desk: " ++ words_of status

@@ -59,13 +59,13 @@ impl Status {
 }
 
 impl Ending for Status {
-    ghost use Rattle.desk_plan.specs.Status.{code_of, words_of};
+    ghost use Rattle.desk_plan.specs.Status.{code_of, said_of};
 
     type Words = StatusWords;
 
     ghost code = { code_of };
 
-    ghost line = { words_of };
+    ghost line = { said_of };
 
     fn code(&self) -> u8 {
         Status::code(self)

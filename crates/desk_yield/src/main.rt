@@ -4,7 +4,7 @@
 //! `desk_yield MARKET NAME DAY PRICE`. What it does is `yield_run::run_yield`.
 #![tactic(auto)]
 
-use desk_edge::{Shelf, Sink};
+use desk_edge::{Feed, Shelf, Sink};
 use std::alloc::Global;
 use tool_process::{Ended, Program, run_process};
 use yield_run::{NAME, YieldStatus, run_yield};
@@ -15,11 +15,13 @@ struct DeskYield;
 impl Program for DeskYield {
     type Status = YieldStatus;
 
-    fn run<H: Shelf, K: Sink>(
+    fn run<H: Shelf, F: Feed, K: Sink, N: Sink>(
         alloc: Global,
         words: &[String],
         shelf: &mut H,
+        _feed: &mut F,
         out: &mut K,
+        _notes: &mut N,
     ) -> YieldStatus {
         run_yield(alloc, words, shelf, out)
     }

@@ -15,13 +15,13 @@ pub enum BlocksStatus {
 }
 
 impl Ending for BlocksStatus {
-    ghost use Rattle.script_steps.specs.Status.{code_of, words_of};
+    ghost use Rattle.script_steps.specs.Status.{code_of, said_of};
 
     type Words = BlocksWords;
 
     ghost code = { code_of };
 
-    ghost line = { words_of };
+    ghost line = { said_of };
 
     fn code(&self) -> u8 {
         match self {

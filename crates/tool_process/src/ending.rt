@@ -7,18 +7,18 @@ use std::io::Eprint;
 use std::marker::Model;
 use std::process::{ExitCode, Termination};
 
-/// How a run ended: a status.
+/// How a run ended: an exit status, and the line on standard error of a run that has one.
 pub trait Ending: Copy {
-    ghost use Rattle.std.specs.Prelude.{◌≡◌, ◌↔◌, ℕ, List, None, Some, IfSome};
+    ghost use Rattle.std.specs.Prelude.{◌≡◌, ◌↔◌, ℕ, List, Option, None, IfSome};
 
-    /// What its line on standard error says behind the program's name.
+    /// What its line on standard error says after the program's name.
     type Words: fmt::Display + Drop;
 
     /// The exit status of the program.
     ghost code: { Self → ℕ };
 
-    /// The bytes that its line says behind the program's name.
-    ghost line: { Self → List ℕ };
+    /// The bytes of its line on standard error after the program's name; none where it has no line.
+    ghost line: { Self → Option (List ℕ) };
 
     /// The exit status of the program.
     fn code(&self) -> u8
@@ -32,10 +32,10 @@ pub trait Ending: Copy {
     fn no_memory() -> Self
         ensures { code result ≡ 7 };
 
-    /// What its line says behind the program's name; none where it is done, and has no line.
+    /// What its line says after the program's name; none where it has no line.
     fn words(&self) -> Option<Self::Words>
-        ensures none { (result ≡ None) ↔ (code self.now ≡ 0) }
-        ensures said { IfSome result (λ words. Self.Words.output words ≡ Some (line self.now)) };
+        ensures none { (result ≡ None) ↔ (line self.now ≡ None) }
+        ensures said { IfSome result (λ words. Self.Words.output words ≡ line self.now) };
 }
 
 /// How a program ended. A `main` that returns it ends with the exit status of its status, and writes the line of a status

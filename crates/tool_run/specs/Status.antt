@@ -1,5 +1,5 @@
 -- The exit codes, and the words on standard error behind the program's name (this project's profile).
-use Rattle.std.specs.Prelude.{ℕ, List, [], ◌++◌, codes, decimal}
+use Rattle.std.specs.Prelude.{ℕ, List, [], ◌++◌, codes, decimal, Option, None, Some}
 use Rattle.market_file.specs.Fault.{section_text}
 use Rattle.market_tables.specs.MarketKind.{kind_text}
 use Rattle.market_loader.specs.Faults.{role_text}
@@ -27,6 +27,16 @@ words_of ReadFault = codes "read fault"
 words_of WriteFault = codes "write fault"
 words_of NoMemory = codes "no memory"
 words_of (Absent role) = codes "no file " ++ role_text role
+
+-- the line on standard error after the program's name: Done has none
+abbrev pub said_of : MarketStatus → Option (List ℕ)
+said_of Done = None
+said_of Usage = Some (words_of Usage)
+said_of (Market section entry why) = Some (words_of (Market section entry why))
+said_of ReadFault = Some (words_of ReadFault)
+said_of WriteFault = Some (words_of WriteFault)
+said_of NoMemory = Some (words_of NoMemory)
+said_of (Absent role) = Some (words_of (Absent role))
 
 -- the status of a market that was not read
 abbrev pub load_status : fault.LoadFault → MarketStatus

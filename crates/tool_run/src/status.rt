@@ -25,13 +25,13 @@ pub enum MarketStatus {
 }
 
 impl Ending for MarketStatus {
-    ghost use Rattle.tool_run.specs.Status.{code_of, words_of};
+    ghost use Rattle.tool_run.specs.Status.{code_of, said_of};
 
     type Words = MarketStatus;
 
     ghost code = { code_of };
 
-    ghost line = { words_of };
+    ghost line = { said_of };
 
     fn code(&self) -> u8 {
         match self {

@@ -1,19 +1,14 @@
-// Live sessions: runs `desk_live` over whole cases, the input of each in pieces of several sizes, and compares the bytes with those that
+// Live sessions: runs `doqs live` over whole cases, the input of each in pieces of several sizes, and compares the bytes with those that
 // an independent model writes. Given are a line that says what is tried, the words, the files, and the input behind a line `-- lines`.
 //
 // In the input `\*` stands for repeated lines, as in the other whole cases, and `\=`, a number, a space, a byte's number and a `;` for
 // that byte so often.
 use crate::cases::{Cases, compare};
-use crate::tools::line;
+use crate::tools;
 use crate::wholes::{number, parted, push_repeated, shelf_of, words_of};
-use desk_bench::DeskBench;
-use desk_edge::{CallList, MemoryFeed, MemorySink, SizeList};
-use live_run::{NAME, run_live};
+use desk_edge::{CallList, MemoryFeed, SizeList};
 use std::alloc::{AllocError, Global};
 use std::io;
-
-// The most bytes that a case may write.
-const ROOM: usize = 250_000;
 
 // The most bytes of a piece of the input; 0 stands for sizes that differ, up to 63.
 const SIZES: [usize; 5] = [1, 2, 7, 4096, 0];
@@ -44,14 +39,9 @@ pub(crate) fn agrees(alloc: Global, case: &str) -> Result<bool, AllocError> {
 fn shown(alloc: Global, files: &str, input: &[u8], size: usize) -> Result<Vec<u8>, AllocError> {
     let sizes = sizes_of(alloc, input.len(), size)?;
     let mut feed = MemoryFeed::new(input.to_vec(alloc)?, sizes, CallList::new(alloc));
-    let mut out = MemorySink::new(alloc, ROOM, 4096, CallList::new(alloc))?;
     let mut shelf = shelf_of(alloc, files)?;
     let words = words_of(alloc, files)?;
-    let mut bench = DeskBench::new();
-    let status = run_live(alloc, &words, &mut shelf, &mut feed, &mut out, &mut bench);
-    let mut text = out.bytes().to_vec(alloc)?;
-    text.extend_from_slice(line(alloc, NAME, status)?.as_bytes())?;
-    Ok(text)
+    tools::shown(alloc, "live", &words, &mut shelf, &mut feed)
 }
 
 // As many sizes as the pieces of an input of this length may need.

@@ -1,0 +1,77 @@
+// From a command to its run.
+use crate::noting::ended;
+use crate::{Command, FrontStatus};
+use bump_run::run_bump;
+use curve_run::run_curve;
+use desk_edge::{Feed, Shelf, Sink};
+use desk_terms::Bench;
+use desk_top::run;
+use explain_run::run_explain;
+use graph_run::run_graph;
+use grid_run::run_grid;
+use live_run::run_live;
+use measure_run::run_measure;
+use risk_run::run_risk;
+use std::alloc::Global;
+use why_run::run_why;
+use yield_run::run_yield;
+
+// Does a command. `words` are those after it, and `whole` are these with it before them.
+pub(crate) fn carry_out<H: Shelf, F: Feed, K: Sink, N: Sink, B: Bench>(
+    alloc: Global,
+    command: Command,
+    words: &[String],
+    whole: &[String],
+    shelf: &mut H,
+    feed: &mut F,
+    out: &mut K,
+    notes: &mut N,
+    bench: &mut B,
+) -> FrontStatus {
+    match command {
+        Command::Run | Command::Check | Command::Load => {
+            let status = run(alloc, whole, shelf, out, bench);
+            ended(alloc, command, words, status, notes)
+        }
+        Command::Live => {
+            let status = run_live(alloc, words, shelf, feed, out, bench);
+            ended(alloc, command, words, status, notes)
+        }
+        Command::Curve => {
+            let status = run_curve(alloc, words, shelf, out, notes, bench);
+            ended(alloc, command, words, status, notes)
+        }
+        Command::Why => {
+            let status = run_why(alloc, words, shelf, out, bench);
+            ended(alloc, command, words, status, notes)
+        }
+        Command::Explain => {
+            let status = run_explain(alloc, words, shelf, out, bench);
+            ended(alloc, command, words, status, notes)
+        }
+        Command::Grid => {
+            let status = run_grid(alloc, words, shelf, out, bench);
+            ended(alloc, command, words, status, notes)
+        }
+        Command::Bump => {
+            let status = run_bump(alloc, words, shelf, out, bench);
+            ended(alloc, command, words, status, notes)
+        }
+        Command::Risk => {
+            let status = run_risk(alloc, words, shelf, out, bench);
+            ended(alloc, command, words, status, notes)
+        }
+        Command::Graph => {
+            let status = run_graph(alloc, words, shelf, out, bench);
+            ended(alloc, command, words, status, notes)
+        }
+        Command::Yield => {
+            let status = run_yield(alloc, words, shelf, out);
+            ended(alloc, command, words, status, notes)
+        }
+        Command::Measure => {
+            let status = run_measure(alloc, words, shelf, out);
+            ended(alloc, command, words, status, notes)
+        }
+    }
+}

@@ -84,7 +84,7 @@ int main(int count, char **words) { /* FILE MARK PROGRAM WORDS.. */
 C
 cc -O2 -o echo echo.c
 cc -O2 -o client client.c
-sed -n '/^cat > refuse.c/,/^C$/p' "$top/benchmarks/refused_allocations.sh" | sed '1d;$d' > refuse.c
+sed -n '/^cat > refuse.c/,/^C$/p' "$top/checks/refused_allocations" | sed '1d;$d' > refuse.c
 cc -O1 -shared -fPIC -o refuse.so refuse.c
 python3 - "${1:-1000000}" <<'RUN'
 import os

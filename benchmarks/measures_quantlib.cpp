@@ -2,7 +2,7 @@
 //
 //   CALENDAR:START:END:COUPON:EVERY:CONVENTION:COUNTER,DAY,YIELD,PRICE
 //
-// as `tools/exact_measures.py MODEL ask` writes them. For each it writes, with commas between,
+// as `models/exact_measures.py MODEL ask` writes them. For each it writes, with commas between,
 //
 //   - the yield at that price by BondFunctions::yield, to an accuracy of 10^-13 and to its default one, 10^-10;
 //   - by BondFunctions::dirtyPrice a basis point below the yield, at it and above it: what is gained by a basis point, the fall over two

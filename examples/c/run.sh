@@ -6,7 +6,7 @@
 #
 # It runs the example under valgrind; refuses each allocation of a session in turn, and does that under valgrind too, for a shorter one; runs the
 # tests of examples/live over the library and over the pipe, with ten thousand random lines whose log `desk run` plays to the same bytes; and
-# times a pair of `set` and `ask` each way. Fails where one of these fails; the times are those of this machine. The gate runs it by tools/c_library.
+# times a pair of `set` and `ask` each way. Fails where one of these fails; the times are those of this machine. The gate runs it by checks/c_library.
 # It needs cc, valgrind and Python 3.9.
 set -euo pipefail
 here=$(realpath "$(dirname "$0")")

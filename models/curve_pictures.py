@@ -1,7 +1,7 @@
 #!/usr/bin/env python3
 """A plain model of the texts of desk_curve, written beside the definitions and not after the code.
 
-    tools/curve_pictures.py [--csv] [--zero | --forward | --par] DAY < TRANSCRIPT
+    models/curve_pictures.py [--csv] [--zero | --forward | --par] DAY < TRANSCRIPT
 
 DAY is the market's day. TRANSCRIPT has the line of an ask for each curve, as `NAME curve DAY FACTOR DAY FACTOR .. MARK N` or
 `NAME refused CAUSE N`. For --par it has a line `NAME helper RATE DAY PARTS DAY PARTS ..` for each helper of a curve, in order: its quote, and the day and

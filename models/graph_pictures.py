@@ -1,8 +1,8 @@
 #!/usr/bin/env python3
 """A plain model of the text of desk_graph, written beside docs/GRAPH.md and not after the code.
 
-    tools/graph_pictures.py MODEL [FILE..]
-    tools/graph_pictures.py MODEL --random COUNT SEED
+    models/graph_pictures.py MODEL [FILE..]
+    models/graph_pictures.py MODEL --random COUNT SEED
 
 MODEL is the folder of an independent model of the session, a package of Python that this repository does not have. It plays the
 script; what an ask would find is what it answers to one, over a copy. Compares the cases of the files, those of crates/script_vectors

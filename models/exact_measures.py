@@ -1,10 +1,10 @@
 #!/usr/bin/env python3
 """Yields and measures of bonds by an exact price and by QuantLib, beside those of a plain model of whole numbers, and how far apart they may be.
 
-    tools/exact_measures.py MODEL derivatives < CASES
-    tools/exact_measures.py MODEL ask < CASES
-    tools/exact_measures.py MODEL prices FIGURES < CASES
-    tools/exact_measures.py MODEL formulas FIGURES < CASES
+    models/exact_measures.py MODEL derivatives < CASES
+    models/exact_measures.py MODEL ask < CASES
+    models/exact_measures.py MODEL prices FIGURES < CASES
+    models/exact_measures.py MODEL formulas FIGURES < CASES
 
 MODEL is the folder of an independent model of schedules, a package of Python that this repository does not have. CASES are the columns
 `market,terms,after,yield` of crates/price_vectors/data/derivatives.csv, over the calendars of its curves.csv. Each mode but `ask` writes the rows of its file

@@ -1,7 +1,7 @@
 #!/usr/bin/env python3
 """Writes crates/graph_vectors/data/watchers.txt: random steps over graphs with watchers, beside a plain model.
 
-    tools/watcher_rows.py > crates/graph_vectors/data/watchers.txt
+    models/watcher_rows.py > crates/graph_vectors/data/watchers.txt
 
 The model keeps sets of nodes, pairs, marked sources and told watchers, and works each answer out from what is meant,
 with no worklist: a notice grows a set until nothing is added, a path is one that a search finds. One line is a graph: the

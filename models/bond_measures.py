@@ -1,7 +1,7 @@
 #!/usr/bin/env python3
 """A plain model of the lines of desk_measure, written beside the definitions and not after the code.
 
-    tools/bond_measures.py MODEL < CASES
+    models/bond_measures.py MODEL < CASES
 
 MODEL is the folder of an independent model of markets and yields, a package of Python that this repository does not have. CASES are those of
 crates/script_vectors of desk_yield; writes them with the lines of desk_measure.

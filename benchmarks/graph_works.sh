@@ -1,6 +1,6 @@
 #!/usr/bin/env bash
 # Counts the instructions of works that lie in the graph of observers, by the built program (or by the one named in DESK), in a
-# folder of its own. It checks no figure; docs/DECISIONS.md has the counts, by 'edge_lists'.
+# folder of its own. It checks no figure; docs/internals/decisions.md has the counts, by 'edge_lists'.
 #
 #   chain built     4,000 composites are made, each on the one before: all of the script's run
 #   reversed built  the same chain, each composite made before the one that it holds: all of the script's run

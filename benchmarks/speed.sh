@@ -1,6 +1,6 @@
 #!/usr/bin/env bash
 # Counts the instructions of single works of a session, by the built program (or by the one named in DESK), in a folder of its own:
-# what a script with the work takes more than the same script without it. It checks no figure; docs/DECISIONS.md has the counts.
+# what a script with the work takes more than the same script without it. It checks no figure; docs/internals/decisions.md has the counts.
 #
 #   cd crates/desk && rt run -- run data/market.toml data/script     # builds the program
 #   benchmarks/speed.sh [WORK..]                                     # the works whose names begin so; all where none is named

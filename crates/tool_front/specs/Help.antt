@@ -28,15 +28,29 @@ list_text =
 abbrev pub usage_line : Row → List ℕ
 usage_line row = codes "usage: doqs " ++ row.name ++ codes " " ++ row.arguments ++ codes "\n"
 
+unfoldable pub example_head : List ℕ
+example_head = codes "\n\nexample: "
+
+-- what a command does, and a call of it
+abbrev pub about_text : Row → List ℕ
+about_text row = codes "\n" ++ row.about ++ example_head ++ row.example ++ codes "\n"
+
 abbrev pub row_help : Row → List ℕ
-row_help row = usage_line row ++ codes "\n" ++ row.about ++ codes "\n\nexample: " ++ row.example ++ codes "\n"
+row_help row = usage_line row ++ about_text row
 
 -- how a command is used, what it does, and a call of it
 abbrev pub help_text : Command → List ℕ
 help_text c = row_help (row_of c)
 
+abbrev pub version : List ℕ
+version = codes "0.18"
+
+-- the sum of the logic in which the proofs were checked
+abbrev pub build : List ℕ
+build = codes "logic dac8208d650f15bf"
+
 abbrev pub version_text : List ℕ
-version_text = codes "doqs 0.18\nlogic dac8208d650f15bf\n"
+version_text = codes "doqs " ++ version ++ codes "\n" ++ build ++ codes "\n"
 
 -- what is said of a word that is no command
 abbrev pub unknown_text : List ℕ → List ℕ

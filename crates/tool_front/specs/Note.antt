@@ -34,21 +34,27 @@ path_words most false (word ∷ words) =
     else (if bytes_eq word (codes "--order") then path_words most true words
     else (if is_word word then codes " " ++ word ++ path_words (most - 1) false words else path_words most false words))
 
+-- what the reader of faults adds
+unfoldable pub fault_tail : List ℕ
+fault_tail = codes " says in which line, and what would be taken\n"
+
 -- where to look for the place of a fault
 abbrev pub fault_line : Command → List (List ℕ) → List ℕ
-fault_line c words =
-    codes "desk_fault" ++ path_words (paths_of c) false words ++ codes " says in which line, and what would be taken\n"
+fault_line c words = codes "desk_fault" ++ path_words (paths_of c) false words ++ fault_tail
 
 -- what helps at an exit status: how the command is used, or where a fault is
 abbrev pub advice : Command → List (List ℕ) → ℕ → List ℕ
 advice c words code =
     if code == 2 then usage_line (row_of c) else (if code == 3 || code == 4 then fault_line c words else [])
 
+-- the line of a command
+abbrev pub said_line : Row → List ℕ → List ℕ
+said_line row said = codes "doqs " ++ row.name ++ codes ": " ++ said ++ codes "\n"
+
 -- the lines of a run that ended with this status and this line: none where it has no line
 abbrev pub note_text : Command → List (List ℕ) → ℕ → Option (List ℕ) → List ℕ
 note_text c words code None = []
-note_text c words code (Some said) =
-    codes "doqs " ++ (row_of c).name ++ codes ": " ++ said ++ codes "\n" ++ advice c words code
+note_text c words code (Some said) = said_line (row_of c) said ++ advice c words code
 
 -- WHAT WAS NOTED of these lines, where it is told: all, or where a fault of it was counted a front
 abbrev pub Notes : List ℕ → Option (List ℕ) → Option (List ℕ) → ℕ → ℕ → Type 0

@@ -2,7 +2,7 @@
 use Rattle.std.specs.Prelude.{◌≡◌, List, [], ◌∷◌, codes, None, Some}
 use Rattle.tool_front.specs.declared.command.Command.TheVariants as command
 use Rattle.tool_front.specs.Front.{Listing, Version, Help, Nothing, Unknown, Run, front_of}
-use Rattle.tool_front.specs.Help.{help_text}
+use Rattle.tool_front.specs.Help.{help_text, version_text}
 use Rattle.tool_front.specs.Note.{note_text}
 
 pub record AreRead : Type 0 where
@@ -40,3 +40,4 @@ pub record AreNoted : Type 0 where
 
 pub record AreHelped : Type 0 where
   pub measure : help_text command.Measure ≡ codes "usage: doqs measure MARKET NAME DAY PRICE\n\nWrites what yield writes, and then the gain of a basis point, duration, convexity and\nthe spread over the curve of the bond's engine.\n\nexample: doqs measure market.toml state 2024-01-17 990000\n"
+  pub versions : version_text ≡ codes "doqs 0.18\nlogic dac8208d650f15bf\n"

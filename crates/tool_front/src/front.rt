@@ -1,8 +1,7 @@
 // What the words ask for.
-ghost use Rattle.std.specs.Prelude.{◌≡◌, ◌==◌, map, codes};
-ghost use Rattle.std.specs.List.{list_any};
+ghost use Rattle.std.specs.Prelude.{◌≡◌, map};
 ghost use Rattle.std.specs.String.{string_bytes};
-ghost use Rattle.tool_front.specs.Front.{front_in, front_of, help_of, command_front, asks_help, is_help, is_version, is_help_option};
+ghost use Rattle.tool_front.specs.Front.{front_in, front_of, word_front, help_of, named_help, command_front, asks_help, is_help, is_version, is_help_option};
 
 use crate::Command;
 

@@ -1,9 +1,9 @@
 // The texts that are made of the table.
 ghost use Rattle.std.specs.Prelude.{◌≡◌, ◌++◌, OnOk, drop, codes};
-ghost use Rattle.tool_front.specs.Help.{gap, help_text, line_text, lines_text, list_text, row_help, row_line, unknown_text, usage_line, version_text};
+ghost use Rattle.tool_front.specs.Help.{about_text, build, example_head, gap, help_text, line_text, lines_text, list_text, row_help, row_line, unknown_text, usage_line, version, version_text};
 ghost use Rattle.tool_front.specs.Table.{row_in};
 
-use crate::{BUILD, COMMANDS, Command, NAME, Row, VERSION};
+use crate::{BUILD, COMMANDS, Command, Row, VERSION};
 use std::alloc::AllocError;
 
 // Spaces up to the column of what a command does.
@@ -72,23 +72,48 @@ fn push_row_help(row: &Row, out: &mut Vec<u8>) -> Result<(), AllocError>
     ensures { OnOk result (out.new.items ≡ out.old.items ++ row_help (row_in row.now)) }
 {
     push_usage(row, out)?;
+    push_about(row, out)
+}
+
+// What a command does, and a call of it.
+fn push_about(row: &Row, out: &mut Vec<u8>) -> Result<(), AllocError>
+    ensures { OnOk result (out.new.items ≡ out.old.items ++ about_text (row_in row.now)) }
+{
     out.extend_from_slice(b"\n")?;
     out.extend_from_slice(row.about.as_bytes())?;
-    out.extend_from_slice(b"\n\nexample: ")?;
+    out.extend_from_slice(example_head())?;
     out.extend_from_slice(row.example.as_bytes())?;
     out.extend_from_slice(b"\n")
+}
+
+#[tactic(auto, unfolding(crate::specs::Help::example_head))]
+fn example_head() -> &'static [u8]
+    ensures { result.now ≡ example_head }
+{
+    b"\n\nexample: "
 }
 
 // The version, and what the program was built by.
 pub(crate) fn push_version(out: &mut Vec<u8>) -> Result<(), AllocError>
     ensures { OnOk result (out.new.items ≡ out.old.items ++ version_text) }
 {
-    out.extend_from_slice(NAME.as_bytes())?;
-    out.extend_from_slice(b" ")?;
-    out.extend_from_slice(VERSION.as_bytes())?;
+    out.extend_from_slice(b"doqs ")?;
+    out.extend_from_slice(version())?;
     out.extend_from_slice(b"\n")?;
-    out.extend_from_slice(BUILD.as_bytes())?;
+    out.extend_from_slice(build())?;
     out.extend_from_slice(b"\n")
+}
+
+fn version() -> &'static [u8]
+    ensures { result.now ≡ version }
+{
+    VERSION.as_bytes()
+}
+
+fn build() -> &'static [u8]
+    ensures { result.now ≡ build }
+{
+    BUILD.as_bytes()
 }
 
 // What is said of a word that is no command.

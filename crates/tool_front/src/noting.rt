@@ -1,11 +1,12 @@
 // The lines on standard error of a command that is not done.
-ghost use Rattle.std.specs.Prelude.{◌≡◌, ◌⊎◌, ◌++◌, map, IfOk, OnOk};
+ghost use Rattle.std.specs.Prelude.{◌≡◌, ◌⊎◌, ◌++◌, map, Some, IfOk, OnOk};
 ghost use Rattle.std.specs.String.{string_bytes};
-ghost use Rattle.tool_front.specs.Note.{Notes, advice, fault_line, note_text};
+ghost use Rattle.tool_front.specs.Note.{Notes, advice, fault_line, fault_tail, note_text, said_line};
+ghost use Rattle.tool_front.specs.Table.{row_in};
 
 use crate::help::push_usage;
 use crate::paths::{paths_of, push_paths};
-use crate::{Command, FrontStatus};
+use crate::{Command, FrontStatus, Row};
 use desk_edge::{Sink, write_whole};
 use std::alloc::{AllocError, Global};
 use tool_process::Ending;
@@ -48,16 +49,40 @@ fn note_of<S: Ending>(
 ) -> Result<Vec<u8>, AllocError>
     ensures { IfOk result (λ lines. lines.items ≡ note_text command (map string_bytes words.now) (S.code status) (S.line status)) }
 {
-    let mut lines = Vec::new(alloc);
-    if let Some(said) = status.words() {
-        lines.extend_from_slice(b"doqs ")?;
-        lines.extend_from_slice(command.row().name.as_bytes())?;
-        lines.extend_from_slice(b": ")?;
-        lines.extend_from_slice(format!(in alloc; "{said}")?.as_bytes())?;
-        lines.extend_from_slice(b"\n")?;
-        push_advice(command, words, status.code(), &mut lines)?;
+    match status.words() {
+        Some(said) => {
+            let said = format!(in alloc; "{said}")?;
+            said_note(alloc, command, words, status.code(), said.as_bytes())
+        }
+        None => Ok(Vec::new(alloc)),
     }
+}
+
+// The same where it has a line.
+fn said_note(
+    alloc: Global,
+    command: Command,
+    words: &[String],
+    code: u8,
+    said: &[u8],
+) -> Result<Vec<u8>, AllocError>
+    ensures { IfOk result (λ lines. lines.items ≡ note_text command (map string_bytes words.now) code (Some said.now)) }
+{
+    let mut lines = Vec::new(alloc);
+    push_said(&command.row(), said, &mut lines)?;
+    push_advice(command, words, code, &mut lines)?;
     Ok(lines)
+}
+
+// The line of a command.
+fn push_said(row: &Row, said: &[u8], out: &mut Vec<u8>) -> Result<(), AllocError>
+    ensures { OnOk result (out.new.items ≡ out.old.items ++ said_line (row_in row.now) said.now) }
+{
+    out.extend_from_slice(b"doqs ")?;
+    out.extend_from_slice(row.name.as_bytes())?;
+    out.extend_from_slice(b": ")?;
+    out.extend_from_slice(said)?;
+    out.extend_from_slice(b"\n")
 }
 
 // What helps at an exit status: how the command is used, or where a fault is.
@@ -84,5 +109,12 @@ fn push_fault(command: Command, words: &[String], out: &mut Vec<u8>) -> Result<(
 {
     out.extend_from_slice(b"desk_fault")?;
     push_paths(paths_of(command), false, words, out)?;
-    out.extend_from_slice(b" says in which line, and what would be taken\n")
+    out.extend_from_slice(fault_tail())
+}
+
+#[tactic(auto, unfolding(crate::specs::Note::fault_tail))]
+fn fault_tail() -> &'static [u8]
+    ensures { result.now ≡ fault_tail }
+{
+    b" says in which line, and what would be taken\n"
 }

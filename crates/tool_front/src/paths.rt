@@ -44,7 +44,7 @@ pub(crate) fn push_paths(
             if most == 0 {
                 return Ok(());
             }
-            if word == "--order" {
+            if word.as_str() == "--order" {
                 return push_paths(most, true, rest, out);
             }
             if !is_word(word) {

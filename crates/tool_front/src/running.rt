@@ -1,5 +1,5 @@
 // The call of the program.
-ghost use Rattle.std.specs.Prelude.{◌≡◌, map, IfOk, IfErr, IfSome};
+ghost use Rattle.std.specs.Prelude.{◌≡◌, ℕ, List, map, IfOk, IfSome};
 ghost use Rattle.std.specs.String.{string_bytes};
 ghost use Rattle.tool_front.specs.Front.{front_of};
 ghost use Rattle.tool_front.specs.Help.{help_text, list_text, unknown_text, version_text};
@@ -52,8 +52,8 @@ pub fn run_doqs<H: Shelf, F: Feed, K: Sink, N: Sink, B: Bench>(
 
 // Writes a text that is asked for.
 fn shown<K: Sink>(text: Result<Vec<u8>, AllocError>, out: &mut K) -> FrontStatus
-    ensures text { IfOk text (λ bytes. Shown bytes.items (K.bytes out.old) (K.bytes out.new) (K.faults out.old) (K.faults out.new) result) }
-    ensures none { IfErr text (λ _. (result ≡ FrontStatus.NoMemory) × (out.new ≡ out.old)) }
+    ensures { (asked : List ℕ) → IfOk text (λ bytes. bytes.items ≡ asked)
+        → Shown asked (K.bytes out.old) (K.bytes out.new) (K.faults out.old) (K.faults out.new) result }
 {
     match text {
         Ok(text) => match write_whole(out, &text) {
@@ -66,8 +66,8 @@ fn shown<K: Sink>(text: Result<Vec<u8>, AllocError>, out: &mut K) -> FrontStatus
 
 // Notes a text that says why nothing is done.
 fn refused<N: Sink>(text: Result<Vec<u8>, AllocError>, notes: &mut N) -> FrontStatus
-    ensures text { IfOk text (λ bytes. Refused bytes.items (N.bytes notes.old) (N.bytes notes.new) (N.faults notes.old) (N.faults notes.new) result) }
-    ensures none { IfErr text (λ _. (result ≡ FrontStatus.NoMemory) × (notes.new ≡ notes.old)) }
+    ensures { (asked : List ℕ) → IfOk text (λ bytes. bytes.items ≡ asked)
+        → Refused asked (N.bytes notes.old) (N.bytes notes.new) (N.faults notes.old) (N.faults notes.new) result }
 {
     match text {
         Ok(text) => {

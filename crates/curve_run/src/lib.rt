@@ -1,8 +1,8 @@
-//! What the program `desk_curve` does: from words and a market with its tables to the picture of curves, or to the table of
+//! What `doqs curve` does: from words and a market with its tables to the picture of curves, or to the table of
 //! their points, or to the lines of what stands against it, and a status, for every shelf of files, sinks of bytes and of notes,
 //! and bench of prices.
 //!
-//! `run_curve`, `NAME`, `CurveStatus`, `CurveWords`.
+//! `run_curve`, `CurveStatus`, `CurveWords`.
 #![tactic(auto)]
 
 mod finding;
@@ -17,6 +17,3 @@ mod words;
 
 pub use running::run_curve;
 pub use status::{CurveStatus, CurveWords};
-
-/// The program's name.
-pub const NAME: &str = "desk_curve";

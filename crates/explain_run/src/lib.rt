@@ -1,8 +1,8 @@
-//! What the program `desk_explain` does: from words, a market with its tables and a script of steps to the lines of the steps,
+//! What `doqs explain` does: from words, a market with its tables and a script of steps to the lines of the steps,
 //! done one after the other in one session, with what each gains, and a status, for every shelf of files, sink of bytes and
 //! bench of prices.
 //!
-//! `run_explain`, `NAME`.
+//! `run_explain`.
 #![tactic(auto)]
 
 mod gains;
@@ -11,6 +11,3 @@ mod running;
 mod steps;
 
 pub use running::run_explain;
-
-/// The program's name.
-pub const NAME: &str = "desk_explain";

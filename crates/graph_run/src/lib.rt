@@ -1,7 +1,7 @@
-//! What the program `desk_graph` does: from words, a market with its tables and a script to the graph of the session as it
+//! What `doqs graph` does: from words, a market with its tables and a script to the graph of the session as it
 //! stands behind the last command, and a status, for every shelf of files, sink of bytes and bench of prices.
 //!
-//! `run_graph`, `NAME`, `Status`.
+//! `run_graph`, `Status`.
 #![tactic(auto)]
 
 mod drawing;
@@ -12,6 +12,3 @@ mod words;
 
 pub use desk_plan::Status;
 pub use running::run_graph;
-
-/// The program's name.
-pub const NAME: &str = "desk_graph";

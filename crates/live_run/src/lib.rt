@@ -1,8 +1,8 @@
-//! What the program `desk_live` does: from words, a market with its tables, a script or none, and the lines of a feed to the
+//! What `doqs live` does: from words, a market with its tables, a script or none, and the lines of a feed to the
 //! transcript of the script and the answers to the lines, each before more is waited for, and a status, for every shelf of
 //! files, feed and sink of bytes and bench of prices.
 //!
-//! `run_live`, `NAME`, `Status`.
+//! `run_live`, `Status`.
 #![tactic(auto)]
 
 mod conversing;
@@ -16,6 +16,3 @@ mod words;
 
 pub use desk_plan::Status;
 pub use running::run_live;
-
-/// The program's name.
-pub const NAME: &str = "desk_live";

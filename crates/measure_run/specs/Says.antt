@@ -1,4 +1,4 @@
--- What `desk_measure` says of a bond beside its accrued interest, price and yield (this project's profile).
+-- What `doqs measure` says of a bond beside its accrued interest, price and yield (this project's profile).
 use Rattle.std.specs.Prelude.{List, ℕ, ◌++◌, codes}
 use Rattle.desk_terms.specs.Reading.{Calc}
 use Rattle.bond_tool.specs.Wording.{Bond, Wording}

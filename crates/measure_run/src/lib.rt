@@ -1,7 +1,7 @@
-//! What the program `desk_measure` says of a bond: behind the yield what a basis point does there, and its spread
+//! What `doqs measure` says of a bond: behind the yield what a basis point does there, and its spread
 //! over the curve of its engine.
 //!
-//! `run_measure`; `MeasureTool`, by which `run_bond` of bond_tool does it; `NAME`, `MeasureStatus`.
+//! `run_measure`; `MeasureTool`, by which `run_bond` of bond_tool does it; `MeasureStatus`.
 #![tactic(auto)]
 
 mod lines;
@@ -13,6 +13,3 @@ mod tool;
 pub use running::run_measure;
 pub use tool::MeasureTool;
 pub use tool_run::MarketStatus as MeasureStatus;
-
-/// The program's name.
-pub const NAME: &str = "desk_measure";

@@ -5,7 +5,7 @@ use bond_measure::{convexity, duration};
 use bond_tool::{Bond, BondTool, RATE_PLACES};
 use std::alloc::{AllocError, Global};
 
-/// The program `desk_measure`, which writes the measures of a bond behind the line of its yield, and its spread over the curve of its engine.
+/// What `doqs measure` says: it writes the measures of a bond behind the line of its yield, and its spread over the curve of its engine.
 pub struct MeasureTool;
 
 impl BondTool for MeasureTool {

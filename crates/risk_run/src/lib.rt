@@ -1,7 +1,7 @@
-//! What the program `desk_risk` does: from words and a market with its tables to the rows of deltas, gammas and thetas and a status,
+//! What `doqs risk` does: from words and a market with its tables to the rows of deltas, gammas and thetas and a status,
 //! for every shelf of files, sink of bytes and bench of prices.
 //!
-//! `run_risk`, `NAME`, `RiskStatus`.
+//! `run_risk`, `RiskStatus`.
 #![tactic(auto)]
 
 mod curves;
@@ -18,6 +18,3 @@ mod words;
 
 pub use running::run_risk;
 pub use tool_run::MarketStatus as RiskStatus;
-
-/// The program's name.
-pub const NAME: &str = "desk_risk";

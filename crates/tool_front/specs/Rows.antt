@@ -15,7 +15,7 @@ pub record AreRead : Type 0 where
   pub help_of_none : front_of (codes "help" ∷ codes "cure" ∷ []) ≡ Unknown (codes "cure")
   pub version : front_of (codes "--version" ∷ []) ≡ Version
   pub short_version : front_of (codes "-V" ∷ []) ≡ Version
-  pub unknown : front_of (codes "desk_why" ∷ codes "m" ∷ []) ≡ Unknown (codes "desk_why")
+  pub unknown : front_of (codes "whys" ∷ codes "m" ∷ []) ≡ Unknown (codes "whys")
   pub option : front_of (codes "--csv" ∷ []) ≡ Unknown (codes "--csv")
   pub wins : front_of (codes "risk" ∷ codes "m" ∷ codes "-h" ∷ codes "book" ∷ []) ≡ Help command.Risk
   pub a_file_named_help : front_of (codes "run" ∷ codes "m" ∷ codes "help" ∷ []) ≡ Run command.Run (codes "m" ∷ codes "help" ∷ [])

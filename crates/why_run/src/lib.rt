@@ -1,8 +1,8 @@
-//! What the program `desk_why` does: from words, a market with its tables and a script to the answer from what the price of
+//! What `doqs why` does: from words, a market with its tables and a script to the answer from what the price of
 //! an object was computed, over the session as it stands behind the last command, and a status, for every shelf of files,
 //! sink of bytes and bench of prices.
 //!
-//! `run_why`, `NAME`, `Status`.
+//! `run_why`, `Status`.
 #![tactic(auto)]
 
 mod answering;
@@ -13,6 +13,3 @@ mod words;
 
 pub use desk_plan::Status;
 pub use running::run_why;
-
-/// The program's name.
-pub const NAME: &str = "desk_why";

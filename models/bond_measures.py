@@ -1,10 +1,10 @@
 #!/usr/bin/env python3
-"""A plain model of the lines of desk_measure, written beside the definitions and not after the code.
+"""A plain model of the lines of `doqs measure`, written beside the definitions and not after the code.
 
     models/bond_measures.py MODEL < CASES
 
 MODEL is the folder of an independent model of markets and yields, a package of Python that this repository does not have. CASES are those of
-crates/script_vectors of desk_yield; writes them with the lines of desk_measure.
+crates/script_vectors of `doqs yield`; writes them with the lines of `doqs measure`.
 """
 
 import importlib
@@ -100,6 +100,13 @@ def decimal(units, places):
     return f"{sign}{abs(units) // 10**places}.{abs(units) % 10**places:0{places}d}"
 
 
+def refused(status, words):
+    """The lines on standard error of a status, with what helps, and its exit code."""
+    helps = {2: "usage: doqs measure MARKET NAME DAY PRICE\n"}
+    helps[3] = f"desk_fault {''.join(words[:1])} says in which line, and what would be taken\n"
+    return f"{status.line.replace('desk_yield', 'doqs measure')}\n{helps.get(status.code, '')}exit {status.code}\n"
+
+
 def shown(model, given):
     """What a terminal shows of a case: the words and the files, by the model, with the measures behind a yield."""
     words = given.split("\n")[1].split(" ")
@@ -115,12 +122,12 @@ def shown(model, given):
     try:
         model.tools.yield_tool(words, shelf, sink)
     except model.cli.Status as status:
-        return (status.line or "").replace("desk_yield", "desk_measure") + ("\n" if status.line else "")
+        return refused(status, words)
     text = bytes(sink.bytes).decode().replace("refused yield ", "refused measure ")
     found = re.search(r"^(\w+) yield (\d+)\.(\d{9})\n", text, re.M)
     if not found:
         return text
-    market = model.cli.load_market(model.outside.MemoryShelf(files, 4096), words[0], "desk_measure")
+    market = model.cli.load_market(model.outside.MemoryShelf(files, 4096), words[0], "doqs measure")
     bond = market.made[market.by_name[words[1].encode()]]
     settle = model.days.read_day(words[2].encode())
     full = int(re.search(r"^\w+ full (-?\d+\.\d{6})\n", text, re.M)[1].replace(".", ""))

@@ -1,5 +1,5 @@
 #!/usr/bin/env python3
-"""A plain model of the texts of desk_curve, written beside the definitions and not after the code.
+"""A plain model of the texts of `doqs curve`, written beside the definitions and not after the code.
 
     models/curve_pictures.py [--csv] [--zero | --forward | --par] DAY < TRANSCRIPT
 
@@ -219,7 +219,7 @@ def main():
     text, refused = ("", refused) if refused else shown(today, curves, helpers, plot, as_table)
     sys.stdout.write(text)
     if refused:
-        sys.stderr.write("".join(line + "\n" for line in [*refused, "desk_curve: refused"]))
+        sys.stderr.write("".join(line + "\n" for line in [*refused, "doqs curve: refused"]))
         sys.exit(10)
 
 

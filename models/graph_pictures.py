@@ -1,5 +1,5 @@
 #!/usr/bin/env python3
-"""A plain model of the text of desk_graph, written beside docs/GRAPH.md and not after the code.
+"""A plain model of the text of `doqs graph`, written beside its manual and not after the code.
 
     models/graph_pictures.py MODEL [FILE..]
     models/graph_pictures.py MODEL --random COUNT SEED
@@ -149,17 +149,24 @@ def fields(given):
     return words, files
 
 
+def refused(status, words):
+    """The lines on standard error of a status, with what helps, and its exit code."""
+    helps = {2: "usage: doqs graph MARKET SCRIPT\n"}
+    helps[3] = helps[4] = f"desk_fault {' '.join(words)} says in which line, and what would be taken\n"
+    return f"{status.line}\n{helps.get(status.code, '')}exit {status.code}\n"
+
+
 def shown(model, given):
     """What a terminal shows of a case."""
     words, files = fields(given)
     if len(words) != 2 or any(word in ("", "help") or word.startswith("-") for word in words):
-        return "desk_graph: usage\n"
+        return refused(model.cli.Status(2, "doqs graph: usage"), words)
     shelf = model.outside.MemoryShelf(files, 4096)
     try:
-        market = model.cli.load_market(shelf, words[0], "desk_graph")
-        script = model.cli.load_script(shelf, words[1], "desk_graph", market)
+        market = model.cli.load_market(shelf, words[0], "doqs graph")
+        script = model.cli.load_script(shelf, words[1], "doqs graph", market)
     except model.cli.Status as status:
-        return status.line + "\n"
+        return refused(status, words)
     state = model.session.start(market, script, "first")
     for command in script.commands:
         state.round(command)

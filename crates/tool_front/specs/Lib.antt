@@ -1,7 +1,9 @@
+pub mod Command
 pub mod Front
 pub mod Help
 pub mod Note
 pub mod Rows
 pub mod Run
+pub mod Session
 pub mod Status
 pub mod Table

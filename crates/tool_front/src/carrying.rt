@@ -1,4 +1,12 @@
 // From a command to its run.
+ghost use Rattle.std.specs.Prelude.{map};
+ghost use Rattle.std.specs.String.{string_bytes};
+ghost use Rattle.tool_run.specs.Tool.{shelf_turn, sink_turn, bench_turn};
+ghost use Rattle.desk_plan.specs.declared.status.Status.{Status};
+ghost use Rattle.desk_plan.specs.Status.{code_of, said_of};
+ghost use Rattle.tool_front.specs.Command.{Ends, IsCommand};
+ghost use Rattle.tool_front.specs.Session.{IsDesk};
+
 use crate::noting::ended;
 use crate::{Command, FrontStatus};
 use bump_run::run_bump;
@@ -27,12 +35,19 @@ pub(crate) fn carry_out<H: Shelf, F: Feed, K: Sink, N: Sink, B: Bench>(
     out: &mut K,
     notes: &mut N,
     bench: &mut B,
-) -> FrontStatus {
+) -> FrontStatus
+    ensures { IsCommand (map string_bytes whole.now) result (record {
+      shelf = shelf_turn H.contents H.faults H.misses H.calls shelf.old shelf.new;
+      input = F.content feed.old;
+      sink = sink_turn K.bytes K.faults out.old out.new;
+      notes = sink_turn N.bytes N.faults notes.old notes.new;
+      bench = bench_turn B.calc B.count B.log bench.old bench.new;
+    }) (map string_bytes words.now) command }
+{
     match command {
-        Command::Run | Command::Check | Command::Load => {
-            let status = run(alloc, whole, shelf, out, bench);
-            ended(alloc, command, words, status, notes)
-        }
+        Command::Run => desk(alloc, command, words, whole, shelf, out, notes, bench),
+        Command::Check => desk(alloc, command, words, whole, shelf, out, notes, bench),
+        Command::Load => desk(alloc, command, words, whole, shelf, out, notes, bench),
         Command::Live => {
             let status = run_live(alloc, words, shelf, feed, out, bench);
             ended(alloc, command, words, status, notes)
@@ -74,4 +89,24 @@ pub(crate) fn carry_out<H: Shelf, F: Feed, K: Sink, N: Sink, B: Bench>(
             ended(alloc, command, words, status, notes)
         }
     }
+}
+
+// Does a command of `desk`, which takes it as its first word.
+fn desk<H: Shelf, K: Sink, N: Sink, B: Bench>(
+    alloc: Global,
+    command: Command,
+    words: &[String],
+    whole: &[String],
+    shelf: &mut H,
+    out: &mut K,
+    notes: &mut N,
+    bench: &mut B,
+) -> FrontStatus
+    ensures { (status : Status)
+        × IsDesk (map string_bytes whole.now) status (shelf_turn H.contents H.faults H.misses H.calls shelf.old shelf.new)
+        (sink_turn K.bytes K.faults out.old out.new) (bench_turn B.calc B.count B.log bench.old bench.new)
+        × Ends command (map string_bytes words.now) (code_of status) (said_of status) result (sink_turn N.bytes N.faults notes.old notes.new) }
+{
+    let status = run(alloc, whole, shelf, out, bench);
+    ended(alloc, command, words, status, notes)
 }

@@ -1,6 +1,8 @@
 // The lines on standard error of a command that is not done.
-ghost use Rattle.std.specs.Prelude.{◌≡◌, ◌⊎◌, ◌++◌, map, Some, IfOk, OnOk};
+ghost use Rattle.std.specs.Prelude.{◌≡◌, ◌++◌, map, Some, IfOk, OnOk};
 ghost use Rattle.std.specs.String.{string_bytes};
+ghost use Rattle.tool_run.specs.Tool.{sink_turn};
+ghost use Rattle.tool_front.specs.Command.{Ends};
 ghost use Rattle.tool_front.specs.Note.{Notes, advice, fault_line, fault_tail, note_text, said_line};
 ghost use Rattle.tool_front.specs.Table.{row_in};
 
@@ -19,10 +21,8 @@ pub(crate) fn ended<S: Ending, N: Sink>(
     status: S,
     notes: &mut N,
 ) -> FrontStatus
-    ensures code { (result ≡ FrontStatus.NoMemory) ⊎ (result ≡ FrontStatus.Ended (S.code status)) }
-    ensures noted { result ≡ FrontStatus.Ended (S.code status) → Notes (note_text command (map string_bytes words.now) (S.code status) (S.line status))
-        (N.bytes notes.old) (N.bytes notes.new) (N.faults notes.old) (N.faults notes.new) }
-    ensures silent { result ≡ FrontStatus.NoMemory → notes.new ≡ notes.old }
+    ensures { Ends command (map string_bytes words.now) (S.code status) (S.line status) result
+        (sink_turn N.bytes N.faults notes.old notes.new) }
 {
     match note_of(alloc, command, words, status) {
         Ok(lines) => {

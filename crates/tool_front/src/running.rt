@@ -1,6 +1,8 @@
 // The call of the program.
 ghost use Rattle.std.specs.Prelude.{◌≡◌, ℕ, List, map, IfOk, IfSome};
 ghost use Rattle.std.specs.String.{string_bytes};
+ghost use Rattle.tool_run.specs.Tool.{shelf_turn, sink_turn, bench_turn};
+ghost use Rattle.tool_front.specs.Command.{Commands};
 ghost use Rattle.tool_front.specs.Front.{front_of};
 ghost use Rattle.tool_front.specs.Help.{help_text, list_text, unknown_text, version_text};
 ghost use Rattle.tool_front.specs.Run.{Shown, Refused, refused_text, shown_text};
@@ -37,6 +39,14 @@ pub fn run_doqs<H: Shelf, F: Feed, K: Sink, N: Sink, B: Bench>(
     ensures refused { IfSome (refused_text (front_of (map string_bytes words.now))) (λ text.
         Refused text (N.bytes notes.old) (N.bytes notes.new) (N.faults notes.old) (N.faults notes.new) result
         × (out.new ≡ out.old) × (shelf.new ≡ shelf.old) × (feed.new ≡ feed.old) × (bench.new ≡ bench.old)) }
+    // A command does what its run does on the words after it, and its lines are noted.
+    ensures commanded { Commands (map string_bytes words.now) result (record {
+      shelf = shelf_turn H.contents H.faults H.misses H.calls shelf.old shelf.new;
+      input = F.content feed.old;
+      sink = sink_turn K.bytes K.faults out.old out.new;
+      notes = sink_turn N.bytes N.faults notes.old notes.new;
+      bench = bench_turn B.calc B.count B.log bench.old bench.new;
+    }) (front_of (map string_bytes words.now)) }
 {
     match front_of(words) {
         Front::Run(command, rest) => carry_out(

@@ -1,0 +1,92 @@
+-- WHAT A COMMAND DOES: what its run does on the words after it, and its lines on standard error (this project's profile).
+use Rattle.std.specs.Prelude.{◌≡◌, ◌⊎◌, ℕ, List, Option}
+use Rattle.desk_plan.specs.declared.status.Status.{Status}
+use Rattle.desk_plan.specs.Status as script
+use Rattle.script_steps.specs.declared.status.BlocksStatus.{BlocksStatus}
+use Rattle.script_steps.specs.Status as blocks
+use Rattle.curve_run.specs.declared.status.CurveStatus.{CurveStatus}
+use Rattle.curve_run.specs.Status as curve
+use Rattle.tool_run.specs.declared.status.MarketStatus.{MarketStatus}
+use Rattle.tool_run.specs.Status as market
+use Rattle.tool_run.specs.Tool.{Tool, ShelfTurn, SinkTurn, BenchTurn, IsRun}
+use Rattle.bump_run.specs.Verdict.{bump_tool}
+use Rattle.explain_run.specs.Verdict.{explain_tool}
+use Rattle.graph_run.specs.Verdict.{graph_tool}
+use Rattle.grid_run.specs.Verdict.{grid_tool}
+use Rattle.measure_run.specs.Verdict.{measure_tool}
+use Rattle.risk_run.specs.Verdict.{risk_tool}
+use Rattle.why_run.specs.Verdict.{why_tool}
+use Rattle.yield_run.specs.Verdict.{yield_tool}
+use Rattle.tool_front.specs.declared.command.Command.{Command}
+use Rattle.tool_front.specs.declared.command.Command.TheVariants as command
+use Rattle.tool_front.specs.declared.status.FrontStatus.{FrontStatus}
+use Rattle.tool_front.specs.declared.status.FrontStatus.TheVariants.{Ended, NoMemory}
+use Rattle.tool_front.specs.Front.{Front, Listing, Version, Help, Nothing, Unknown, Run}
+use Rattle.tool_front.specs.Note.{Notes, note_text}
+use Rattle.tool_front.specs.Session.{IsDesk, IsLive, IsCurve}
+
+-- what is around a command: files, the input, standard output, standard error, and a bench
+pub record Around (K N B : Type 0) : Type 0 where
+  pub shelf : ShelfTurn
+  pub input : Option (List ℕ)
+  pub sink : SinkTurn K
+  pub notes : SinkTurn N
+  pub bench : BenchTurn B
+
+-- THE PROGRAM ENDS with the exit status of a run, whose lines it noted; or memory ran out for these lines, and none was noted
+abbrev pub Ends : {N : Type 0} → Command → List (List ℕ) → ℕ → Option (List ℕ) → FrontStatus → SinkTurn N → Type 0
+Ends c words code said result notes =
+    ((result ≡ Ended code) × Notes (note_text c words code said) (notes.bytes notes.old) (notes.bytes notes.new) (notes.faults notes.old) (notes.faults notes.new))
+    ⊎ ((result ≡ NoMemory) × (notes.new ≡ notes.old))
+
+module _ {K N B : Type 0} (whole : List (List ℕ)) (result : FrontStatus) (a : Around K N B) (words : List (List ℕ)) where
+  -- a run, a check or a load: it takes the command as its first word
+  abbrev pub EndsDesk : Command → Type 0
+  EndsDesk c = (status : Status) × IsDesk whole status a.shelf a.sink a.bench
+      × Ends c words (script.code_of status) (script.said_of status) result a.notes
+
+  abbrev pub EndsLive : Type 0
+  EndsLive = (status : Status) × IsLive words a.input status a.shelf a.sink a.bench
+      × Ends command.Live words (script.code_of status) (script.said_of status) result a.notes
+
+  -- the lines of the curves that are refused are noted before its own
+  abbrev pub EndsCurve : Type 0
+  EndsCurve = (status : CurveStatus) × (between : N) × IsCurve words status a.shelf a.sink (record a.notes { new = between }) a.bench
+      × Ends command.Curve words (curve.code_of status) (curve.said_of status) result (record a.notes { old = between })
+
+  abbrev pub EndsScript : {Request Wanted : Type 0} → Command → Tool Request Wanted Status → Type 0
+  EndsScript c tool = (status : Status) × IsRun tool words status a.shelf a.sink a.bench
+      × Ends c words (script.code_of status) (script.said_of status) result a.notes
+
+  abbrev pub EndsBlocks : {Request Wanted : Type 0} → Command → Tool Request Wanted BlocksStatus → Type 0
+  EndsBlocks c tool = (status : BlocksStatus) × IsRun tool words status a.shelf a.sink a.bench
+      × Ends c words (blocks.code_of status) (blocks.said_of status) result a.notes
+
+  abbrev pub EndsMarket : {Request Wanted : Type 0} → Command → Tool Request Wanted MarketStatus → Type 0
+  EndsMarket c tool = (status : MarketStatus) × IsRun tool words status a.shelf a.sink a.bench
+      × Ends c words (market.code_of status) (market.said_of status) result a.notes
+
+  -- FROM A COMMAND TO ITS RUN
+  abbrev pub IsCommand : Command → Type 0
+  IsCommand command.Run = EndsDesk command.Run
+  IsCommand command.Check = EndsDesk command.Check
+  IsCommand command.Load = EndsDesk command.Load
+  IsCommand command.Live = EndsLive
+  IsCommand command.Why = EndsScript command.Why why_tool
+  IsCommand command.Explain = EndsBlocks command.Explain explain_tool
+  IsCommand command.Grid = EndsBlocks command.Grid grid_tool
+  IsCommand command.Bump = EndsMarket command.Bump bump_tool
+  IsCommand command.Risk = EndsMarket command.Risk risk_tool
+  IsCommand command.Curve = EndsCurve
+  IsCommand command.Graph = EndsScript command.Graph graph_tool
+  IsCommand command.Yield = EndsMarket command.Yield yield_tool
+  IsCommand command.Measure = EndsMarket command.Measure measure_tool
+
+-- a command that words ask for; of other words nothing is said here
+abbrev pub Commands : {K N B : Type 0} → List (List ℕ) → FrontStatus → Around K N B → Front → Type 0
+Commands whole result a (Run c words) = IsCommand whole result a words c
+Commands whole result a Listing = Unit {0}
+Commands whole result a Version = Unit {0}
+Commands whole result a (Help c) = Unit {0}
+Commands whole result a Nothing = Unit {0}
+Commands whole result a (Unknown word) = Unit {0}

@@ -5,11 +5,11 @@
     benchmarks/lab/trace.py MARKET SCRIPT       the last command of a small script
     benchmarks/lab/trace.py --calls [..]        also each call, as a tree
 
-It builds the lab without optimization (rust/trace/debug/desk_lab; half a minute at first) and runs it in gdb, some five seconds a
+It builds the lab without optimization (rust/trace/debug/desk; half a minute at first) and runs it in gdb, some five seconds a
 script. It needs python3, cargo, nm and gdb, and nothing from a network.
 
-A breakpoint stands on the first instruction of each function of the repository's crates. What is traced is the command's `step`. Std,
-the kit's crates and the lab's own program are left out, and so is what a derive writes. A closure belongs to the function that it stands in.
+A breakpoint stands on the first instruction of each function of the repository's crates. What is traced is the command's `step`. Std
+and the kit's crates are left out, and so is what a derive writes. A closure belongs to the function that it stands in.
 
 A move is a call or a return that leads from one function to another, what lies between in std left out. It changes file where these
 stand in different ones, and comes back where the file that it enters was entered before: `back` counts that. `again` counts it over the
@@ -160,9 +160,10 @@ def main():
     words = [word for word in sys.argv[1:] if word != "--calls"]
     if len(words) not in (0, 2):
         sys.exit(__doc__)
-    subprocess.run([sys.executable, f"{lab}/convert.py"], check=True)
+    top = os.path.dirname(os.path.dirname(lab))
+    subprocess.run([sys.executable, f"{top}/tools/unverified_parts/convert.py", top, f"{lab}/rust"], check=True)
     # No pass of the compiler's back end runs, so that what is marked `inline(always)` is a call as any other.
-    built = subprocess.run(["cargo", "build", "--offline", "-q"], cwd=f"{lab}/rust", capture_output=True, text=True, env={
+    built = subprocess.run(["cargo", "build", "--offline", "-q", "-pdesk"], cwd=f"{lab}/rust", capture_output=True, text=True, env={
         **os.environ, "RUSTFLAGS": "-Cno-prepopulate-passes -Awarnings", "CARGO_TARGET_DIR": "trace"})
     if built.returncode:
         sys.exit(built.stderr)
@@ -170,8 +171,8 @@ def main():
         def trace(title, market, script):
             out = f"{work}/trace"
             ran = subprocess.run(
-                ["gdb", "-nx", "-q", "-batch", "-x", os.path.abspath(__file__), "--args", f"{lab}/rust/trace/debug/desk_lab", "run", market, script],
-                capture_output=True, text=True, env={**os.environ, "TRACE_LAB": lab, "TRACE_TOP": os.path.dirname(os.path.dirname(lab)), "TRACE_OUT": out})
+                ["gdb", "-nx", "-q", "-batch", "-x", os.path.abspath(__file__), "--args", f"{lab}/rust/trace/debug/desk", "run", market, script],
+                capture_output=True, text=True, env={**os.environ, "TRACE_LAB": lab, "TRACE_TOP": top, "TRACE_OUT": out})
             if not os.path.exists(out):
                 sys.exit(ran.stdout + ran.stderr)
             calls = [line.split() for line in open(out)]

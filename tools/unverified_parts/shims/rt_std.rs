@@ -3,7 +3,7 @@
 pub use ::std::{any, array, borrow, char, clone, cmp, convert, default, error, fmt, hash, iter, marker, mem, num, ops, option, primitive, result, slice, str};
 pub use ::std::boxed;
 pub use ::std::{matches, debug_assert, assert, panic, write, concat, println, eprintln};
-pub use ::std::{env, fs, io, process, time};
+pub use ::std::time;
 
 pub mod alloc {
     #[derive(Clone, Copy, Debug, PartialEq, Eq)]
@@ -21,7 +21,7 @@ pub mod alloc {
 }
 use alloc::{AllocError, AllocFailed, Global};
 
-/// A vector; its indexing is not checked.
+/// A vector, whose indices are proved to be in range: with `--cfg plain` they are not checked again.
 #[derive(Debug, PartialEq, Eq, PartialOrd, Ord, Hash)]
 #[repr(transparent)]
 pub struct Vec<T>(pub ::std::vec::Vec<T>);
@@ -35,6 +35,8 @@ impl<T> Vec<T> {
     pub fn push(&mut self, x: T) -> Result<(), AllocFailed<T>> { self.0.push(x); Ok(()) }
     #[inline(always)]
     pub fn push_reserved(&mut self, x: T) {
+        #[cfg(not(plain))]
+        assert!(self.0.len() < self.0.capacity());
         unsafe {
             let n = self.0.len();
             self.0.as_mut_ptr().add(n).write(x);
@@ -60,7 +62,12 @@ impl<T> Vec<T> {
     #[inline(always)]
     pub fn pop(&mut self) -> Option<T> { self.0.pop() }
     #[inline(always)]
-    pub fn take_last(&mut self) -> T { unsafe { self.0.pop().unwrap_unchecked() } }
+    pub fn take_last(&mut self) -> T {
+        #[cfg(not(plain))]
+        return self.0.pop().unwrap();
+        #[cfg(plain)]
+        unsafe { self.0.pop().unwrap_unchecked() }
+    }
     #[inline(always)]
     pub fn swap_remove(&mut self, i: usize) -> T { self.0.swap_remove(i) }
     #[inline(always)]
@@ -99,18 +106,18 @@ impl<T> ops::Index<usize> for Vec<T> {
     type Output = T;
     #[inline(always)]
     fn index(&self, i: usize) -> &T {
-        #[cfg(checked)]
+        #[cfg(not(plain))]
         return &self.0[i];
-        #[cfg(not(checked))]
+        #[cfg(plain)]
         unsafe { self.0.get_unchecked(i) }
     }
 }
 impl<T> ops::IndexMut<usize> for Vec<T> {
     #[inline(always)]
     fn index_mut(&mut self, i: usize) -> &mut T {
-        #[cfg(checked)]
+        #[cfg(not(plain))]
         return &mut self.0[i];
-        #[cfg(not(checked))]
+        #[cfg(plain)]
         unsafe { self.0.get_unchecked_mut(i) }
     }
 }
@@ -171,6 +178,12 @@ impl String {
     pub fn push_str(&mut self, text: &str) -> Result<(), AllocError> { self.0.push_str(text); Ok(()) }
     #[inline(always)]
     pub fn into_bytes(self) -> Vec<u8> { Vec(self.0.into_bytes()) }
+}
+impl PartialEq<str> for String {
+    fn eq(&self, other: &str) -> bool { self.0 == other }
+}
+impl PartialEq<&str> for String {
+    fn eq(&self, other: &&str) -> bool { self.0 == *other }
 }
 impl ops::Deref for String {
     type Target = str;
@@ -271,16 +284,123 @@ macro_rules! unreachable {
 }
 #[inline(always)]
 pub fn not_reached() -> ! {
-    #[cfg(checked)]
+    #[cfg(not(plain))]
     ::std::process::abort();
-    #[cfg(not(checked))]
+    #[cfg(plain)]
     unsafe { ::core::hint::unreachable_unchecked() }
 }
 #[macro_export]
 macro_rules! prove { ($($rest:tt)*) => {}; }
 
+/// The system, as a program reaches it.
+#[derive(Debug)]
+pub struct HostRuntime;
+impl HostRuntime {
+    pub fn alloc(&self) -> Global { Global }
+    pub fn clone(&self) -> Result<HostRuntime, AllocError> { Ok(HostRuntime) }
+    pub fn stdin(&self) -> io::Descriptor { io::Descriptor(0) }
+    pub fn stdout(&self) -> io::Descriptor { io::Descriptor(1) }
+    pub fn stderr(&self) -> io::Descriptor { io::Descriptor(2) }
+}
+pub mod rt {
+    /// Files that can be opened.
+    pub trait Files {
+        type File: ::std::io::Read;
+        fn opened(&self, path: &str) -> ::std::io::Result<Self::File>;
+    }
+    impl Files for super::HostRuntime {
+        type File = ::std::fs::File;
+        fn opened(&self, path: &str) -> ::std::io::Result<Self::File> { ::std::fs::File::open(path) }
+    }
+}
+pub mod fs {
+    use super::rt::Files;
+    pub fn open<R: Files>(files: &R, path: &str) -> ::std::io::Result<R::File> { files.opened(path) }
+}
+pub mod env {
+    use super::alloc::{AllocError, Global};
+    use super::{HostRuntime, String, Vec};
+    /// The words of the command line.
+    pub struct Args(::std::vec::IntoIter<String>);
+    /// Fails where a word is no text.
+    pub fn args(_: &HostRuntime) -> ::std::io::Result<Args> {
+        let mut words = ::std::vec::Vec::new();
+        for word in ::std::env::args_os() {
+            match word.into_string() {
+                Ok(word) => words.push(String(word)),
+                Err(_) => return Err(::std::io::Error::from(::std::io::ErrorKind::InvalidData)),
+            }
+        }
+        Ok(Args(words.into_iter()))
+    }
+    impl Args {
+        pub fn next(&mut self) -> Option<String> { self.0.next() }
+        pub fn skip(mut self, count: usize) -> Args {
+            for _ in 0..count {
+                self.0.next();
+            }
+            self
+        }
+        pub fn collect<C: From<Vec<String>>>(self, _: Global) -> Result<C, AllocError> { Ok(C::from(Vec(self.0.collect()))) }
+    }
+}
+pub mod io {
+    pub use ::std::io::*;
+    use super::HostRuntime;
+    use ::std::fs::File;
+    use ::std::mem::ManuallyDrop;
+    use ::std::os::fd::FromRawFd;
+    /// Standard input, output or error: each call is one call of the system, with nothing kept back.
+    #[derive(Debug)]
+    pub struct Descriptor(pub(crate) i32);
+    impl Descriptor {
+        fn file(&self) -> ManuallyDrop<File> { ManuallyDrop::new(unsafe { File::from_raw_fd(self.0) }) }
+    }
+    impl Read for Descriptor {
+        fn read(&mut self, buf: &mut [u8]) -> Result<usize> {
+            loop {
+                match self.file().read(buf) {
+                    Err(error) if error.kind() == ErrorKind::Interrupted => {}
+                    other => return other,
+                }
+            }
+        }
+    }
+    impl Write for Descriptor {
+        fn write(&mut self, piece: &[u8]) -> Result<usize> {
+            loop {
+                match self.file().write(piece) {
+                    Err(error) if error.kind() == ErrorKind::Interrupted => {}
+                    other => return other,
+                }
+            }
+        }
+        fn flush(&mut self) -> Result<()> { Ok(()) }
+    }
+    pub fn writer(rt: &HostRuntime) -> Descriptor { rt.stdout() }
+    /// Who writes lines on standard error.
+    pub trait Eprint {
+        fn eprintln(&self, line: ::std::fmt::Arguments<'_>) -> Result<()>;
+    }
+    impl Eprint for HostRuntime {
+        fn eprintln(&self, line: ::std::fmt::Arguments<'_>) -> Result<()> { self.stderr().write_all(::std::format!("{line}\n").as_bytes()) }
+    }
+}
+pub mod process {
+    pub use ::std::process::ExitCode;
+    /// How a program ends.
+    pub trait Termination {
+        fn report<R: super::io::Eprint>(self, rt: &R) -> ExitCode;
+    }
+    impl Termination for ExitCode {
+        fn report<R: super::io::Eprint>(self, _: &R) -> ExitCode { self }
+    }
+}
+/// Runs what a program calls its `main`.
+pub fn start<T: process::Termination>(main: fn(HostRuntime) -> T) -> process::ExitCode { main(HostRuntime).report(&HostRuntime) }
+
 pub mod prelude {
     pub mod lab {
-        pub use crate::{Slices, Texts, String, Vec};
+        pub use crate::{HostRuntime, Slices, Texts, String, Vec};
     }
 }

@@ -1,16 +1,18 @@
 #!/usr/bin/env python3
-"""Makes a cargo workspace of plain Rust out of the repository's Rattle sources: the speed lab.
+"""Makes a cargo workspace of plain Rust out of the repository's Rattle sources.
 
-Usage: convert.py [REPOSITORY [WORKSPACE]]     (by default the repository that this file lies in, and rust beside this file)
+    convert.py REPOSITORY WORKSPACE [KEY=VALUE..]     # each KEY=VALUE is a line of the workspace's release profile
 
-Each library of crates.txt that the lab's program needs becomes a cargo crate of its own name, without its contracts; the
-shims of shims/ stand for Rattle's std and for the kit's crates. Files that did not change are left as they are, so that
-cargo builds only what did.
+Each program that is named in PROGRAMS, and each library of crates.txt that one of them needs, becomes a cargo crate of its own
+name, without its contracts; the files of shims/ stand for Rattle's std and for the kit's crates. Files that did not change are
+left as they are, so that cargo builds only what did.
 """
 import os, re, shutil, sys
 
 HERE = os.path.dirname(os.path.abspath(__file__))
-ROOTS = "session_rounds session_lang watch_rounds desk_bench load_maker desk_model session_commands script_words market_loader market_session scenario_grid desk_edge live_run".split()
+PROGRAMS = "doqs desk desk_bump desk_grid desk_yield".split()
+# The file in which the program says by what it was built.
+VERSION = "crates/tool_front/src/version.rt"
 SHIMS = ["rt_std", "slab", "itoa", "indexmap", "jiff", "jiff_core", "toml", "csv", "clap"]
 WORD = re.compile(r"[A-Za-z_][A-Za-z_0-9]*")
 
@@ -133,12 +135,12 @@ def unchecked(text):
 def convert(text, path):
     text = strip(text)
     text = re.sub(r"^(\s*)//[/!]", r"\1//", text, flags=re.M)
-    for name in ("Model", "Drop", "Termination"):
+    for name in ("Model", "Drop"):
         text = without_impls(text, name)
     text = re.sub(r"#\[derive\(([^)]*)\)\]", derived, text)
     text = re.sub(r"^\s*#\[error\([^\n]*\)\]\n", "", text, flags=re.M)
     text = re.sub(r"^use thiserror::Error;\n", "", text, flags=re.M)
-    text = re.sub(r"^use std::(marker::Model|io::Eprint|process::\{ExitCode, Termination\});\n", "", text, flags=re.M)
+    text = re.sub(r"^use std::marker::Model;\n", "", text, flags=re.M)
     text = re.sub(r"\s*\+\s*Drop\b", "", text)
     text = re.sub(r"(<|, )([A-Z]\w*): Drop\b", r"\1\2", text)
     text = re.sub(r"(\btype [A-Z]\w*): Drop;", r"\1;", text)
@@ -149,9 +151,15 @@ def convert(text, path):
     text = re.sub(r"\.to_vec\(", ".to_vec_in(", text)
     text = re.sub(r"\.as_str\(\)", ".as_text()", text)
     text = re.sub(r"#\[cfg\(test\)\]\s*\n\s*mod \w+;\n", "", text)
-    text = re.sub(r"^(pub )?(mod|use) (file_shelf|out_sink|process)\b[^;]*;\n", "", text, flags=re.M)
+    if path.endswith(VERSION):
+        text, count = re.subn(r'^(pub const BUILD: &str =) "[^"]*";', r'\1 "unverified build";', text, flags=re.M)
+        if count != 1:
+            sys.exit(f"convert.py: {path} has not one line of BUILD")
+    text, count = re.subn(r"^fn main\(", "fn main_of(", text, flags=re.M)
+    if count:
+        text += "\nfn main() -> std::process::ExitCode {\n    std::start(main_of)\n}\n"
     # Where a function has no body, its contract is a law.
-    head = "#![no_std]\n#![allow(dead_code, unused)]\n#[macro_use]\nextern crate rt_std as std;\n" if path.endswith("lib.rt") else ""
+    head = "#![no_std]\n#![allow(dead_code, unused)]\n#[macro_use]\nextern crate rt_std as std;\n" if path.endswith(("lib.rt", "main.rt")) else ""
     lines = text.split("\n")
     docs = 0
     while docs < len(lines) and not lines[docs].startswith("///") and (
@@ -173,53 +181,54 @@ def manifest(name, deps, extra=""):
     return "\n".join(lines) + "\n"
 
 
-def main():
-    top = os.path.abspath(sys.argv[1]) if len(sys.argv) > 1 else os.path.dirname(os.path.dirname(HERE))
-    out = os.path.abspath(sys.argv[2]) if len(sys.argv) > 2 else os.path.join(HERE, "rust")
-    deps = {}
+def libraries(top, programs):
+    """What crates.txt says that each crate depends on, of these programs and of all that they depend on."""
+    deps, needed = {}, {}
     for line in open(f"{top}/crates.txt"):
         line = line.split("#")[0].strip()
         if line:
             name, rest = line.split(":", 1)
             deps[name.split()[0]] = rest.split()
-    needed = []
-
-    def need(name):
+    names = list(programs)
+    while names:
+        name = names.pop()
         if name in deps and name not in needed:
-            needed.append(name)
-            for dep in deps[name]:
-                need(dep)
-    for root in ROOTS:
-        need(root)
-    for name in needed:
+            needed[name] = deps[name]
+            names += deps[name]
+    return needed
+
+
+def make(top, out, profile):
+    """Makes the workspace of the repository `top` in the folder `out`, and returns its programs."""
+    programs = [it for it in PROGRAMS if os.path.exists(f"{top}/crates/{it}/src/main.rt")]
+    needed = libraries(top, programs)
+    made = set()
+
+    def put(path, text):
+        made.add(os.path.normpath(f"{out}/{path}"))
+        write(f"{out}/{path}", text)
+    for name, deps in needed.items():
         source = f"{top}/crates/{name}/src"
         for folder, _, files in os.walk(source):
             for file in files:
-                # What reaches the system has no part in the lab.
-                if file.endswith(".rt") and "tests" not in file and file not in ("file_shelf.rt", "out_sink.rt", "process.rt"):
-                    path = os.path.join(folder, file)
-                    rel = os.path.relpath(path, source)[:-3] + ".rs"
-                    write(f"{out}/{name}/src/{rel}", convert(open(path).read(), path))
-        own = [d for d in deps[name] if d in needed or d in SHIMS]
-        write(f"{out}/{name}/Cargo.toml", manifest(name, ["rt_std", *own]))
+                path = os.path.join(folder, file)
+                if file.endswith(".rt") and "tests" not in os.path.relpath(path, source):
+                    put(f"{name}/src/{os.path.relpath(path, source)[:-3]}.rs", convert(open(path).read(), path))
+        put(f"{name}/Cargo.toml", manifest(name, ["rt_std", *(it for it in deps if it in needed or it in SHIMS)]))
     for shim in SHIMS:
-        write(f"{out}/{shim}/src/lib.rs", open(f"{HERE}/shims/{shim}.rs").read())
-        write(f"{out}/{shim}/Cargo.toml", manifest(shim, [] if shim == "rt_std" else ["rt_std", "jiff_core"] if shim == "jiff" else ["rt_std"]))
-    write(f"{out}/desk_lab/src/main.rs", open(f"{HERE}/shims/main.rs").read())
-    write(f"{out}/desk_lab/Cargo.toml", manifest("desk_lab", ["rt_std", *needed]))
-    members = ", ".join(f'"{n}"' for n in [*SHIMS, *needed, "desk_lab"])
-    write(f"{out}/Cargo.toml", f"""[workspace]
-resolver = "2"
-members = [{members}]
-
-[profile.release]
-opt-level = 3
-codegen-units = 1
-lto = "fat"
-debug = 1
-panic = "abort"
-overflow-checks = false
-""")
+        put(f"{shim}/src/lib.rs", open(f"{HERE}/shims/{shim}.rs").read())
+        put(f"{shim}/Cargo.toml", manifest(shim, {"rt_std": [], "jiff": ["rt_std", "jiff_core"]}.get(shim, ["rt_std"])))
+    members = ", ".join(f'"{name}"' for name in [*SHIMS, *needed])
+    put("Cargo.toml", f'[workspace]\nresolver = "2"\nmembers = [{members}]\n\n[profile.release]\n' + "".join(f"{it}\n" for it in profile))
+    for folder, _, files in os.walk(out):
+        for file in files:
+            path = os.path.join(folder, file)
+            if "/src" in folder and file.endswith(".rs") and os.path.normpath(path) not in made:
+                os.remove(path)
+    return programs
 
 
-main()
+if __name__ == "__main__":
+    if len(sys.argv) < 3:
+        sys.exit(__doc__)
+    make(sys.argv[1], sys.argv[2], sys.argv[3:])

@@ -1,7 +1,6 @@
-//! The kit's index set of byte vectors: the same groups, buckets and hash.
+//! The kit's index set: the same groups, buckets and hash for byte vectors. A map of few keys is a list of pairs.
 use rt_std::Vec;
 use rt_std::alloc::{AllocError, AllocFailed, Global};
-use std::arch::x86_64::*;
 
 const MULTIPLIER: u64 = 0x9e37_79b9_7f4a_7c15;
 #[inline(always)]
@@ -55,11 +54,18 @@ fn tag(hash: u32) -> u8 { ((hash >> 24) as u8).max(1) }
 impl Group {
     fn empty() -> Self { Group { tags: [0; 16], indices: [0; 12] } }
     #[inline(always)]
+    #[cfg(target_arch = "x86_64")]
     fn match_tag(&self, tag: u8) -> u32 {
+        use std::arch::x86_64::*;
         unsafe {
             let tags = _mm_loadu_si128(self.tags.as_ptr() as *const __m128i);
             (_mm_movemask_epi8(_mm_cmpeq_epi8(tags, _mm_set1_epi8(tag as i8))) & 0xFFF) as u32
         }
+    }
+    #[inline(always)]
+    #[cfg(not(target_arch = "x86_64"))]
+    fn match_tag(&self, tag: u8) -> u32 {
+        self.tags[..12].iter().enumerate().fold(0, |found, (lane, it)| found | ((*it == tag) as u32) << lane)
     }
     #[inline(always)]
     fn overflow(&self) -> u32 { u32::from_le_bytes([self.tags[12], self.tags[13], self.tags[14], self.tags[15]]) }
@@ -69,6 +75,34 @@ impl Group {
         let bits = (self.overflow() | 1 << (tag(hash) & 31)).to_le_bytes();
         self.tags[12..].copy_from_slice(&bits);
     }
+}
+/// What a set has as keys: byte vectors, found by their bytes, and numbers.
+pub trait Key: Sized + PartialEq {
+    type Seen: ?Sized;
+    fn seen(&self) -> &Self::Seen;
+    fn hash_of(seen: &Self::Seen) -> u32;
+    fn is(&self, seen: &Self::Seen) -> bool;
+    fn copied(&self) -> Result<Self, AllocError>;
+}
+impl Key for Vec<u8> {
+    type Seen = [u8];
+    #[inline(always)]
+    fn seen(&self) -> &[u8] { self.as_slice() }
+    #[inline(always)]
+    fn hash_of(seen: &[u8]) -> u32 { hash_of(seen) }
+    #[inline(always)]
+    fn is(&self, seen: &[u8]) -> bool { self.as_slice() == seen }
+    fn copied(&self) -> Result<Self, AllocError> { self.clone() }
+}
+impl Key for u32 {
+    type Seen = u32;
+    #[inline(always)]
+    fn seen(&self) -> &u32 { self }
+    #[inline(always)]
+    fn hash_of(seen: &u32) -> u32 { hash_of(&seen.to_le_bytes()) }
+    #[inline(always)]
+    fn is(&self, seen: &u32) -> bool { self == seen }
+    fn copied(&self) -> Result<Self, AllocError> { Ok(*self) }
 }
 pub struct IndexSet<T> { groups: Vec<Group>, buckets: Vec<Bucket>, growth_left: usize, keys: Vec<T>, units: Vec<()> }
 fn insert_bucket(groups: &mut [Group], count: usize, hash: u32) -> Bucket {
@@ -88,13 +122,13 @@ fn insert_bucket(groups: &mut [Group], count: usize, hash: u32) -> Bucket {
         pos = next;
     }
 }
-impl IndexSet<Vec<u8>> {
+impl<T: Key> IndexSet<T> {
     pub fn new(alloc: Global) -> Self { IndexSet { groups: Vec::new(alloc), buckets: Vec::new(alloc), growth_left: 0, keys: Vec::new(alloc), units: Vec::new(alloc) } }
     #[inline(always)]
     pub fn len(&self) -> usize { self.keys.len() }
     #[inline(always)]
-    pub fn as_slice(&self) -> &Keys<Vec<u8>> { unsafe { &*(self.keys.0.as_slice() as *const [Vec<u8>] as *const Keys<Vec<u8>>) } }
-    fn find_hash(&self, text: &[u8], hash: u32) -> Option<usize> {
+    pub fn as_slice(&self) -> &Keys<T> { unsafe { &*(self.keys.0.as_slice() as *const [T] as *const Keys<T>) } }
+    fn find_hash(&self, key: &T::Seen, hash: u32) -> Option<usize> {
         let count = self.groups.len();
         if count == 0 {
             return None;
@@ -108,7 +142,7 @@ impl IndexSet<Vec<u8>> {
             while matches != 0 {
                 let lane = matches.trailing_zeros() as usize;
                 let index = unsafe { *group.indices.get_unchecked(lane) } as usize;
-                if self.keys[index].as_slice() == text {
+                if self.keys[index].is(key) {
                     return Some(index);
                 }
                 matches &= matches - 1;
@@ -123,10 +157,10 @@ impl IndexSet<Vec<u8>> {
         }
     }
     #[inline]
-    pub fn get_index_of(&self, text: &[u8]) -> Option<usize> { self.find_hash(text, hash_of(text)) }
-    pub fn insert_full(&mut self, key: Vec<u8>) -> Result<(usize, bool), AllocFailed<Vec<u8>>> {
-        let hash = hash_of(&key);
-        if let Some(index) = self.find_hash(&key, hash) {
+    pub fn get_index_of(&self, key: &T::Seen) -> Option<usize> { self.find_hash(key, T::hash_of(key)) }
+    pub fn insert_full(&mut self, key: T) -> Result<(usize, bool), AllocFailed<T>> {
+        let hash = T::hash_of(key.seen());
+        if let Some(index) = self.find_hash(key.seen(), hash) {
             return Ok((index, false));
         }
         if self.growth_left == 0 {
@@ -141,11 +175,11 @@ impl IndexSet<Vec<u8>> {
     }
     // The keys are compared and hashed once more, as the kit does, which has no law that a clone is like its source.
     pub fn clone(&self) -> Result<Self, AllocError> {
-        let mut keys: Vec<Vec<u8>> = Vec::with_capacity(Global, 9 * self.groups.len())?;
+        let mut keys: Vec<T> = Vec::with_capacity(Global, 9 * self.groups.len())?;
         for key in self.keys.iter() {
-            keys.push_reserved(key.clone()?);
+            keys.push_reserved(key.copied()?);
         }
-        if keys != self.keys || (0..keys.len()).any(|at| hash_of(&keys[at]) != self.buckets[at].hash) {
+        if keys != self.keys || (0..keys.len()).any(|at| T::hash_of(keys[at].seen()) != self.buckets[at].hash) {
             return Err(AllocError);
         }
         let mut buckets = Vec::with_capacity(Global, 9 * self.groups.len())?;
@@ -171,13 +205,23 @@ impl IndexSet<Vec<u8>> {
         self.growth_left = 9 * count - len;
     }
 }
-/// A set's keys; indexing is not checked.
+/// A set's keys, whose indices are proved to be in range.
 #[repr(transparent)]
 pub struct Keys<T>([T]);
+impl<T> std::ops::Deref for Keys<T> {
+    type Target = [T];
+    #[inline(always)]
+    fn deref(&self) -> &[T] { &self.0 }
+}
 impl<T> std::ops::Index<usize> for Keys<T> {
     type Output = T;
     #[inline(always)]
-    fn index(&self, i: usize) -> &T { unsafe { self.0.get_unchecked(i) } }
+    fn index(&self, i: usize) -> &T {
+        #[cfg(not(plain))]
+        return &self.0[i];
+        #[cfg(plain)]
+        unsafe { self.0.get_unchecked(i) }
+    }
 }
 /// A map by few keys.
 pub struct IndexMap<K, V> { pairs: std::vec::Vec<(K, V)> }

@@ -23,7 +23,7 @@ head -n 4 "$work/script" > "$work/once"
 run() {
     local begun ended
     begun=$(date +%s%N)
-    "$desk" run examples/desk/market.toml "$work/$1" > "$work/out"
+    (cd examples/desk && "$desk" run market.toml "$work/$1") > "$work/out"
     ended=$(date +%s%N)
     echo "$(awk '{ n += $NF } END { print n }' "$work/out") $((ended - begun))"
 }

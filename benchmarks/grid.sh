@@ -55,9 +55,10 @@ count() {
     sed -n 's/.*Collected : \([0-9]*\).*/\1/p' "$work/log" | awk '{ printf "%.1f", $1 / 1e6 }'
 }
 
+cd examples/desk
 for market in desk large; do
     file=$work/large.toml
-    [ "$market" = large ] || file=examples/desk/market.toml
+    [ "$market" = large ] || file=market.toml
     counts=()
     for n in 25 50 100; do
         used=$( { /usr/bin/time -f '%U s, %M KB' "$grid" "$file" "$work/$market$n" > "$work/out"; } 2>&1)

@@ -52,12 +52,13 @@ count() {
 }
 seconds() { local begun; begun=$(date +%s%N); "$@"; echo "$(( ($(date +%s%N) - begun) / 1000000 ))"; }
 
-one() { "$DESK_GRID" examples/desk/market.toml "$work/script" > "$work/whole"; }
+cd examples/desk
+one() { "$DESK_GRID" market.toml "$work/script" > "$work/whole"; }
 echo "one run: $(seconds one) ms, $(wc -c < "$work/whole") bytes"
 priced "$work/whole"
 for blocks in 1 7 100; do
     for processes in 1 2 4; do
-        took=$(seconds "$over/grid.sh" examples/desk/market.toml "$work/script" "$blocks" "$work/joined" "$processes")
+        took=$(seconds "$over/grid.sh" market.toml "$work/script" "$blocks" "$work/joined" "$processes")
         cmp -s "$work/whole" "$work/joined" && same=same || same=OTHER
         echo "parts of $blocks, $processes at a time: $took ms, $same bytes"
     done
@@ -70,7 +71,7 @@ cat > "$work/cut_short" <<CUT
 [ "\${2##*/}" != 0003.txt ] || kill -9 \$\$
 CUT
 chmod +x "$work/cut_short"
-if DESK_GRID="$work/cut_short" "$over/grid.sh" examples/desk/market.toml "$work/script" 100 "$work/joined" 2 2> "$work/told"; then
+if DESK_GRID="$work/cut_short" "$over/grid.sh" market.toml "$work/script" 100 "$work/joined" 2 2> "$work/told"; then
     echo "a killed part: JOINED"
 else
     [ ! -e "$work/joined" ] && echo "a killed part: no joined file; $(grep -c 'was not done' "$work/told") named"

@@ -1,22 +1,18 @@
 #!/usr/bin/env bash
-# Runs each example that has a market by the built program, or by the one that is given, and compares it with transcript.txt;
-# then looks whether the gate's rows of the examples are these. It fails where something differs.
+# Runs each example that has a market, in its folder, and compares the output with transcript.txt; then compares the test cases of
+# crates/script_vectors/data/examples with the examples. It ends with 1 where something differs.
 #
-#   (cd crates/desk && rt run -- run data/market.toml data/script)     # proves and builds the program
-#   examples/compare.sh
+#   examples/compare.sh              # by the proved `desk` where it is built, else by the unverified build (tools/try)
+#   examples/compare.sh PROGRAM      # by this `desk` or `doqs`
 set -euo pipefail
 cd "$(dirname "$0")/.."
-desk=${1:-crates/desk/out/desk}
-if [ ! -x "$desk" ]; then
-    echo "compare.sh: $desk is not built: tools/install proves and builds it, and, without a proof," >&2
-    echo "compare.sh: examples/try.sh examples/* examples/stale/* compares what the examples write" >&2
-    exit 2
-fi
+program=$(realpath -m "${1:-$(tools/try --path desk)}")
+[ -x "$program" ] || { echo "compare.sh: $program is no program" >&2; exit 2; }
 agree=0 differ=0
 for script in examples/*/script.txt examples/stale/*/script.txt; do
     folder=${script%/script.txt}
     [ -e "$folder/market.toml" ] || continue
-    if "$desk" run "$folder/market.toml" "$script" | cmp -s - "$folder/transcript.txt"; then
+    if (cd "$folder" && "$program" run market.toml script.txt) | cmp -s - "$folder/transcript.txt"; then
         agree=$((agree + 1))
     else
         differ=$((differ + 1))

@@ -1,5 +1,5 @@
 #!/usr/bin/env bash
-# Prints the examples that have a market as rows of crates/script_vectors/data/examples, where the gate runs them too:
+# Prints the examples that have a market as test cases of crates/script_vectors/data/examples, which CI runs too:
 #
 #   examples/rows.sh > crates/script_vectors/data/examples
 set -euo pipefail
@@ -9,11 +9,11 @@ between=
 for script in examples/*/script.txt examples/stale/*/script.txt; do
     folder=${script%/script.txt}
     [ -e "$folder/market.toml" ] || continue
-    printf '%s# %s\nrun %s/market.toml %s\n' "$between" "$folder" "$folder" "$script"
-    for file in "$folder/market.toml" "$folder/fixings.csv" "$folder/quotes.csv" "$script"; do
-        if [ -e "$file" ]; then
+    printf '%s# %s\nrun market.toml script.txt\n' "$between" "$folder"
+    for file in market.toml fixings.csv quotes.csv script.txt; do
+        if [ -e "$folder/$file" ]; then
             printf -- '-- %s\n' "$file"
-            cat "$file"
+            cat "$folder/$file"
         fi
     done
     printf -- '-- shown\n'

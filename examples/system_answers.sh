@@ -1,16 +1,13 @@
 #!/usr/bin/env bash
-# Tries how the built program ends, or the one that is given: files that are not there or cannot be read, files that are too
+# Tries how the program `desk` ends: files that are not there or cannot be read, files that are too
 # long, outputs that take nothing, words that ask for nothing. Prints a line a case, with the exit status and what stands on
 # standard error, and fails where one is not as expected. It works in a folder of its own.
 #
-#   cd crates/desk && rt run -- run data/market.toml data/script     # builds the program
-#   examples/system_answers.sh
+#   examples/system_answers.sh              # by the proved `desk` where it is built, else by the unverified build (tools/try)
+#   examples/system_answers.sh PROGRAM
 set -euo pipefail
-desk=$(realpath -m "${1:-$(dirname "$0")/../crates/desk/out/desk}")
-if [ ! -x "$desk" ]; then
-    echo "system_answers.sh: $desk is not built: tools/install proves and builds it" >&2
-    exit 2
-fi
+desk=$(realpath -m "${1:-$("$(dirname "$0")/../tools/try" --path desk)}")
+[ -x "$desk" ] || { echo "system_answers.sh: $desk is no program" >&2; exit 2; }
 work=$(mktemp -d)
 trap 'rm -rf "$work"' EXIT
 cd "$work"

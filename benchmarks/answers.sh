@@ -1,13 +1,13 @@
 #!/usr/bin/env bash
-# What an answer costs: instructions, seconds and the peak memory of the built `desk_why` for books of 10, 100 and 1,000 bonds in a market of
+# What an answer costs: instructions, seconds and the peak memory of `doqs why` for books of 10, 100 and 1,000 bonds in a market of
 # 4,000 objects, beside an answer for a name that nothing has over the same market; and for chains of 500 and 1,000 composites, where
 # nothing is held back, and where a quote that they do not rest on is. It checks that the products of each book add up, and no figure.
 #
-#   (cd crates/desk_why && rt run)     # builds the program
+#   (cd crates/doqs && rt run)     # builds the program
 #   benchmarks/answers.sh
 set -euo pipefail
 cd "$(dirname "$0")/.."
-why=$(realpath "${1:-crates/desk_why/out/desk_why}")
+doqs=$(realpath "${1:-crates/doqs/out/doqs}")
 work=$(mktemp -d)
 trap 'rm -rf "$work"' EXIT
 python3 - "$work" <<'MAKE'
@@ -48,9 +48,9 @@ MAKE
 # What an answer over a market and a script takes.
 measure() {
     local used counted=-
-    used=$( { /usr/bin/time -f '%U s, %M KB' "$why" "$work/$1" "$work/$2" "$3" > "$work/$3"; } 2>&1)
+    used=$( { /usr/bin/time -f '%U s, %M KB' "$doqs" why "$work/$1" "$work/$2" "$3" > "$work/$3"; } 2>&1)
     if [ -z "${ANSWERS_UNCOUNTED:-}" ]; then
-        valgrind --tool=callgrind --callgrind-out-file="$work/calls" "$why" "$work/$1" "$work/$2" "$3" 2> "$work/log" > "$work/out"
+        valgrind --tool=callgrind --callgrind-out-file="$work/calls" "$doqs" why "$work/$1" "$work/$2" "$3" 2> "$work/log" > "$work/out"
         counted=$(sed -n 's/.*Collected : \([0-9]*\).*/\1/p' "$work/log" | awk '{ printf "%.1f", $1 / 1e6 }')
     fi
     echo "$2, $3: $counted million instructions, $used, $(wc -l < "$work/$3") lines, $(wc -c < "$work/$3") bytes"

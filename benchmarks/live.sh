@@ -1,10 +1,10 @@
 #!/usr/bin/env bash
-# desk_live on a real pipe, by the built programs or by those named in DESK_LIVE and DESK:
+# `doqs live` on a real pipe, by the built program or by the one named in DOQS:
 #
-#   cd crates/desk && rt run -- run data/market.toml data/script; cd ../desk_live && rt run     # builds the programs
-#   benchmarks/live.sh [PAIRS]                                                                  # a million, or so many
+#   (cd crates/doqs && rt run)     # builds the program
+#   benchmarks/live.sh [PAIRS]     # a million, or so many
 #
-# It counts what a pair of `set` and `ask` takes beside `desk run` on the same lines, in instructions (callgrind), and what it has of
+# It counts what a pair of `set` and `ask` takes beside `doqs run` on the same lines, in instructions (callgrind), and what it has of
 # memory over so many pairs; times a line up to its `ready`, from a client in C, beside an echo in C; and sees how a session goes where lines
 # come byte by byte, where the reader stops for a while or goes away, where a writer is killed in the middle of a line, where standard output
 # is full or standard input is no file that can be read, and where each allocation in turn is refused. Fails where a bound or an ending is
@@ -12,9 +12,7 @@
 # It needs cc, valgrind and Python 3.8 or later.
 set -euo pipefail
 top=$(realpath "$(dirname "$0")/..")
-DESK_LIVE=$(realpath "${DESK_LIVE:-$top/crates/desk_live/out/desk_live}")
-DESK=$(realpath "${DESK:-$top/crates/desk/out/desk}")
-export DESK_LIVE DESK
+export DOQS=$(realpath "${DOQS:-$top/crates/doqs/out/doqs}")
 work=$(mktemp -d)
 trap 'rm -rf "$work"' EXIT
 cd "$work"
@@ -97,7 +95,8 @@ import time
 from subprocess import PIPE
 
 PAIRS = int(sys.argv[1])
-LIVE, DESK = os.environ["DESK_LIVE"], os.environ["DESK"]
+DOQS = os.environ["DOQS"]
+LIVE = [DOQS, "live", "market"]
 BEGUN = b"quote q 1\nstock s q\n"
 open("market", "w").write('version = 1\ntoday = "2024-01-02"\n')
 missed = []
@@ -124,11 +123,11 @@ def instructions(words, text):
 def script(count):
     with open("script", "wb") as file:
         file.write(pairs(count))
-    return [DESK, "run", "market", "script"]
+    return [DOQS, "run", "market", "script"]
 
 
 def opened(*words, **how):
-    return subprocess.Popen([LIVE, "market", *words], **{"stdin": PIPE, "stdout": PIPE, "stderr": PIPE, "bufsize": 0, **how})
+    return subprocess.Popen([*LIVE, *words], **{"stdin": PIPE, "stdout": PIPE, "stderr": PIPE, "bufsize": 0, **how})
 
 
 def given(child, text):
@@ -178,12 +177,12 @@ def is_within(many, few):
 
 # What a pair takes.
 most = min(PAIRS, 50_000)  # a script has 8 MiB at most, and callgrind takes its time
-live = (instructions([LIVE, "market"], pairs(most)) - instructions([LIVE, "market"], BEGUN)) / most
+live = (instructions(LIVE, pairs(most)) - instructions(LIVE, BEGUN)) / most
 desk = (instructions(script(most), b"") - instructions(script(0), b"")) / most
-check(f"a pair takes {live:.0f} instructions, and {desk:.0f} in `desk run`: {live / desk:.3f} times as many, at most 1.15", live <= 1.15 * desk)
-check(f"the same bytes as `desk run` for {most} pairs", piped([LIVE, "market"], pairs(most)).stdout == piped(script(most), b"").stdout)
+check(f"a pair takes {live:.0f} instructions, and {desk:.0f} in `doqs run`: {live / desk:.3f} times as many, at most 1.15", live <= 1.15 * desk)
+check(f"the same bytes as `doqs run` for {most} pairs", piped(LIVE, pairs(most)).stdout == piped(script(most), b"").stdout)
 begun = time.perf_counter()
-whole = piped([LIVE, "market"], pairs(PAIRS))
+whole = piped(LIVE, pairs(PAIRS))
 took = time.perf_counter() - begun
 check(f"{PAIRS} pairs through a pipe took {took:.2f} s, and wrote {PAIRS} lines", whole.returncode == 0 and whole.stdout.count(b"\n") == PAIRS)
 few, many = held_over(1000), held_over(PAIRS)
@@ -194,13 +193,13 @@ check(f"over {PAIRS} pairs it has {many[0]} KiB of addresses at most, and {many[
 lines = [b"set q %d\n" % k if k % 2 else b"ask s\n" for k in range(40_000)]
 with open("lines", "wb") as file:
     file.write(BEGUN + b"".join(lines))
-answered = subprocess.run(["./client", "lines", "ready ", LIVE, "market", "--ready"], stdout=PIPE, check=True).stdout.split()
+answered = subprocess.run(["./client", "lines", "ready ", *LIVE, "--ready"], stdout=PIPE, check=True).stdout.split()
 echoed = subprocess.run(["./client", "lines", "", "./echo"], stdout=PIPE, check=True).stdout.split()
 print("a line is answered in %s us (p50), %s us (p99); an echo in C takes %s us, %s us" % tuple(it.decode() for it in (*answered[:2], *echoed[:2])))
 
 # How it goes.
 some = pairs(300)
-want = piped([LIVE, "market", "--ready"], some).stdout
+want = piped([*LIVE, "--ready"], some).stdout
 child = opened("--ready")
 for byte in some[:-1]:
     os.write(child.stdin.fileno(), bytes([byte]))
@@ -245,7 +244,7 @@ except BrokenPipeError:
     pass
 said, ended = child.stderr.read(), child.wait()
 how = f"status {ended}" if ended >= 0 else f"the signal {-ended}"
-check(f"the reader goes away: {how}, and the line {said!r}", (ended, said) in ((6, b"desk_live: write fault\n"), (-signal.SIGPIPE, b"")))
+check(f"the reader goes away: {how}, and the line {said!r}", (ended, said) in ((6, b"doqs live: write fault\n"), (-signal.SIGPIPE, b"")))
 
 child = opened("--ready")
 writer = subprocess.Popen(["sh", "-c", "printf 'quote q 1\\nstock s q\\nask s\\nask'; sleep 60"], stdout=child.stdin)
@@ -257,15 +256,15 @@ check("a writer is killed in the middle of a line: the part is the last line", g
 writer.wait()
 
 with open("/dev/full", "wb") as full:
-    done = subprocess.run([LIVE, "market"], input=pairs(10), stdout=full, stderr=PIPE)
-check("standard output is full: status 6", (done.returncode, done.stderr) == (6, b"desk_live: write fault\n"))
+    done = subprocess.run(LIVE, input=pairs(10), stdout=full, stderr=PIPE)
+check("standard output is full: status 6", (done.returncode, done.stderr) == (6, b"doqs live: write fault\n"))
 with open("/dev/null", "wb") as none:  # (open for writing alone)
-    done = subprocess.run([LIVE, "market"], stdin=none, stdout=PIPE, stderr=PIPE)
-check("standard input cannot be read: status 5", (done.returncode, done.stderr) == (5, b"desk_live: read fault\n"))
+    done = subprocess.run(LIVE, stdin=none, stdout=PIPE, stderr=PIPE)
+check("standard input cannot be read: status 5", (done.returncode, done.stderr) == (5, b"doqs live: read fault\n"))
 
 short = BEGUN + b"action a\nask s\nend\nwatch w a\nregister w s\nset q 2\nask s\nsell\n" + b"x" * 65_540 + b"\naction b\nask s"
 open("script", "wb").write(b"quote r 1\nstock t r\nask t\n")
-words = [LIVE, "market", "script", "--ready"]
+words = [*LIVE, "script", "--ready"]
 want = piped(words, short).stdout
 env = dict(os.environ, LD_PRELOAD=os.path.abspath("refuse.so"), COUNT=os.path.abspath("count"))
 whole = piped(words, short, env=env)
@@ -274,7 +273,7 @@ ends = [piped(words, short, env=dict(env, NTH=str(nth))) for nth in range(1, cou
 sevens = sum(it.returncode == 7 for it in ends)
 check(f"each of {count} allocations is refused in turn: {sevens} runs ended with status 7 and a front of the answers, the others whole",
       whole.stdout == want and sevens > count // 2 and all(
-          (it.returncode == 7 and want.startswith(it.stdout) and it.stderr == b"desk_live: no memory\n")
+          (it.returncode == 7 and want.startswith(it.stdout) and it.stderr in (b"doqs live: no memory\n", b"doqs: no memory\n"))
           or (it.returncode == 0 and it.stdout == want) for it in ends))
 sys.exit(1 if missed else 0)
 RUN

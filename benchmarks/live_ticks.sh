@@ -1,12 +1,12 @@
 #!/usr/bin/env bash
-# Says ticks and asks to the built program desk_live, or to the one that is given: 10,000 lines and then
+# Sends ticks and asks to `doqs live`, by the built program or by the one that is given: 10,000 lines and then
 # 1,000,000, and compares the most bytes of heap that each of the two runs held. Fails where the second held more.
 #
-#   (cd crates/desk_live && rt run)     # proves and builds the program
+#   (cd crates/doqs && rt run)     # proves and builds the program
 #   benchmarks/live_ticks.sh [PROGRAM]
 set -euo pipefail
 here=$(cd "$(dirname "$0")/.." && pwd)
-program=$(realpath "${1:-$here/crates/desk_live/out/desk_live}")
+program=$(realpath "${1:-$here/crates/doqs/out/doqs}")
 work=$(mktemp -d)
 trap 'rm -rf "$work"' EXIT
 cp "$here/crates/script_vectors/data/market.toml" "$here/crates/script_vectors/data/quotes.csv" "$work"
@@ -63,7 +63,7 @@ cc -shared -fPIC -O1 -o held.so held.c
 # stands open at the end, so it does not end with 0.
 most() {
     for ((k = 0; k < $1; k++)); do cat lines; done > all
-    LD_PRELOAD=./held.so "$program" market.toml < all 2> held > said || true
+    LD_PRELOAD=./held.so "$program" live market.toml < all 2> held > said || true
     wc -lc said >&2
     tail -n 1 held | awk '{ print $1 }'
 }

@@ -1,5 +1,5 @@
 // Deltas, gammas, parallel shifts and thetas in QuantLib, of the markets that benchmarks/risk_quantlib.py writes: it reads a plan of one market, and
-// writes what desk_risk writes of each instrument, with nine places.
+// writes the lines of `doqs risk` for each instrument, with nine places.
 //
 //   g++ -O2 -std=c++17 -o /tmp/risk_quantlib benchmarks/risk_quantlib.cpp -lQuantLib     # Debian's libquantlib0-dev, QuantLib 1.29
 //

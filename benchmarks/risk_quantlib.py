@@ -1,10 +1,10 @@
 #!/usr/bin/env python3
-"""What desk_risk writes beside QuantLib 1.29: values, deltas, gammas, parallel shifts and thetas of a bond, a floater, a swap, an agreement, a
+"""The output of `doqs risk` beside QuantLib 1.29: values, deltas, gammas, parallel shifts and thetas of a bond, a floater, a swap, an agreement, a
 share and the book of them, in six markets, by 0.0001 and by 0.001 each.
 
-    (cd crates/desk_risk && rt run -- data/market.toml 0.0001 b)     # builds desk_risk
+    (cd crates/doqs && rt run)     # builds doqs
     g++ -O2 -std=c++17 -o /tmp/risk_quantlib benchmarks/risk_quantlib.cpp -lQuantLib     # Debian's libquantlib0-dev
-    benchmarks/risk_quantlib.py [FOLDER]     # FOLDER: the rows of desk_risk stand there as NUMBER.csv, and it is not run
+    benchmarks/risk_quantlib.py [FOLDER]     # FOLDER has the output of `doqs risk` as NUMBER.csv, and it is not run
 
 It writes for each measure and size how many rows there are, the largest of them, and the largest difference, in units of money. The first
 market is that of examples/desk on its day; the others have other days, levels and slopes.
@@ -99,7 +99,7 @@ def main(given):
                 theirs = rows_of(subprocess.run(["/tmp/risk_quantlib", folder / "plan"], capture_output=True, text=True, check=True).stdout)
                 names = [name for name, _ in PARTS] + ["book"]
                 ours = rows_of(Path(given[0], f"{number}.csv").read_text() if given else subprocess.run(
-                    [TOP / "crates/desk_risk/out/desk_risk", folder / "market.toml", size, *names], capture_output=True, text=True, check=True).stdout)
+                    [TOP / "crates/doqs/out/doqs", "risk", folder / "market.toml", size, *names], capture_output=True, text=True, check=True).stdout)
                 for key, value in ours.items():
                     # A quote that the instrument does not stand on has no row.
                     found[key[1], size].append((abs(float(value)), abs(float(value) - float(theirs[key])), number, key))

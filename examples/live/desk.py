@@ -1,13 +1,12 @@
-"""An example, outside the proofs: a client of the program desk_live, and of the library desk_c, for
+"""An example, outside the proofs: a client of the command `doqs live`, and of the library desk_c, for
 Python 3.9 and later.
 
     with Desk("market.toml") as desk:
         desk.set("s5", "0.0253")
         desk.ask("book").value        # Decimal("5497271.244744")
 
-It is this one file, over the standard library alone. It starts `desk_live MARKET --ready`, writes a line to it, and
-reads what is written for that line. It takes DESK_LIVE, where that variable is set, for the program, else `desk_live`
-of the path. It has no thread and no lock: threads that share a Desk must take turns.
+It is this one file, over the standard library alone. It starts `doqs live MARKET --ready`, writes a line to it, and
+reads what is written for that line. The program is that of the variable DOQS, where it is set, else `doqs` of the path. It has no thread and no lock: threads that share a Desk must take turns.
 
 LinkedDesk is the same over a session in this process: the shared library that examples/c/run.sh links, which DESK_C names.
 Only the thread that made one may use it.
@@ -181,10 +180,10 @@ def read(line: str) -> Event:
 
 
 class Desk:
-    """A session of desk_live over the market at this path, behind the commands of SCRIPT where one is given.
+    """A session of `doqs live` over the market at this path, behind the commands of SCRIPT where one is given.
 
     `opening` has what these wrote, and `ended` how the program ended, once it has. ORDER is that of watchers: `first`,
-    `last`, or a number. The market's own paths are as seen from the working folder. PROGRAM is taken for desk_live.
+    `last`, or a number. The market's own paths are as seen from the working folder. PROGRAM is the path of doqs.
     Raises Ended where the program refuses its words, the market or the script.
     """
 
@@ -285,8 +284,8 @@ class Desk:
 
     def log(self, script: PathLike, written: Optional[PathLike] = None) -> None:
         """Keeps the session's script at this path: the lines so far, those of SCRIPT first, and each further one once
-        it is answered. Lines with a fault are left out, so that `desk run MARKET LOG` takes it. WRITTEN keeps what was
-        written for them, which is what `desk run` writes.
+        it is answered. Lines with a fault are left out, so that `doqs run MARKET LOG` takes it. WRITTEN keeps what was
+        written for them, which is what `doqs run` writes.
         """
         self._said = _moved(self._said, script)
         if written is not None:
@@ -307,7 +306,7 @@ class Desk:
             self._written.close()
 
     def _open(self, market: PathLike, script: Optional[PathLike], order: Optional[str], program: Optional[PathLike]) -> None:
-        words = [os.fspath(program or os.environ.get("DESK_LIVE") or "desk_live"), os.fspath(market)]
+        words = [os.fspath(program or os.environ.get("DOQS") or "doqs"), "live", os.fspath(market)]
         words += [] if script is None else [os.fspath(script)]
         words += ["--ready"] if order is None else ["--ready", f"--order={order}"]
         pipe = subprocess.PIPE

@@ -1,9 +1,9 @@
-"""An example, outside the proofs: tests of desk.py against the programs desk_live and desk, and of its
+"""An example, outside the proofs: tests of desk.py against the commands `doqs live` and `doqs run`, and of its
 LinkedDesk against the library that DESK_C names, where it names one (examples/c/run.sh).
 
     python3 -m unittest discover examples/live          # from the top of the repository
 
-Both programs are those of DESK_LIVE and DESK, else of crates/desk_live/out and crates/desk/out, else of the path.
+The program is that of DOQS, else of crates/doqs/out, else of the path. The tests run in examples/desk.
 """
 
 import doctest
@@ -23,18 +23,18 @@ from desk import Desk
 
 HERE = Path(__file__).resolve().parent
 TOP = HERE.parents[1]
-MARKET = "examples/desk/market.toml"
-BUILT = ":".join(str(TOP / "crates" / it / "out") for it in ("desk_live", "desk"))
+MARKET = "market.toml"
+BUILT = str(TOP / "crates/doqs/out")
 
 
 def setUpModule():
-    os.chdir(TOP)
+    os.chdir(TOP / "examples/desk")
     os.environ["PATH"] = f"{BUILT}:{os.environ['PATH']}"
 
 
 def played(market, script, *words):
-    """What `desk run` writes."""
-    program = os.environ.get("DESK") or "desk"
+    """What `doqs run` writes."""
+    program = os.environ.get("DOQS") or "doqs"
     return subprocess.run([program, "run", market, script, *words], stdout=subprocess.PIPE, check=True).stdout
 
 
@@ -168,7 +168,9 @@ class Answers(unittest.TestCase):
             self.assertEqual(it.ask("share").mark, "fresh")
 
     def test_a_script_and_an_order(self):
-        market, script = (f"examples/limit_watch/{it}" for it in ("market.toml", "script.txt"))
+        self.addCleanup(os.chdir, os.getcwd())
+        os.chdir(TOP / "examples/limit_watch")
+        market, script = "market.toml", "script.txt"
         for order in (None, "last", "7"):
             words = [] if order is None else ["--order", order]
             with self.Desk(market, script, order) as it, tempfile.TemporaryDirectory() as room:
@@ -257,7 +259,7 @@ class Refusals(unittest.TestCase):
 
 class Starts(unittest.TestCase):
     Desk = Desk
-    name = "desk_live"
+    name = "doqs live"
 
     def test_a_closed_program(self):
         it = self.Desk(MARKET)
@@ -270,13 +272,13 @@ class Starts(unittest.TestCase):
     def test_a_refused_start(self):
         for words, status, said in [
             (["no_market"], 8, f"{self.name}: no file market"),
-            (["examples/desk/quotes.csv"], 3, f"{self.name}: market top 0 toml"),
+            (["quotes.csv"], 3, f"{self.name}: market top 0 toml"),
             ([MARKET, "no_script"], 8, f"{self.name}: no file script"),
             ([MARKET, None, "sideways"], 2, f"{self.name}: usage"),
         ]:
             with self.subTest(said), self.assertRaises(desk.Ended) as got:
                 self.Desk(*words)
-            self.assertEqual((got.exception.status, got.exception.said), (status, said))
+            self.assertEqual((got.exception.status, got.exception.said.splitlines()[0]), (status, said))
 
 
 class Ends(unittest.TestCase):

@@ -3,10 +3,10 @@
 
     TICKS | examples/live/board/board.py MARKET [SCRIPT] --show NAME,NAME.. [--port PORT] [--host HOST] [--log FILE]
 
-Lines of standard input are lines of the session, as `desk_live` takes them. Once all that have come are done, each
+Lines of standard input are lines of the session, as `doqs live` takes them. Once all that have come are done, each
 object that is shown is asked, and the open pages are told. The page has a line to type a command, too. The port is
 8083, or a free one where it is 0. Whoever reaches the page can type: it is for one's own machine, as HOST is unless one
-is given. It ends by an interrupt, not with the input. --log keeps the session's script, for `desk run`.
+is given. It ends by an interrupt, not with the input. --log keeps the session's script, for `doqs run`.
 """
 
 import argparse

@@ -4,7 +4,7 @@
 #   examples/live/board/run.sh [--port PORT] [--log FILE]
 set -euo pipefail
 here=$(cd "$(dirname "$0")" && pwd)
-cd "$here/../../.."
-export PATH="$PWD/crates/desk_live/out:$PATH"
-"$here/../ticks.py" examples/desk/quotes.csv 100000 0.5 |
-    "$here/board.py" examples/desk/market.toml --show book,state,floater,payer,spring,share,offer,euro "$@"
+cd "$here/../../desk"
+export PATH="$here/../../../crates/doqs/out:$PATH"
+"$here/../ticks.py" quotes.csv 100000 0.5 |
+    "$here/board.py" market.toml --show book,state,floater,payer,spring,share,offer,euro "$@"

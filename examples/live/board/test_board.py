@@ -20,22 +20,21 @@ from pathlib import Path
 
 HERE = Path(__file__).resolve().parent
 TOP = HERE.parents[2]
-MARKET = "examples/desk/market.toml"
+MARKET = "market.toml"
 SHOWN = ["book", "state", "floater", "payer", "spring", "share", "offer", "euro"]
 
 
 def setUpModule():
-    os.chdir(TOP)
-    built = ":".join(str(TOP / "crates" / it / "out") for it in ("desk_live", "desk"))
-    os.environ["PATH"] = f"{built}:{os.environ['PATH']}"
+    os.chdir(TOP / "examples/desk")
+    os.environ["PATH"] = f"{TOP / 'crates/doqs/out'}:{os.environ['PATH']}"
 
 
 def asked(*lines):
-    """The words of the last line that `desk run` writes for these."""
+    """The words of the last line that `doqs run` writes for these."""
     with tempfile.NamedTemporaryFile("w") as script:
         script.write("".join(f"{it}\n" for it in lines))
         script.flush()
-        words = [os.environ.get("DESK") or "desk", "run", MARKET, script.name]
+        words = [os.environ.get("DOQS") or "doqs", "run", MARKET, script.name]
         return subprocess.run(words, stdout=subprocess.PIPE, check=True, text=True).stdout.splitlines()[-1].split()
 
 
@@ -133,7 +132,7 @@ class Pages(unittest.TestCase):
             self.assertEqual(browser.texts("#told"), ["live"])
         before = asked("ask state")[1]
 
-        # A tick: the price on both pages is that of `desk run`.
+        # A tick: the price on both pages is that of `doqs run`.
         self.tick("set s5 0.0253")
         moved = asked("ask book", "set s5 0.0253", "ask book")
         self.assertNotEqual(moved[1], first[1])
@@ -170,8 +169,8 @@ class Pages(unittest.TestCase):
             with self.assertRaises(urllib.error.HTTPError):
                 urllib.request.urlopen(urllib.request.Request(f"{self.page}command", body, headers))
 
-        # The log is the session: `desk run` of it ends with what the page shows.
-        words = [os.environ.get("DESK") or "desk", "run", MARKET, self.log]
+        # The log is the session: `doqs run` of it ends with what the page shows.
+        words = [os.environ.get("DOQS") or "doqs", "run", MARKET, self.log]
         played = subprocess.run(words, stdout=subprocess.PIPE, check=True, text=True).stdout.splitlines()
         last = [line.split() for line in played[-len(SHOWN) :]]
         self.assertEqual([it[0] for it in last], SHOWN)

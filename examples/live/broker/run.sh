@@ -5,17 +5,17 @@
 #   examples/live/broker/run.sh [TICKS]              # 1, 2 and 4 desks on 10,000 ticks, or on TICKS
 #   examples/live/broker/run.sh --restart [TICKS]    # 4 desks, and the broker is ended and started again in the middle
 #
-# A tick is published once, under `ticks`; desk K is `mosquitto_sub -t ticks | desk_live MARKET deskK.txt |
-# mosquitto_pub -l -t prices/K`. What a subscriber of all prices got from each desk is compared with what `desk run`
+# A tick is published once, under `ticks`; desk K is `mosquitto_sub -t ticks | doqs live MARKET deskK.txt |
+# mosquitto_pub -l -t prices/K`. What a subscriber of all prices got from each desk is compared with what `doqs run`
 # writes for the desk's log. The status is 0 where all are the same. The broker is one of this script's own, on a port
 # of its own, and ends with it.
 set -euo pipefail
 here=$(cd "$(dirname "$0")" && pwd)
-cd "$here/../../.."
-export PATH="$PWD/crates/desk_live/out:$PWD/crates/desk/out:$PATH:/usr/sbin"
-market=examples/desk/market.toml
+cd "$here/../../desk"
+export PATH="$here/../../../crates/doqs/out:$PATH:/usr/sbin"
+market=market.toml
 port=${PORT:-18883}
-for program in mosquitto mosquitto_sub mosquitto_pub "${DESK_LIVE:-desk_live}" "${DESK:-desk}"; do
+for program in mosquitto mosquitto_sub mosquitto_pub "${DOQS:-doqs}"; do
     command -v "$program" > /dev/null || { echo "run.sh: there is no $program (README.md)" >&2; exit 2; }
 done
 work=$(mktemp -d)
@@ -69,12 +69,12 @@ try() {
     subscribe all 'prices/#' "$folder/prices" -F '%t %p'
     for k in $(seq "$desks"); do
         mkfifo "$folder/in$k"
-        tee "$folder/log$k" < "$folder/in$k" | "${DESK_LIVE:-desk_live}" "$market" "$here/desk$k.txt" |
+        tee "$folder/log$k" < "$folder/in$k" | "${DOQS:-doqs}" live "$market" "$here/desk$k.txt" |
             tee "$folder/wrote$k" | mosquitto_pub -p "$port" -q 1 -l -t "prices/$k" &
         pipes+=($!)
         subscribe "desk$k" ticks "$folder/in$k"
     done
-    "$here/../ticks.py" examples/desk/quotes.csv "$ticks" > "$folder/ticks"
+    "$here/../ticks.py" quotes.csv "$ticks" > "$folder/ticks"
     began=$(date +%s.%N)
     mkfifo "$folder/feed"
     mosquitto_pub -p "$port" -q 1 -l -t ticks < "$folder/feed" 2>> "$work/told" &
@@ -96,7 +96,7 @@ try() {
     stop_broker
     for k in $(seq "$desks"); do
         { cat "$here/desk$k.txt"; cat "$folder/log$k"; } > "$folder/script$k"
-        "${DESK:-desk}" run "$market" "$folder/script$k" > "$folder/run$k"
+        "${DOQS:-doqs}" run "$market" "$folder/script$k" > "$folder/run$k"
         sed -n "s|^prices/$k ||p" "$folder/prices" > "$folder/got$k"
         echo "desk $k: ticks $(count "$folder/ticks"), came $(($(count "$folder/log$k") - 1));" \
             "prices $(count "$folder/run$k"), came $(count "$folder/got$k")"

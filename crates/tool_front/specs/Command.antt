@@ -7,15 +7,16 @@ use Rattle.script_steps.specs.Status as blocks
 use Rattle.curve_run.specs.declared.status.CurveStatus.{CurveStatus}
 use Rattle.curve_run.specs.Status as curve
 use Rattle.tool_run.specs.declared.status.MarketStatus.{MarketStatus}
+use Rattle.tool_run.specs.Idle.{no_bench}
 use Rattle.tool_run.specs.Status as market
 use Rattle.tool_run.specs.Tool.{Tool, ShelfTurn, SinkTurn, BenchTurn, IsRun}
 use Rattle.bump_run.specs.Verdict.{bump_tool}
 use Rattle.explain_run.specs.Verdict.{explain_tool}
-use Rattle.graph_run.specs.Verdict.{graph_tool}
+use Rattle.graph_run.specs.Drawing.{graph_tool}
 use Rattle.grid_run.specs.Verdict.{grid_tool}
 use Rattle.measure_run.specs.Verdict.{measure_tool}
 use Rattle.risk_run.specs.Verdict.{risk_tool}
-use Rattle.why_run.specs.Verdict.{why_tool}
+use Rattle.why_run.specs.Answering.{why_tool}
 use Rattle.yield_run.specs.Verdict.{yield_tool}
 use Rattle.tool_front.specs.declared.command.Command.{Command}
 use Rattle.tool_front.specs.declared.command.Command.TheVariants as command
@@ -55,15 +56,20 @@ module _ {K N B : Type 0} (whole : List (List ℕ)) (result : FrontStatus) (a : 
       × Ends command.Curve words (curve.code_of status) (curve.said_of status) result (record a.notes { old = between })
 
   abbrev pub EndsScript : {Request Wanted : Type 0} → Command → Tool Request Wanted Status → Type 0
-  EndsScript c tool = (status : Status) × IsRun tool words status a.shelf a.sink a.bench
+  EndsScript c tool = (status : Status) × IsRun script.script_ends tool words status a.shelf a.sink a.bench
       × Ends c words (script.code_of status) (script.said_of status) result a.notes
 
   abbrev pub EndsBlocks : {Request Wanted : Type 0} → Command → Tool Request Wanted BlocksStatus → Type 0
-  EndsBlocks c tool = (status : BlocksStatus) × IsRun tool words status a.shelf a.sink a.bench
+  EndsBlocks c tool = (status : BlocksStatus) × IsRun blocks.blocks_ends tool words status a.shelf a.sink a.bench
       × Ends c words (blocks.code_of status) (blocks.said_of status) result a.notes
 
   abbrev pub EndsMarket : {Request Wanted : Type 0} → Command → Tool Request Wanted MarketStatus → Type 0
-  EndsMarket c tool = (status : MarketStatus) × IsRun tool words status a.shelf a.sink a.bench
+  EndsMarket c tool = (status : MarketStatus) × IsRun market.market_ends tool words status a.shelf a.sink a.bench
+      × Ends c words (market.code_of status) (market.said_of status) result a.notes
+
+  -- what computes no price leaves the bench alone
+  abbrev pub EndsBond : {Request Wanted : Type 0} → Command → Tool Request Wanted MarketStatus → Type 0
+  EndsBond c tool = (status : MarketStatus) × IsRun market.market_ends tool words status a.shelf a.sink no_bench × (a.bench.new ≡ a.bench.old)
       × Ends c words (market.code_of status) (market.said_of status) result a.notes
 
   -- FROM A COMMAND TO ITS RUN
@@ -79,8 +85,8 @@ module _ {K N B : Type 0} (whole : List (List ℕ)) (result : FrontStatus) (a : 
   IsCommand command.Risk = EndsMarket command.Risk risk_tool
   IsCommand command.Curve = EndsCurve
   IsCommand command.Graph = EndsScript command.Graph graph_tool
-  IsCommand command.Yield = EndsMarket command.Yield yield_tool
-  IsCommand command.Measure = EndsMarket command.Measure measure_tool
+  IsCommand command.Yield = EndsBond command.Yield yield_tool
+  IsCommand command.Measure = EndsBond command.Measure measure_tool
 
 -- a command that words ask for; of other words nothing is said here
 abbrev pub Commands : {K N B : Type 0} → List (List ℕ) → FrontStatus → Around K N B → Front → Type 0

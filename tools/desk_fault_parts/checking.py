@@ -53,8 +53,8 @@ def market_fault(market, quotes, fixings):
 
 
 def gate_markets(top):
-    """The rows of market_rows: what each shows, the first fault that is wanted, and the files."""
-    data = top / "crates" / "market_rows" / "data"
+    """The market files of price_vectors: what each shows, the first fault that is wanted, and the files."""
+    data = top / "crates" / "price_vectors" / "data" / "market_files"
     for file in MARKETS:
         for case in lines_of(data / file).split("==\n"):
             title, case = case.split("\n", 1)

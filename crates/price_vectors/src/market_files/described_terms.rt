@@ -1,5 +1,5 @@
 // Curves, indexes and flows as text.
-use crate::described::push_number;
+use crate::market_files::described::push_number;
 use day_number::{Convention, Day, Tenor, Unit, add_days, print_day};
 use desk_names::ObjId;
 use desk_terms::{CurveStart, CurveTerms, Fixings, FlowTerm, FlowTerms, Helper, IndexTerms};

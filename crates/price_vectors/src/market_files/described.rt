@@ -1,5 +1,5 @@
 // Paths and markets as text.
-use crate::instruments::{push_curve, push_flows, push_index};
+use crate::market_files::described_terms::{push_curve, push_flows, push_index};
 use day_number::print_day;
 use desk_names::{NameId, Names, PathText};
 use desk_terms::{HandleKind, Part, Terms};

@@ -1,81 +1,93 @@
-//! Reads markets, most of them faulty, and compares what is answered with what an independent reading of the format says
-//! of them: prints each case that differs, and how many agree.
-#![tactic(auto)]
-
+// Market files, most of them faulty, with what an independent reading of the format answers of them.
 mod case_text;
 mod described;
-mod instruments;
+mod described_terms;
 
+use anyhow::Result;
 use case_text::decoded;
 use described::{push_market, push_paths};
 use desk_names::Names;
 use market_file::{market_paths, read_market};
+use row_markets::Tally;
 use std::alloc::{AllocError, Global};
 use std::{fs, io};
 
-// A file of cases for each section of a market, one of files that are too long, and one of the versions. Markets that
-// have no key of version 2 are read in both versions.
-fn main(rt: HostRuntime) -> io::Result<()> {
-    for file in ["top", "lengths"] {
-        compare(&rt, file, false)?;
-    }
-    for file in [
+// The files of cases, what their cases are called, and what they are called in version 2 where they are read in it too: the
+// markets that have no key of it. There is a file for each section of a market, one of files that are too long, and one of
+// the versions.
+const FILES: [(&str, &str, Option<&str>); 9] = [
+    ("market_files/top", "top", None),
+    ("market_files/lengths", "lengths", None),
+    (
+        "market_files/calendars",
         "calendars",
-        "quotes",
+        Some("calendars in version 2"),
+    ),
+    ("market_files/quotes", "quotes", Some("quotes in version 2")),
+    (
+        "market_files/objects",
         "objects",
-        "curves",
+        Some("objects in version 2"),
+    ),
+    ("market_files/curves", "curves", Some("curves in version 2")),
+    (
+        "market_files/instruments",
         "instruments",
+        Some("instruments in version 2"),
+    ),
+    (
+        "market_files/fixings",
         "fixings",
-    ] {
-        compare_both(&rt, file)?;
-    }
-    compare(&rt, "versions", false)?;
-    compare_cuts(&rt)
-}
+        Some("fixings in version 2"),
+    ),
+    ("market_files/versions", "versions", None),
+];
 
-// Compares the cases of a file as they are and in version 2.
-fn compare_both(rt: &HostRuntime, file: &str) -> io::Result<()> {
-    compare(rt, file, false)?;
-    compare(rt, file, true)
-}
-
-// Compares the cases of a file, in version 2 if that is asked for, and prints how many agree. A line `==` stands between two
-// cases. A case has a line that says what it shows, and then, each behind a line `--`, the quotes, the fixings and what is
-// answered.
-fn compare(rt: &HostRuntime, file: &str, later: bool) -> io::Result<()> {
-    let text = fs::read_to_string(rt, file)?;
-    let mut agree = 0u32;
-    let mut differ = 0u32;
-    for case in text.split("==\n") {
-        if agrees(rt, case, later)? {
-            agree = agree.saturating_add(1);
-        } else {
-            differ = differ.saturating_add(1);
+/// Prints each case that differs and what was answered of it, and how many agree of each file.
+pub(crate) fn compare(rt: &HostRuntime) -> Result<()> {
+    for (file, kind, later) in FILES {
+        let text = fs::read_to_string(rt, file)?;
+        compare_cases(rt, &text, kind, false)?;
+        if let Some(kind) = later {
+            compare_cases(rt, &text, kind, true)?;
         }
     }
-    let version = if later { " in version 2" } else { "" };
-    println!(rt; "{file}{version}: {agree} agree, {differ} differ")
+    compare_cuts(rt)?;
+    Ok(())
 }
 
-// Whether the case's market is answered as the case says; prints what it shows and what was answered where it is not.
-fn agrees(rt: &HostRuntime, case: &str, later: bool) -> io::Result<bool> {
-    let (title, case) = parted(case, "\n");
-    let (market, case) = parted(case, "--\n");
-    let (quotes, case) = parted(case, "--\n");
-    let (fixings, answer) = parted(case, "--\n");
-    let market = market_of(rt.alloc(), market, later)?;
-    let said = said_of(rt.alloc(), &market, quotes, fixings)?;
-    is_answer(rt, title, &said, answer)
-}
-
-// Whether what was said is the answer; prints it where it is not.
-fn is_answer(rt: &HostRuntime, title: &str, said: &[u8], answer: &str) -> io::Result<bool> {
-    if said == answer.as_bytes() {
-        return Ok(true);
+// Compares the cases of a text, in version 2 if that is asked for, and prints how many agree. A line `==` stands between two
+// cases. A case has a line that says what it shows, and then, each behind a line `--`, the quotes, the fixings and what is
+// answered.
+fn compare_cases(rt: &HostRuntime, text: &str, kind: &'static str, later: bool) -> io::Result<()> {
+    let mut cases = Tally::new(kind);
+    for case in text.split("==\n") {
+        let (title, case) = parted(case, "\n");
+        let (market, case) = parted(case, "--\n");
+        let (quotes, case) = parted(case, "--\n");
+        let (fixings, answer) = parted(case, "--\n");
+        let market = market_of(rt.alloc(), market, later)?;
+        let said = said_of(rt.alloc(), &market, quotes, fixings)?;
+        count(rt, &mut cases, title, &said, answer)?;
     }
-    let said = std::str::from_utf8(said).unwrap_or("no text");
-    println!(rt; "{title}: this differs: {said}")?;
-    Ok(false)
+    cases.tell(rt)
+}
+
+// Counts a case, and prints what it shows and what was said where that is not the answer.
+fn count(
+    rt: &impl Print,
+    cases: &mut Tally,
+    title: &str,
+    said: &[u8],
+    answer: &str,
+) -> io::Result<()> {
+    let agrees = said == answer.as_bytes();
+    cases.count(rt, title, agrees)?;
+    if !agrees {
+        let said = std::str::from_utf8(said).unwrap_or("no text");
+        println!(rt; "this differs: {said}")?;
+    }
+    Ok(())
 }
 
 // The bytes of a case's market.
@@ -152,20 +164,15 @@ fn push_read(
 // Compares what is answered of a market that is cut after each of its bytes, and prints how many cuts agree: the first
 // line of the answers is that of no bytes, the last that of the whole market.
 fn compare_cuts(rt: &HostRuntime) -> io::Result<()> {
-    let market = fs::read_to_string(rt, "whole")?;
-    let answers = fs::read_to_string(rt, "cuts")?;
-    let mut agree = 0u32;
-    let mut differ = 0u32;
+    let market = fs::read_to_string(rt, "market_files/whole")?;
+    let answers = fs::read_to_string(rt, "market_files/cuts")?;
+    let mut cuts = Tally::new("cuts");
     for (length, answer) in answers.lines().enumerate() {
+        let title = format!(in rt.alloc(); "cut after {length}")?;
         let said = answered_briefly(rt.alloc(), front(&market, length))?;
-        if said.as_str() == answer {
-            agree = agree.saturating_add(1);
-        } else {
-            differ = differ.saturating_add(1);
-            println!(rt; "cut after {length}: this differs: {said}")?;
-        }
+        count(rt, &mut cuts, title.as_str(), said.as_bytes(), answer)?;
     }
-    println!(rt; "cuts: {agree} agree, {differ} differ")
+    cuts.tell(rt)
 }
 
 // The first bytes of a text, or all where it has fewer.

@@ -1,6 +1,6 @@
 -- What is wanted, by words.
-use Rattle.std.proofs.Common.{◌≡◌, inl, inr, ℕ, ◌+◌, ◌≤◌, List, Option, Some, None, Result, Ok, Err, refl, sym, ◌∙◌, ap, subst, arith}
-use Rattle.std.specs.Prelude.{IfSome, IsSome, option_map}
+use Rattle.std.proofs.Common.{◌≡◌, inr, ℕ, ◌+◌, ◌≤◌, List, Option, Some, None, Result, Ok, Err, refl, arith}
+use Rattle.std.specs.Prelude.{IfSome, IsSome}
 use Rattle.desk_edge.specs.Shelf.{file_at}
 use Rattle.market_loader.specs.Files.{Files}
 use Rattle.tool_run.specs.Run.{asked, calls_for, IsThere, Tells}

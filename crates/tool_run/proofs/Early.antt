@@ -1,5 +1,5 @@
 -- A run that ends before its text is made.
-use Rattle.std.proofs.Common.{◌≡◌, ◌⊎◌, inl, inr, ℕ, List, Option, refl}
+use Rattle.std.proofs.Common.{◌⊎◌, inl, inr, ℕ, List, Option, refl}
 use Rattle.tool_run.specs.Stage.{Stage, Done, Refused, Missing, Failed, Cut, Halted, IsEarly, IsBefore, Writes, Computes, Log}
 
 -- memory ran out before anything was known of what is wanted, which may then be anything

@@ -1,5 +1,8 @@
 pub mod Asking
+pub mod Calling
 pub mod Early
+pub mod Finds
 pub mod Opening
-pub mod Wanted
+pub mod Refusals
+pub mod Runs
 pub mod There

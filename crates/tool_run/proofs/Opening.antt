@@ -1,12 +1,11 @@
 -- The reading of a market, and what a reading says of a run.
-use Rattle.std.proofs.Common.{◌≡◌, ◌⊎◌, inl, inr, ℕ, List, Option, Result, Ok, Err, refl, ◌∙◌, ap}
+use Rattle.std.proofs.Common.{◌≡◌, inl, inr, ℕ, List, Option, Result, Ok, Err, refl, ◌∙◌, ap}
 use Rattle.std.specs.Prelude.{IfSome}
-use Rattle.market_file.specs.Market.{Market}
 use Rattle.market_file.specs.declared.read.Market as read
 use Rattle.market_loader.specs.Ends.{End, load_end}
 use Rattle.market_loader.specs.Files.{Files}
 use Rattle.market_loader.specs.Market.{market_in as loaded_in, market_of, market_calls}
-use Rattle.market_loader.specs.Reads.{Seen, Reads, IsOutside as IsOutsideOf, Tells as TellsOf, faults_after as counted_after}
+use Rattle.market_loader.specs.Reads.{Seen, Reads, IsOutside as IsOutsideOf, Tells as TellsOf}
 use Rattle.market_loader.specs.declared.faults.LoadFault.{LoadFault}
 use Rattle.market_loader.specs.declared.faults.LoadFault.TheVariants as loaded
 use Rattle.market_loader.proofs.Steps.{told_map, reads_as}

@@ -1,6 +1,10 @@
+pub mod Calls
+pub mod Endings
+pub mod Idle
 pub mod Market
 pub mod Rows
 pub mod Run
 pub mod Stage
 pub mod Status
+pub mod Tool
 pub mod Words

@@ -1,5 +1,5 @@
 -- The market of a tool.
-use Rattle.std.specs.Prelude.{ℕ, List, Result, Ok}
+use Rattle.std.specs.Prelude.{ℕ, List, Option, Result, Ok}
 use Rattle.market_file.specs.Market.{Market}
 use Rattle.market_tables.specs.Given.{◌>>=◌}
 use Rattle.market_loader.specs.Ends.{End, with_fault}
@@ -11,6 +11,7 @@ use Rattle.tool_run.specs.declared.status.MarketStatus.{MarketStatus}
 use Rattle.tool_run.specs.declared.status.MarketStatus.TheVariants as status
 use Rattle.tool_run.specs.Stage.{stage_end}
 use Rattle.tool_run.specs.Status.{load_status, stage_of}
+use Rattle.tool_run.specs.Tool.{Asking}
 
 -- a market of the code, as the definition sees it
 abbrev pub market_in : OpenMarket → Market
@@ -36,6 +37,15 @@ wanted_from path request files = market_at (path request) files >>= (λ market. 
 -- the most calls of a shelf for it
 abbrev pub calls_from : {Request : Type 0} → (Request → List ℕ) → Request → Files → ℕ
 calls_from path request files = market_calls (path request) files
+
+-- WHAT IS ASKED OF FILES by a tool that reads a market and nothing else
+abbrev pub market_asks : {Request : Type 0} → (List (List ℕ) → Option Request) → (Request → List ℕ) → Asking Request (Wanted Request) MarketStatus
+market_asks request_of path = record {
+  request_of = request_of;
+  path_of = path;
+  wanted_of = wanted_from path;
+  calls_of = calls_from path;
+}
 
 -- how a reading ended that has this status
 abbrev pub status_end : MarketStatus → End

@@ -42,6 +42,15 @@ IsBefore Failed = Unit {0}
 IsBefore Cut = ⊥
 IsBefore Halted = Unit {0}
 
+-- memory ran out
+abbrev pub IsHalted : Stage → Type 0
+IsHalted Done = ⊥
+IsHalted Refused = ⊥
+IsHalted Missing = ⊥
+IsHalted Failed = ⊥
+IsHalted Cut = ⊥
+IsHalted Halted = Unit {0}
+
 -- WHAT WAS WRITTEN, where it is told: all at Done; after a fault of writing a front, and not all; else nothing
 abbrev pub Writes : Option (List ℕ) → Option (List ℕ) → List ℕ → Stage → Type 0
 Writes old new whole Done = new ≡ appended whole old
@@ -73,6 +82,15 @@ faults_then Refused faults = faults
 faults_then Missing faults = faults
 faults_then Cut faults = faults
 faults_then Halted faults = faults
+
+-- the count of faults of a sink after a run: a put that failed ended it, and is counted once
+abbrev pub puts_then : Stage → ℕ → ℕ
+puts_then Cut faults = raised faults
+puts_then Done faults = faults
+puts_then Refused faults = faults
+puts_then Missing faults = faults
+puts_then Failed faults = faults
+puts_then Halted faults = faults
 
 -- no fault was counted: the count is as it was, and below its last value
 abbrev pub IsQuiet : ℕ → ℕ → Type 0

@@ -1,12 +1,14 @@
 -- The exit codes, and the words on standard error behind the program's name (this project's profile).
-use Rattle.std.specs.Prelude.{ℕ, List, [], ◌++◌, codes, decimal, Option, None, Some}
+use Rattle.std.proofs.Common.{refl}
+use Rattle.std.specs.Prelude.{◌≡◌, ℕ, List, [], ◌++◌, codes, decimal, Option, None, Some}
 use Rattle.market_file.specs.Fault.{section_text}
 use Rattle.market_tables.specs.MarketKind.{kind_text}
 use Rattle.market_loader.specs.Faults.{role_text}
 use Rattle.market_loader.specs.declared.faults.LoadFault as fault
 use Rattle.tool_run.specs.declared.status.MarketStatus.{MarketStatus}
 use Rattle.tool_run.specs.declared.status.MarketStatus.TheVariants.{Done, Usage, Market, ReadFault, WriteFault, NoMemory, Absent}
-use Rattle.tool_run.specs.Stage.{Stage}
+use Rattle.tool_run.specs.Endings.{Endings, AreEndings}
+use Rattle.tool_run.specs.Stage.{Stage, IsHalted}
 use Rattle.tool_run.specs.Stage as stage
 
 abbrev pub code_of : MarketStatus → ℕ
@@ -54,3 +56,19 @@ stage_of (Absent role) = stage.Missing
 stage_of ReadFault = stage.Failed
 stage_of WriteFault = stage.Cut
 stage_of NoMemory = stage.Halted
+
+-- how far each came, and those that every tool has
+abbrev pub market_ends : Endings MarketStatus
+market_ends = record { stage_of = stage_of; done = Done; usage = Usage; cut = WriteFault; halted = NoMemory }
+
+market_memory : (status : MarketStatus) → IsHalted (stage_of status) → status ≡ NoMemory
+market_memory NoMemory halted = refl
+market_memory Done halted = absurd halted
+market_memory Usage halted = absurd halted
+market_memory (Market section entry why) halted = absurd halted
+market_memory ReadFault halted = absurd halted
+market_memory WriteFault halted = absurd halted
+market_memory (Absent role) halted = absurd halted
+
+pub market_ends_sound : AreEndings market_ends
+market_ends_sound = record { done = refl; usage = refl; cut = refl; halted = refl; memory = market_memory }

@@ -1,15 +1,11 @@
 // What words and files ask for.
-ghost use Rattle.std.specs.Prelude.{◌≡◌, ◌↔◌, ◌+◌, ◌≤◌, map, None, IfOk, IfErr, IfSome, IsErrOf};
+ghost use Rattle.std.specs.Prelude.{map, IfOk};
 ghost use Rattle.std.specs.List.{All};
 ghost use Rattle.std.specs.String.{string_bytes};
-ghost use Rattle.desk_edge.specs.Count.{Rose};
-ghost use Rattle.desk_edge.specs.Shelf.{files_of};
 ghost use Rattle.market_file.specs.Standing.{IsReady, AreLimited};
-ghost use Rattle.market_loader.specs.declared.faults.MarketRole.{MarketRole};
-ghost use Rattle.tool_run.specs.Market.{wanted_in, wanted_from, calls_from};
-ghost use Rattle.tool_run.specs.Run.{Tells, IsThere, asked, calls_for, faults_after};
-ghost use Rattle.tool_run.specs.Stage.{IsBefore};
-ghost use Rattle.tool_run.specs.Status.{stage_of};
+ghost use Rattle.tool_run.specs.Market.{market_asks, wanted_in};
+ghost use Rattle.tool_run.specs.Status.{market_ends};
+ghost use Rattle.tool_run.specs.Tool.{Finds, shelf_turn};
 
 use crate::{MarketStatus, OpenMarket, Pair, open_market, pair_of};
 use desk_edge::Shelf;
@@ -58,21 +54,11 @@ pub fn find<'a, R: MarketRequest<'a>, H: Shelf>(
     words: &'a [String],
     shelf: &mut H,
 ) -> Result<Found<R>, MarketStatus>
-    ensures tells { IfSome (files_of (H.contents shelf.old)) (λ files. Tells stage_of (wanted_in R.meaning) result
-        (asked MarketStatus.Usage (wanted_from R.path) (R.request_of (map string_bytes words.now)) files)) }
-    ensures usage { IsErrOf result MarketStatus.Usage ↔ (R.request_of (map string_bytes words.now) ≡ None) }
-    ensures there { IfSome (files_of (H.contents shelf.old)) (λ files.
-        IsErrOf result MarketStatus.NoMemory → IsThere (R.request_of (map string_bytes words.now)) R.path files) }
+    ensures found { Finds market_ends (market_asks R.request_of R.path) (wanted_in R.meaning) (map string_bytes words.now) result
+        (shelf_turn H.contents H.faults H.misses H.calls shelf.old shelf.new) }
     ensures ready { IfOk result (λ found. IsReady found.market.names found.market.made.items) }
     ensures limited { IfOk result (λ found. All (λ entry. AreLimited entry.1) found.market.made.items) }
     ensures taken { IfOk result (λ found. R.IsTaken found.request) }
-    ensures before { IfErr result (λ status. IsBefore (stage_of status)) }
-    ensures files { files_of (H.contents shelf.new) ≡ files_of (H.contents shelf.old) }
-    ensures calls { IfSome (files_of (H.contents shelf.old)) (λ files. H.calls shelf.new
-        ≤ H.calls shelf.old + calls_for (calls_from R.path) (R.request_of (map string_bytes words.now)) files) }
-    ensures read { IsErrOf result MarketStatus.ReadFault → Rose (H.faults shelf.old) (H.faults shelf.new) }
-    ensures counted { H.faults shelf.new ≡ faults_after stage_of result (H.faults shelf.old) }
-    ensures absent { (role : MarketRole) → IsErrOf result (MarketStatus.Absent role) → Rose (H.misses shelf.old) (H.misses shelf.new) }
 {
     let Some(request) = R::from_words(words) else {
         return Err(MarketStatus::Usage);

@@ -1,4 +1,5 @@
 // How a run of a tool ended that reads a market.
+use crate::ToolStatus;
 use market_file::{MarketKind, Section};
 use market_loader::{LoadFault, MarketRole};
 use std::alloc::AllocError;
@@ -59,6 +60,26 @@ impl Ending for MarketStatus {
         }
         Some(*self)
     }
+}
+
+impl ToolStatus for MarketStatus {
+    ghost use Rattle.tool_run.specs.Status.{market_ends, market_ends_sound};
+
+    ghost ends = { market_ends };
+
+    fn done() -> Self {
+        MarketStatus::Done
+    }
+
+    fn cut() -> Self {
+        MarketStatus::WriteFault
+    }
+
+    fn halted() -> Self {
+        MarketStatus::NoMemory
+    }
+
+    ghost sound = { market_ends_sound };
 }
 
 // The status of a market that was not read.

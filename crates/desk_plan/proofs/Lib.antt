@@ -1,3 +1,4 @@
+pub mod Refused
 pub mod Steps
 pub mod There
 pub mod Told

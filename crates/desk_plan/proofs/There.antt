@@ -65,3 +65,10 @@ run_there market script files found is = by (market_at market files) refl is
         → IsSome (file_at files market)
     by (Ok m) same has = market_there market files m same
     by (Err s) same has = absurd (let none : Err s ≡ Ok found = has in cc)
+
+-- a run that finds no memory is of a market that is there
+pub halted_there : (told : Option Files) (path : List ℕ) (s : Status)
+    → IfSome told (λ files. IsErrOf {T = run.ScriptRun} (Err s) NoMemory → IsSome (file_at files path))
+    → IfSome told (λ files. s ≡ NoMemory → IsSome (file_at files path))
+halted_there None path s there = tt
+halted_there (Some files) path s there = λ is. there (ap (λ (f : Status). Err f) is)

@@ -1,3 +1,4 @@
+pub mod Asking
 pub mod Fixings
 pub mod Found
 pub mod Reading

@@ -1,9 +1,11 @@
 -- The exit codes and the lines on standard error (this project's profile).
-use Rattle.std.specs.Prelude.{ℕ, List, [], ◌++◌, codes, decimal, Option, None, Some}
+use Rattle.std.proofs.Common.{refl}
+use Rattle.std.specs.Prelude.{◌≡◌, ℕ, List, [], ◌++◌, codes, decimal, Option, None, Some}
 use Rattle.market_file.specs.Fault.{section_text}
 use Rattle.market_tables.specs.MarketKind.{kind_text as market_kind_text}
 use Rattle.session_commands.specs.ScriptKind.{kind_text}
-use Rattle.tool_run.specs.Stage.{Stage}
+use Rattle.tool_run.specs.Endings.{Endings, AreEndings}
+use Rattle.tool_run.specs.Stage.{Stage, IsHalted}
 use Rattle.tool_run.specs.Stage as stage
 use Rattle.desk_plan.specs.declared.status.FileRole.{FileRole}
 use Rattle.desk_plan.specs.declared.status.FileRole as role
@@ -73,3 +75,20 @@ stage_of (Absent role) = stage.Missing
 stage_of ReadFault = stage.Failed
 stage_of WriteFault = stage.Cut
 stage_of NoMemory = stage.Halted
+
+-- how far each came, and those that every tool has
+abbrev pub script_ends : Endings Status
+script_ends = record { stage_of = stage_of; done = Done; usage = Usage; cut = WriteFault; halted = NoMemory }
+
+script_memory : (status : Status) → IsHalted (stage_of status) → status ≡ NoMemory
+script_memory NoMemory halted = refl
+script_memory Done halted = absurd halted
+script_memory Usage halted = absurd halted
+script_memory (Market section entry why) halted = absurd halted
+script_memory (Script line why) halted = absurd halted
+script_memory ReadFault halted = absurd halted
+script_memory WriteFault halted = absurd halted
+script_memory (Absent role) halted = absurd halted
+
+pub script_ends_sound : AreEndings script_ends
+script_ends_sound = record { done = refl; usage = refl; cut = refl; halted = refl; memory = script_memory }

@@ -7,6 +7,7 @@ use session_commands::ScriptKind;
 use std::alloc::AllocError;
 use std::fmt;
 use tool_process::Ending;
+use tool_run::ToolStatus;
 
 /// A file that is read.
 #[derive(Clone, Copy, PartialEq, Eq)]
@@ -85,6 +86,26 @@ impl Ending for Status {
         }
         Some(StatusWords(*self))
     }
+}
+
+impl ToolStatus for Status {
+    ghost use Rattle.desk_plan.specs.Status.{script_ends, script_ends_sound};
+
+    ghost ends = { script_ends };
+
+    fn done() -> Self {
+        Status::Done
+    }
+
+    fn cut() -> Self {
+        Status::WriteFault
+    }
+
+    fn halted() -> Self {
+        Status::NoMemory
+    }
+
+    ghost sound = { script_ends_sound };
 }
 
 impl From<AllocError> for Status {

@@ -15,7 +15,7 @@ use Rattle.grid_model.specs.Grid.{Row}
 use Rattle.grid_report.specs.Shown.{rows_in}
 use Rattle.grid_report.specs.declared.shown.Shown.{Shown}
 use Rattle.script_steps.specs.Block.{block_of}
-use Rattle.script_steps.specs.Calls.{Makes, Begins}
+use Rattle.tool_run.specs.Calls.{Makes, Begins}
 use Rattle.script_steps.proofs.Blocks.{blocks_from, blocks_next, blocks_end}
 use Rattle.script_steps.proofs.Past.{Past, past_none, past_more, past_begins}
 use Rattle.explain_model.specs.Explanation.{steps_of}

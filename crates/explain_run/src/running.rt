@@ -8,7 +8,7 @@ ghost use Rattle.desk_plan.specs.declared.status.Status.{Status};
 ghost use Rattle.desk_plan.specs.Found.{CanRun, run_in};
 ghost use Rattle.desk_plan.specs.Verdict.{ScriptRun as Wanted};
 ghost use Rattle.grid_shape.specs.Laws.{IsTaken};
-ghost use Rattle.script_steps.specs.Calls.{Makes, Begins, Calls};
+ghost use Rattle.tool_run.specs.Calls.{Makes, Begins, Calls};
 ghost use Rattle.script_steps.specs.Status.{stage_of};
 ghost use Rattle.script_steps.specs.Verdict.{reading_calls};
 ghost use Rattle.tool_run.specs.Run.{status_of, given_for, IsAccepted, IsThere};

@@ -10,7 +10,7 @@ ghost use Rattle.grid_model.specs.Scenario.{ordered};
 ghost use Rattle.grid_report.specs.Shown.{rows_in};
 ghost use Rattle.script_steps.specs.Basis.{basis_in};
 ghost use Rattle.script_steps.specs.Block.{block_of};
-ghost use Rattle.script_steps.specs.Calls.{Calls};
+ghost use Rattle.tool_run.specs.Calls.{Calls};
 ghost use Rattle.script_steps.specs.Going.{IsGoing};
 ghost use Rattle.explain_model.specs.Explanation.{steps_of, explanation_from, explanation, explanation_calls};
 ghost use Rattle.explain_model.specs.Steps.{commands_of, behind, step_text, step_texts, step_row, step_rows, step_calls};

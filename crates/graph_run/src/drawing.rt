@@ -6,7 +6,7 @@ ghost use Rattle.session_model.specs.Rounds.{calls_of};
 ghost use Rattle.grid_model.specs.Scenario.{ordered, after};
 ghost use Rattle.session_graph.specs.Graph.{session_graph};
 ghost use Rattle.desk_plan.specs.Found.{CanRun, run_in};
-ghost use Rattle.script_steps.specs.Calls.{Calls};
+ghost use Rattle.tool_run.specs.Calls.{Calls};
 ghost use Rattle.graph_run.specs.Drawing.{output_in, computed_in};
 
 use desk_plan::ScriptRun;

@@ -7,7 +7,7 @@ ghost use Rattle.desk_plan.specs.declared.status.FileRole.{FileRole};
 ghost use Rattle.desk_plan.specs.Found.{run_in};
 ghost use Rattle.desk_plan.specs.Status.{stage_of};
 ghost use Rattle.desk_plan.specs.Verdict.{ScriptRun as Wanted};
-ghost use Rattle.script_steps.specs.Calls.{Makes, Begins};
+ghost use Rattle.tool_run.specs.Calls.{Makes, Begins};
 ghost use Rattle.tool_run.specs.Run.{status_of, given_for, IsAccepted, IsThere};
 ghost use Rattle.tool_run.specs.Stage.{IsOutside, IsEarly, IsQuiet, Writes, Computes, faults_then};
 ghost use Rattle.graph_run.specs.Drawing.{output_in, computed_in};

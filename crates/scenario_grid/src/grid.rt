@@ -9,7 +9,7 @@ ghost use Rattle.grid_model.specs.Scenario.{scenario_lines, scenario_calls, scen
 ghost use Rattle.grid_report.specs.Shown.{rows_in};
 ghost use Rattle.script_steps.specs.Basis.{basis_in};
 ghost use Rattle.script_steps.specs.Block.{block_of};
-ghost use Rattle.script_steps.specs.Calls.{Calls};
+ghost use Rattle.tool_run.specs.Calls.{Calls};
 ghost use Rattle.scenario_grid.specs.Scenario.{row_of, scenario_of};
 
 use crate::one_scenario;

@@ -8,7 +8,7 @@ ghost use Rattle.watch_rounds.specs.declared.picker.Order.{Order as OfOrder};
 ghost use Rattle.grid_shape.specs.Kinds.{is_move, is_ask};
 ghost use Rattle.grid_model.specs.Scenario.{first_of, scenario_lines, scenario_calls, scenario_values};
 ghost use Rattle.script_steps.specs.Basis.{basis_in};
-ghost use Rattle.script_steps.specs.Calls.{Begins};
+ghost use Rattle.tool_run.specs.Calls.{Begins};
 ghost use Rattle.script_steps.specs.Course.{course_of, output};
 ghost use Rattle.script_steps.specs.Going.{Extends};
 ghost use Rattle.scenario_grid.specs.Scenario.{scenario_of};

@@ -1,27 +1,13 @@
--- What a bench was called for: begin, go on, break off.
+-- What a bench was called for: go on, break off.
 use Rattle.std.proofs.Common.{◌≡◌, ℕ, ◌+◌, Bool, List, [], ◌++◌, length, take, Option, Result, Ok, Err, refl, sym, ◌∙◌, ap, arith}
 use Rattle.std.proofs.Math.Seq.{take-append-add}
 use Rattle.std.proofs.lemmas.List.{length-append, take_all, take-append-le}
 use Rattle.desk_terms.specs.Bench.{counted, logged}
-use Rattle.session_rounds.proofs.Going.{counted_more, logged_more, logged_none}
-use Rattle.script_steps.specs.Calls.{Makes, Begins, Calls}
+use Rattle.session_rounds.proofs.Going.{counted_more, logged_more}
+use Rattle.tool_run.specs.Calls.{Makes, Begins, Calls}
 
 abbrev Log : Type 0
 Log = Option (List (ℕ × Bool))
-
--- nothing was called for yet
-pub begins_none : (calls : List (ℕ × Bool)) (count : ℕ) (log : Log) → Begins calls count count log log
-begins_none calls count log = record {
-  begun = 0;
-  ended = 0;
-  most = omega arith;
-  last = (omega arith, omega arith);
-  count = refl;
-  log = logged_none log;
-}
-
-pub makes_none : (count : ℕ) (log : Log) → Makes [] count count log log
-makes_none count log = record { count = refl; log = logged_none log }
 
 -- all of it was made
 pub makes_begins : (calls : List (ℕ × Bool)) (count now : ℕ) (log log_now : Log) → Makes calls count now log log_now

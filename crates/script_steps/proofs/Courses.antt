@@ -8,7 +8,7 @@ use Rattle.session_model.specs.Rounds.{rounds, lines_of, calls_in, transcript, c
 use Rattle.session_rounds.specs.Goes.{Output, Does, Halts}
 use Rattle.session_rounds.proofs.Going.{joined}
 use Rattle.grid_model.specs.Scenario.{ordered, after}
-use Rattle.script_steps.specs.Calls.{Makes, Begins}
+use Rattle.tool_run.specs.Calls.{Makes, Begins}
 use Rattle.script_steps.specs.Course.{course_of, output}
 
 abbrev Log : Type 0

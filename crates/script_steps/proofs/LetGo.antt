@@ -8,7 +8,7 @@ use Rattle.session_model.specs.Course.{Running, Course, round_of}
 use Rattle.session_model.specs.Rounds.{calls_of}
 use Rattle.session_rounds.specs.Goes.{Output, Does, Halts, Stays}
 use Rattle.grid_model.specs.Scenario.{ordered, after}
-use Rattle.script_steps.specs.Calls.{Makes, Begins}
+use Rattle.tool_run.specs.Calls.{Makes, Begins}
 use Rattle.script_steps.specs.Course.{course_of, output}
 use Rattle.script_steps.proofs.Courses.{course_next, course_makes, course_begins}
 use Rattle.script_steps.proofs.Steps.{Progress, progress_none, progress_next, progress_last, progress_more, progress_halts, progress_done, does_of, halts_of}

@@ -2,7 +2,6 @@ mod Asks
 mod First
 mod LetGo
 mod Money
-mod Shaping
 pub mod Blocks
 pub mod Calling
 pub mod Courses
@@ -10,4 +9,3 @@ pub mod Named
 pub mod Past
 pub mod Plays
 pub mod Steps
-pub mod There

@@ -1,8 +1,9 @@
 -- One block after the other: what is done, and what is left.
 use Rattle.std.proofs.Common.{◌≡◌, ℕ, Bool, List, [], ◌∷◌, ◌++◌, Option, refl, sym, ◌∙◌, ap, subst}
 use Rattle.std.proofs.lemmas.List.{append_assoc, append-nil}
-use Rattle.script_steps.specs.Calls.{Makes, Begins}
-use Rattle.script_steps.proofs.Calling.{makes_none, makes_both, begins_first, begins_second}
+use Rattle.tool_run.specs.Calls.{Makes, Begins}
+use Rattle.script_steps.proofs.Calling.{makes_both, begins_first, begins_second}
+use Rattle.tool_run.proofs.Calling.{makes_none}
 
 abbrev Log : Type 0
 Log = Option (List (ℕ × Bool))

@@ -1,6 +1,5 @@
 pub mod Basis
 pub mod Block
-pub mod Calls
 pub mod Course
 pub mod Going
 pub mod Kept

@@ -1,7 +1,11 @@
 -- The exit codes, and the words on standard error behind the program's name (this project's profile).
-use Rattle.std.specs.Prelude.{ℕ, List, ◌++◌, codes, decimal, Option, Some}
+use Rattle.std.proofs.Common.{refl, ap}
+use Rattle.std.specs.Prelude.{◌≡◌, ℕ, List, ◌++◌, codes, decimal, Option, Some}
+use Rattle.desk_plan.specs.declared.status.Status.{Status}
+use Rattle.desk_plan.specs.declared.status.Status.TheVariants.{Done, Usage, WriteFault, NoMemory}
 use Rattle.desk_plan.specs.Status as script
-use Rattle.tool_run.specs.Stage.{Stage, Refused}
+use Rattle.tool_run.specs.Endings.{Endings, AreEndings}
+use Rattle.tool_run.specs.Stage.{Stage, Refused, IsHalted}
 use Rattle.script_steps.specs.declared.status.BlocksStatus.{BlocksStatus}
 use Rattle.script_steps.specs.declared.status.BlocksStatus.TheVariants.{Of, Shape}
 
@@ -22,3 +26,14 @@ said_of (Shape fault) = Some (words_of (Shape fault))
 abbrev pub stage_of : BlocksStatus → Stage
 stage_of (Of status) = script.stage_of status
 stage_of (Shape fault) = Refused
+
+-- how far each came, and those that every tool has
+abbrev pub blocks_ends : Endings BlocksStatus
+blocks_ends = record { stage_of = stage_of; done = Of Done; usage = Of Usage; cut = Of WriteFault; halted = Of NoMemory }
+
+blocks_memory : (status : BlocksStatus) → IsHalted (stage_of status) → status ≡ Of NoMemory
+blocks_memory (Of status) halted = ap (λ (s : Status). Of s) (script.script_ends_sound.memory status halted)
+blocks_memory (Shape fault) halted = absurd halted
+
+pub blocks_ends_sound : AreEndings blocks_ends
+blocks_ends_sound = record { done = refl; usage = refl; cut = refl; halted = refl; memory = blocks_memory }

@@ -4,7 +4,7 @@ ghost use Rattle.desk_model.specs.Sound.{IsSound};
 ghost use Rattle.session_model.specs.Standing.{IsKnown};
 ghost use Rattle.session_model.specs.Rounds.{calls_of};
 ghost use Rattle.grid_model.specs.Scenario.{ordered, after};
-ghost use Rattle.script_steps.specs.Calls.{Calls};
+ghost use Rattle.tool_run.specs.Calls.{Calls};
 
 use desk_terms::Bench;
 use session_commands::Command;

@@ -2,6 +2,7 @@
 use desk_plan::{Status, StatusWords};
 use std::fmt;
 use tool_process::Ending;
+use tool_run::ToolStatus;
 
 /// How a run over a script of blocks ended.
 #[derive(Clone, Copy, PartialEq, Eq)]
@@ -44,6 +45,26 @@ impl Ending for BlocksStatus {
         }
         Some(BlocksWords(*self))
     }
+}
+
+impl ToolStatus for BlocksStatus {
+    ghost use Rattle.script_steps.specs.Status.{blocks_ends, blocks_ends_sound};
+
+    ghost ends = { blocks_ends };
+
+    fn done() -> Self {
+        BlocksStatus::Of(Status::Done)
+    }
+
+    fn cut() -> Self {
+        BlocksStatus::Of(Status::WriteFault)
+    }
+
+    fn halted() -> Self {
+        BlocksStatus::Of(Status::NoMemory)
+    }
+
+    ghost sound = { blocks_ends_sound };
 }
 
 /// What the line of a status on standard error says behind the program's name.

@@ -4,9 +4,9 @@ use Rattle.std.specs.String.{string_bytes}
 use Rattle.desk_edge.specs.Shelf.{files_of}
 use Rattle.desk_plan.specs.Found.{run_in}
 use Rattle.desk_plan.specs.Verdict.{ScriptRun}
-use Rattle.script_steps.specs.Calls.{Makes, Begins}
+use Rattle.tool_run.specs.Calls.{Makes, Begins}
 use Rattle.grid_shape.specs.declared.shape.Blocks.TheVariants.{Steps}
-use Rattle.script_steps.proofs.Calling.{begins_none}
+use Rattle.tool_run.proofs.Calling.{begins_none}
 use Rattle.script_steps.proofs.There.{blocks_there}
 use Rattle.tool_run.proofs.Early.{early_or_none}
 use Rattle.script_steps.specs.Status.{stage_of}

@@ -7,7 +7,8 @@ use Rattle.grid_report.specs.Shown.{row_in, rows_in}
 use Rattle.grid_report.specs.declared.shown.Shown.{Shown}
 use Rattle.grid_report.proofs.Rows.{rows_push}
 use Rattle.script_steps.specs.Block.{block_of}
-use Rattle.script_steps.proofs.Calling.{begins_none, calls_any}
+use Rattle.script_steps.proofs.Calling.{calls_any}
+use Rattle.tool_run.proofs.Calling.{begins_none}
 use Rattle.script_steps.proofs.Courses.{course_begins}
 use Rattle.script_steps.proofs.Steps.{on_ok, ok_more}
 use Rattle.explain_run.proofs.Going.{heading_text}

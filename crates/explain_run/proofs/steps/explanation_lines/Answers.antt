@@ -1,6 +1,6 @@
 use Rattle.std.proofs.lemmas.Result.{err_from_is_err_and}
 use Rattle.script_steps.specs.Basis.{basis_in}
-use Rattle.script_steps.proofs.Calling.{begins_none}
+use Rattle.tool_run.proofs.Calling.{begins_none}
 use Rattle.script_steps.proofs.Plays.{first_named}
 use Rattle.explain_run.proofs.steps.explanation_lines.Goals as goal
 

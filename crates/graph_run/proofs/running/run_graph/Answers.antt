@@ -7,8 +7,8 @@ use Rattle.desk_plan.specs.Found.{run_in}
 use Rattle.desk_plan.specs.Status.{stage_of}
 use Rattle.desk_plan.specs.Verdict.{ScriptRun}
 use Rattle.desk_plan.proofs.There.{run_there}
-use Rattle.script_steps.specs.Calls.{Makes, Begins}
-use Rattle.script_steps.proofs.Calling.{begins_none}
+use Rattle.tool_run.specs.Calls.{Makes, Begins}
+use Rattle.tool_run.proofs.Calling.{begins_none}
 use Rattle.tool_run.specs.Words.{Pair}
 use Rattle.tool_run.proofs.Asking.{told_there}
 use Rattle.tool_run.proofs.Early.{early_or_none}

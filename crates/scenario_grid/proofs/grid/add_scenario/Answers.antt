@@ -3,7 +3,8 @@ use Rattle.std.proofs.lemmas.Result.{err_from_is_err_and}
 use Rattle.grid_model.specs.Grid.{Row, label_text}
 use Rattle.grid_report.specs.Shown.{row_in, rows_in}
 use Rattle.grid_report.specs.declared.shown.Shown.{Shown}
-use Rattle.script_steps.proofs.Calling.{begins_none, calls_any}
+use Rattle.script_steps.proofs.Calling.{calls_any}
+use Rattle.tool_run.proofs.Calling.{begins_none}
 use Rattle.grid_report.proofs.Rows.{rows_push}
 use Rattle.scenario_grid.proofs.Grids.{heading_text}
 use Rattle.script_steps.proofs.Steps.{on_ok, ok_more}

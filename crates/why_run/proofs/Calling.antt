@@ -7,7 +7,7 @@ use Rattle.desk_model.specs.State.{State}
 use Rattle.desk_model.specs.Visit.{log_of}
 use Rattle.bump_model.specs.Asking.{Asking, Asks, Made, MadeFront}
 use Rattle.session_core.proofs.Turns.{log_length}
-use Rattle.script_steps.specs.Calls.{Makes, Begins, Calls}
+use Rattle.tool_run.specs.Calls.{Makes, Begins, Calls}
 use Rattle.script_steps.proofs.Calling.{makes_both, begins_second}
 
 abbrev Log : Type 0

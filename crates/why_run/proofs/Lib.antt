@@ -1,2 +1,1 @@
 mod Calling
-mod There

@@ -2,16 +2,28 @@
 use Rattle.std.specs.Prelude.{ℕ, Bool, List, ◌++◌}
 use Rattle.desk_terms.specs.Reading.{Calc}
 use Rattle.desk_model.specs.Visit.{log_of}
+use Rattle.desk_plan.specs.Asking.{Wanted, script_asks}
+use Rattle.desk_plan.specs.declared.status.Status.{Status}
 use Rattle.script_steps.specs.Played.{script_end, script_calls}
-use Rattle.why_model.specs.Answer.{why_text}
 use Rattle.session_why.specs.Computed.{why_asking}
-use Rattle.why_run.specs.Verdict.{Wanted}
+use Rattle.tool_run.specs.Tool.{Tool}
+use Rattle.why_model.specs.Answer.{why_text}
+use Rattle.why_run.specs.Words.{Triple, triple_of}
 
 -- THE ANSWER for the name over the session of the script as it stands behind its last command
-abbrev pub output_in : Calc → Wanted → List ℕ
-output_in calc wanted = why_text calc (script_end calc wanted.run).standing wanted.name
+abbrev pub output_in : Calc → Wanted Triple → List ℕ
+output_in calc wanted = why_text calc (script_end calc wanted.run).standing wanted.request.name
 
 -- the computations of the commands, and then those of the answer
-abbrev pub computed_in : Calc → Wanted → List (ℕ × Bool)
+abbrev pub computed_in : Calc → Wanted Triple → List (ℕ × Bool)
 computed_in calc wanted =
-    script_calls calc wanted.run ++ log_of (why_asking calc (script_end calc wanted.run).standing wanted.name).calls
+    script_calls calc wanted.run ++ log_of (why_asking calc (script_end calc wanted.run).standing wanted.request.name).calls
+
+-- THE TOOL: its words are `MARKET SCRIPT NAME`
+abbrev pub why_tool : Tool Triple (Wanted Triple) Status
+why_tool = record {
+  asks = script_asks triple_of (λ triple. triple.market) (λ triple. triple.script);
+  output = output_in;
+  computed = computed_in;
+  NeedsBench = λ wanted. Unit {0};
+}

@@ -7,12 +7,14 @@ ghost use Rattle.session_model.specs.Standing.{IsKnown};
 ghost use Rattle.grid_model.specs.Scenario.{ordered, after};
 ghost use Rattle.why_model.specs.Answer.{why_text};
 ghost use Rattle.session_why.specs.Computed.{why_asking};
+ghost use Rattle.desk_plan.specs.Asking.{found_in};
 ghost use Rattle.desk_plan.specs.Found.{CanRun};
-ghost use Rattle.script_steps.specs.Calls.{Calls};
+ghost use Rattle.tool_run.specs.Calls.{Calls};
 ghost use Rattle.why_run.specs.Answering.{output_in, computed_in};
-ghost use Rattle.why_run.specs.Verdict.{wanted_in};
+ghost use Rattle.why_run.specs.Words.{triple_in};
 
-use crate::wanted::Wanted;
+use crate::words::Triple;
+use desk_plan::FoundRun;
 use desk_terms::Bench;
 use market_session::begun;
 use script_steps::play_all;
@@ -25,16 +27,16 @@ use watch_rounds::Order;
 // The answer for a name over the session of a script behind its last command.
 pub(crate) fn text_of<B: Bench>(
     alloc: Global,
-    wanted: Wanted<'_>,
+    found: FoundRun<Triple<'_>>,
     bench: &mut B,
 ) -> Result<Vec<u8>, AllocError>
-    requires can { CanRun wanted.run }
-    ensures text { IfOk result (λ text. text.items ≡ output_in (B.calc bench.old) (wanted_in wanted.entry)) }
-    ensures calls { Calls (computed_in (B.calc bench.old) (wanted_in wanted.entry)) result
+    requires can { CanRun found.run }
+    ensures text { IfOk result (λ text. text.items ≡ output_in (B.calc bench.old) (found_in triple_in found.entry)) }
+    ensures calls { Calls (computed_in (B.calc bench.old) (found_in triple_in found.entry)) result
         (B.count bench.old) (B.count bench.new) (B.log bench.old) (B.log bench.new) }
     ensures same { B.calc bench.new ≡ B.calc bench.old }
 {
-    let Wanted { run, name } = wanted;
+    let FoundRun { run, request } = found;
     let (mut session, commands) = begun(
         alloc,
         run.market.names,
@@ -47,7 +49,7 @@ pub(crate) fn text_of<B: Bench>(
         alloc,
         &mut session,
         commands.items(),
-        name.as_bytes(),
+        request.name.as_bytes(),
         bench,
     )
 }

@@ -8,7 +8,6 @@
 mod answering;
 mod rows;
 mod running;
-mod wanted;
 mod words;
 
 pub use desk_plan::Status;

@@ -1,8 +1,8 @@
 // The words of the command line.
-ghost use Rattle.std.specs.Prelude.{◌≡◌, ◌∷◌, [], map, option_map};
-ghost use Rattle.std.specs.String.{string_bytes};
+ghost use Rattle.std.specs.Prelude.{◌≡◌, ◌∷◌, [], option_map};
 ghost use Rattle.why_run.specs.Words.{triple_in, triple_of};
 
+use desk_plan::ScriptRequest;
 use tool_run::is_word;
 
 // The path of a market, that of a script, and a name.
@@ -13,13 +13,32 @@ pub(crate) struct Triple<'a> {
     pub(crate) name: &'a str,
 }
 
-// The three that words are, if they are three that are taken.
-pub(crate) fn triple_of(words: &[String]) -> Option<Triple<'_>>
-    ensures { option_map triple_in result ≡ triple_of (map string_bytes words.now) }
-{
-    match words {
-        [market, script, name] => triple_with(market, script, name),
-        _ => None,
+impl<'a> ScriptRequest<'a> for Triple<'a> {
+    ghost use Rattle.why_run.specs.Words.{Triple, triple_in, triple_of};
+
+    ghost Meaning = { Triple };
+
+    ghost meaning = { triple_in };
+
+    ghost market = { λ triple. triple.market };
+
+    ghost script = { λ triple. triple.script };
+
+    ghost request_of = { triple_of };
+
+    fn from_words(words: &'a [String]) -> Option<Self> {
+        match words {
+            [market, script, name] => triple_with(market, script, name),
+            _ => None,
+        }
+    }
+
+    fn market(self) -> &'a str {
+        self.market
+    }
+
+    fn script(self) -> &'a str {
+        self.script
     }
 }
 

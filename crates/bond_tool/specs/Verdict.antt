@@ -1,11 +1,9 @@
--- Whether words and files are accepted, and what is done then (this project's profile).
-use Rattle.std.specs.Prelude.{ℕ, List, Result}
-use Rattle.market_loader.specs.Files.{Files}
+-- What a program about a bond asks of words and files, and what it writes (this project's profile).
+use Rattle.std.specs.Prelude.{ℕ, List, []}
 use Rattle.tool_run.specs.declared.status.MarketStatus.{MarketStatus}
-use Rattle.tool_run.specs.declared.status.MarketStatus.TheVariants.{Usage}
-use Rattle.tool_run.specs.Market.{wanted_from, calls_from}
+use Rattle.tool_run.specs.Market.{market_asks}
 use Rattle.tool_run.specs.Market as tool
-use Rattle.tool_run.specs.Run.{asked, calls_for}
+use Rattle.tool_run.specs.Tool.{Tool}
 use Rattle.bond_tool.specs.Lines.{market_text}
 use Rattle.bond_tool.specs.Wording.{Wording}
 use Rattle.bond_tool.specs.Words.{Request, request_of}
@@ -14,14 +12,15 @@ use Rattle.bond_tool.specs.Words.{Request, request_of}
 abbrev pub Wanted : Type 0
 Wanted = tool.Wanted Request
 
--- what is to be done for words, or the status with which it is refused
-abbrev pub verdict_of : Files → List (List ℕ) → Result Wanted MarketStatus
-verdict_of files words = asked Usage (wanted_from (λ (request : Request). request.market)) (request_of words) files
-
--- the most calls of a shelf for them
-abbrev pub reading_calls : Files → List (List ℕ) → ℕ
-reading_calls files words = calls_for (calls_from (λ (request : Request). request.market)) (request_of words) files
-
 -- the bytes that are written
 abbrev pub output_in : Wording → Wanted → List ℕ
 output_in said wanted = market_text said wanted.market wanted.request.name wanted.request.settle wanted.request.clean
+
+-- the tool that it is: it computes no price
+abbrev pub bond_tool : Wording → Tool Request Wanted MarketStatus
+bond_tool said = record {
+  asks = market_asks request_of (λ request. request.market);
+  output = λ calc wanted. output_in said wanted;
+  computed = λ calc wanted. [];
+  NeedsBench = λ wanted. ⊥;
+}

@@ -1,14 +1,10 @@
 // The call of the program.
-ghost use Rattle.std.specs.Prelude.{◌≡◌, ◌⊎◌, ◌↔◌, ◌+◌, ◌≤◌, map, None, IfOk, IfSome};
+ghost use Rattle.std.specs.Prelude.{map};
 ghost use Rattle.std.specs.String.{string_bytes};
-ghost use Rattle.desk_edge.specs.Count.{Rose};
-ghost use Rattle.desk_edge.specs.Shelf.{files_of};
-ghost use Rattle.market_loader.specs.declared.faults.MarketRole.{MarketRole};
-ghost use Rattle.tool_run.specs.Run.{status_of, given_for, IsAccepted, IsThere};
-ghost use Rattle.tool_run.specs.Stage.{IsOutside, IsEarly, IsQuiet, Writes, faults_then};
-ghost use Rattle.tool_run.specs.Status.{stage_of};
-ghost use Rattle.measure_run.specs.Verdict.{Wanted as Asked, verdict_of, output_in, reading_calls};
-ghost use Rattle.bond_tool.specs.Words.{request_of};
+ghost use Rattle.tool_run.specs.Idle.{no_bench};
+ghost use Rattle.tool_run.specs.Status.{market_ends};
+ghost use Rattle.tool_run.specs.Tool.{IsRun, shelf_turn, sink_turn};
+ghost use Rattle.measure_run.specs.Verdict.{measure_tool};
 
 use crate::MeasureTool;
 use bond_tool::run_bond;
@@ -29,39 +25,8 @@ pub fn run_measure<H: Shelf, K: Sink>(
     shelf: &mut H,
     out: &mut K,
 ) -> MarketStatus
-    // The status is that of the words and the files, but for a fault outside or want of memory.
-    ensures status { IfSome (files_of (H.contents shelf.old)) (λ files.
-        IsOutside (stage_of result) ⊎ (result ≡ status_of MarketStatus.Done (verdict_of files (map string_bytes words.now)))) }
-    ensures usage { (result ≡ MarketStatus.Usage) ↔ (request_of (map string_bytes words.now) ≡ None) }
-    // Memory is wanted only where the market's file is there.
-    ensures there { IfSome (files_of (H.contents shelf.old)) (λ files.
-        result ≡ MarketStatus.NoMemory → IsThere (request_of (map string_bytes words.now)) (λ request. request.market) files) }
-
-    // What is accepted is done, where no fault is counted and memory is found.
-    ensures complete { IfSome (files_of (H.contents shelf.old)) (λ files.
-        IsAccepted (verdict_of files (map string_bytes words.now))
-        → IsQuiet (H.faults shelf.old) (H.faults shelf.new) → IsQuiet (K.faults out.old) (K.faults out.new)
-        → (result ≡ MarketStatus.Done) ⊎ (result ≡ MarketStatus.NoMemory)) }
-
-    // At Done the bytes written are the lines; after a fault of writing they are a front of them, and else there are none. `carried` says so of
-    // files told or not.
-    ensures written { IfSome (files_of (H.contents shelf.old)) (λ files.
-        Writes (K.bytes out.old) (K.bytes out.new) (given_for output_in (verdict_of files (map string_bytes words.now))) (stage_of result)) }
-    ensures nothing { IsEarly (stage_of result) → out.new ≡ out.old }
-
-    ensures carried { IsEarly (stage_of result) ⊎ ((asked : Asked) × Writes (K.bytes out.old) (K.bytes out.new) (output_in asked) (stage_of result)) }
-
-    // Each fault was counted.
-    ensures read { result ≡ MarketStatus.ReadFault → Rose (H.faults shelf.old) (H.faults shelf.new) }
-    // A call of the shelf that failed is the answer, and was the last: any call may fail, and one more would be counted too.
-    ensures counted { H.faults shelf.new ≡ faults_then (stage_of result) (H.faults shelf.old) }
-    ensures write { result ≡ MarketStatus.WriteFault → Rose (K.faults out.old) (K.faults out.new) }
-    ensures absent { (role : MarketRole) → result ≡ MarketStatus.Absent role → Rose (H.misses shelf.old) (H.misses shelf.new) }
-    ensures files { files_of (H.contents shelf.new) ≡ files_of (H.contents shelf.old) }
-
-    // Each file is read once, in the order above, and none behind the first failure.
-    ensures calls { IfSome (files_of (H.contents shelf.old)) (λ files.
-        H.calls shelf.new ≤ H.calls shelf.old + reading_calls files (map string_bytes words.now)) }
+    ensures { IsRun market_ends measure_tool (map string_bytes words.now) result
+        (shelf_turn H.contents H.faults H.misses H.calls shelf.old shelf.new) (sink_turn K.bytes K.faults out.old out.new) no_bench }
 {
     run_bond::<MeasureTool, H, K>(alloc, words, shelf, out)
 }

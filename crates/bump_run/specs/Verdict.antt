@@ -1,35 +1,19 @@
--- Whether words and files are accepted, and what is done then (this project's profile).
-use Rattle.std.specs.Prelude.{ℕ, List, Result}
-use Rattle.desk_terms.specs.Reading.{Outcome, Calc}
+-- What the tool is (this project's profile).
+use Rattle.desk_model.specs.Visit.{log_of}
 use Rattle.market_desk.specs.Standing.{standing_of}
-use Rattle.market_loader.specs.Files.{Files}
 use Rattle.tool_run.specs.declared.status.MarketStatus.{MarketStatus}
-use Rattle.tool_run.specs.declared.status.MarketStatus.TheVariants.{Usage}
-use Rattle.tool_run.specs.Market.{wanted_from, calls_from}
-use Rattle.tool_run.specs.Market as tool
-use Rattle.tool_run.specs.Run.{asked, calls_for}
+use Rattle.tool_run.specs.Market.{Wanted, market_asks}
+use Rattle.tool_run.specs.Tool.{Tool}
 use Rattle.tool_run.specs.Words.{Pair, pair_of}
 use Rattle.bump_run.specs.Lines.{bump_text, bump_calls, IsNamed}
 
--- a market, and the words `MARKET NAME`, the second of which is the name of the instrument that is wanted
-abbrev pub Wanted : Type 0
-Wanted = tool.Wanted Pair
-
--- what is to be done for words, or the status with which it is refused
-abbrev pub verdict_of : Files → List (List ℕ) → Result Wanted MarketStatus
-verdict_of files words = asked Usage (wanted_from (λ (pair : Pair). pair.market)) (pair_of words) files
-
--- the most calls of a shelf for them
-abbrev pub reading_calls : Files → List (List ℕ) → ℕ
-reading_calls files words = calls_for (calls_from (λ (pair : Pair). pair.market)) (pair_of words) files
-
--- the bytes that are written, and the computations that are made
-abbrev pub output_in : Calc → Wanted → List ℕ
-output_in calc wanted = bump_text calc (standing_of wanted.market) wanted.request.other
-
-abbrev pub computed_in : Calc → Wanted → List (ℕ × Outcome)
-computed_in calc wanted = bump_calls calc (standing_of wanted.market) wanted.request.other
-
--- the name is an instrument's, so that a line tells how many computations were made
-abbrev pub HasInstrument : Wanted → Type 0
-HasInstrument wanted = IsNamed (standing_of wanted.market) wanted.request.other
+-- THE TOOL: it asks for a market by the words `MARKET NAME`, the second of which is the name of the instrument that is wanted. Its text
+-- is the lines of the name, for which it makes these computations; it needs a bench where the name is an instrument's, so that a
+-- line tells how many were made
+abbrev pub bump_tool : Tool Pair (Wanted Pair) MarketStatus
+bump_tool = record {
+  asks = market_asks pair_of (λ (pair : Pair). pair.market);
+  output = λ calc wanted. bump_text calc (standing_of wanted.market) wanted.request.other;
+  computed = λ calc wanted. log_of (bump_calls calc (standing_of wanted.market) wanted.request.other);
+  NeedsBench = λ wanted. IsNamed (standing_of wanted.market) wanted.request.other;
+}

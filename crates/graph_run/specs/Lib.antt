@@ -1,4 +1,3 @@
 pub mod Drawing
 pub mod Rows
-pub mod Verdict
 pub mod Words

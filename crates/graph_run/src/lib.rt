@@ -7,7 +7,6 @@
 mod drawing;
 mod rows;
 mod running;
-mod wanted;
 mod words;
 
 pub use desk_plan::Status;

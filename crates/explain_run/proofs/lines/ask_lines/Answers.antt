@@ -1,5 +1,4 @@
-use Rattle.std.proofs.Common.{◌≡◌, ◌++◌, ◌+◌, ℕ, ℤ, List, Option, ◌∙◌, ap, subst}
-use Rattle.std.specs.Prelude.{OnOk}
+use Rattle.std.proofs.Common.{◌++◌, ◌+◌, ℤ, Option, ◌∙◌, ap, subst}
 use Rattle.grid_model.specs.Grid.{column}
 use Rattle.grid_report.specs.Shown.{rows_in}
 use Rattle.explain_model.specs.declared.told.Told.{Told}

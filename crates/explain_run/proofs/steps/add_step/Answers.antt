@@ -1,12 +1,11 @@
-use Rattle.std.proofs.Common.{◌≡◌, ◌++◌, ◌∷◌, [], ℕ, ℤ, List, Option, ◌∙◌, ap}
+use Rattle.std.proofs.Common.{◌++◌, ◌∷◌, [], ℕ, ℤ, List, Option, ◌∙◌, ap}
 use Rattle.std.proofs.lemmas.Result.{err_from_is_err_and}
 use Rattle.session_rounds.specs.Goes.{Output}
-use Rattle.grid_model.specs.Scenario.{ordered, after, values_of}
+use Rattle.grid_model.specs.Scenario.{after, values_of}
 use Rattle.grid_model.specs.Grid.{Row, label_text}
 use Rattle.grid_report.specs.Shown.{row_in, rows_in}
 use Rattle.grid_report.specs.declared.shown.Shown.{Shown}
 use Rattle.grid_report.proofs.Rows.{rows_push}
-use Rattle.script_steps.specs.Block.{block_of}
 use Rattle.script_steps.proofs.Calling.{calls_any}
 use Rattle.tool_run.proofs.Calling.{begins_none}
 use Rattle.script_steps.proofs.Courses.{course_begins}

@@ -2,6 +2,7 @@ pub mod Chaining
 pub mod Curving
 pub mod Days
 pub mod Giving
+pub mod Logging
 pub mod Naming
 pub mod Paying
 pub mod Rungs

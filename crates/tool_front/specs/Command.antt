@@ -11,7 +11,7 @@ use Rattle.tool_run.specs.Idle.{no_bench}
 use Rattle.tool_run.specs.Status as market
 use Rattle.tool_run.specs.Tool.{Tool, ShelfTurn, SinkTurn, BenchTurn, IsRun}
 use Rattle.bump_run.specs.Verdict.{bump_tool}
-use Rattle.explain_run.specs.Verdict.{explain_tool}
+use Rattle.explain_run.specs.Tool.{explain_tool}
 use Rattle.graph_run.specs.Drawing.{graph_tool}
 use Rattle.grid_run.specs.Verdict.{grid_tool}
 use Rattle.measure_run.specs.Verdict.{measure_tool}

@@ -170,7 +170,7 @@ def main(words):
     is_unverified = subprocess.run([folder / "doqs", "--version"], capture_output=True).stdout.endswith(b"\nunverified build\n")
     others = [it.name for it in folder.iterdir()]
     bad = 0
-    with tempfile.TemporaryDirectory() as ROOM, concurrent.futures.ThreadPoolExecutor(len(os.sched_getaffinity(0))) as pool:
+    with tempfile.TemporaryDirectory() as ROOM, concurrent.futures.ThreadPoolExecutor(os.cpu_count()) as pool:
         for name in words[1:] or [*RUNS, "cuts", *COMMANDS, *LIVES]:
             cases = list(cut_markets() if name == "cuts" else runs(name, is_quick, is_unverified, others))
             agree = list(pool.map(lambda it: bool(it[1]) and all(run.agrees(folder) for run in it[1]), cases))

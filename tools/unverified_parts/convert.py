@@ -128,10 +128,6 @@ def derived(found):
     return "#[derive(%s)]" % ", ".join(words) if words else ""
 
 
-def unchecked(text):
-    return text
-
-
 def convert(text, path):
     text = strip(text)
     text = re.sub(r"^(\s*)//[/!]", r"\1//", text, flags=re.M)
@@ -158,7 +154,6 @@ def convert(text, path):
     text, count = re.subn(r"^fn main\(", "fn main_of(", text, flags=re.M)
     if count:
         text += "\nfn main() -> std::process::ExitCode {\n    std::start(main_of)\n}\n"
-    # Where a function has no body, its contract is a law.
     head = "#![no_std]\n#![allow(dead_code, unused)]\n#[macro_use]\nextern crate rt_std as std;\n" if path.endswith(("lib.rt", "main.rt")) else ""
     lines = text.split("\n")
     docs = 0
@@ -168,11 +163,17 @@ def convert(text, path):
     return "\n".join(lines[:docs]) + "\n" + head + "#[allow(unused_imports)]\nuse std::prelude::lab::*;\n" + "\n".join(lines[docs:])
 
 
+def read(path):
+    with open(path, encoding="utf-8") as file:
+        return file.read()
+
+
 def write(path, text):
-    if os.path.exists(path) and open(path).read() == text:
+    if os.path.exists(path) and read(path) == text:
         return
     os.makedirs(os.path.dirname(path), exist_ok=True)
-    open(path, "w").write(text)
+    with open(path, "w", encoding="utf-8") as file:
+        file.write(text)
 
 
 def manifest(name, deps, extra=""):
@@ -184,7 +185,7 @@ def manifest(name, deps, extra=""):
 def libraries(top, programs):
     """What crates.txt says that each crate depends on, of these programs and of all that they depend on."""
     deps, needed = {}, {}
-    for line in open(f"{top}/crates.txt"):
+    for line in read(f"{top}/crates.txt").split("\n"):
         line = line.split("#")[0].strip()
         if line:
             name, rest = line.split(":", 1)
@@ -213,10 +214,10 @@ def make(top, out, profile):
             for file in files:
                 path = os.path.join(folder, file)
                 if file.endswith(".rt") and "tests" not in os.path.relpath(path, source):
-                    put(f"{name}/src/{os.path.relpath(path, source)[:-3]}.rs", convert(open(path).read(), path))
+                    put(f"{name}/src/{os.path.relpath(path, source)[:-3]}.rs", convert(read(path), path))
         put(f"{name}/Cargo.toml", manifest(name, ["rt_std", *(it for it in deps if it in needed or it in SHIMS)]))
     for shim in SHIMS:
-        put(f"{shim}/src/lib.rs", open(f"{HERE}/shims/{shim}.rs").read())
+        put(f"{shim}/src/lib.rs", read(f"{HERE}/shims/{shim}.rs"))
         put(f"{shim}/Cargo.toml", manifest(shim, {"rt_std": [], "jiff": ["rt_std", "jiff_core"]}.get(shim, ["rt_std"])))
     members = ", ".join(f'"{name}"' for name in [*SHIMS, *needed])
     put("Cargo.toml", f'[workspace]\nresolver = "2"\nmembers = [{members}]\n\n[profile.release]\n' + "".join(f"{it}\n" for it in profile))

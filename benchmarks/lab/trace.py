@@ -61,7 +61,9 @@ class Sources:
         name = made[at][1]
         # The lab leaves out whole blocks of a source (`impl Model`, `impl Drop`): the functions of one name keep their order.
         nth = sum(it == name for _, it in made[:at])
-        return file, [begun for begun, it in written if it == name][nth], name
+        found = [begun for begun, it in written if it == name]
+        # What the conversion adds, as the `main` that hands on to the program's, stands in no source.
+        return (file, found[nth], name) if nth < len(found) else None
 
 
 def traced():

@@ -161,7 +161,7 @@ def manual_sections(top):
     """The sections of the manuals that a row names and that have no such heading; and words of the tables that no
     manual has."""
     lost = []
-    manuals = {it: (top / "docs" / it).read_text() for it in ("MARKET.md", "SCRIPT.md")}
+    manuals = {it: (top / "docs" / it).read_text() for it in ("reference/market.md", "reference/script.md")}
     headings = {it: re.findall(r"(?m)^#+ (.*)$", text) for it, text in manuals.items()}
     for file, section in set(
         re.findall(r'manual: docs/(\S+), "(.*)"', lines_of(top / "tools" / "desk_fault_rows" / "rows"))
@@ -169,10 +169,10 @@ def manual_sections(top):
         if section not in headings[file]:
             lost.append(f'docs/{file} has no section "{section}"')
     for word in {*CALENDARS, *OBJECTS, *(key for keys in (*CALENDARS.values(), *OBJECTS.values()) for key in keys)}:
-        if not re.search(rf"\b{word}\b", manuals["MARKET.md"]):
-            lost.append(f"docs/MARKET.md does not name `{word}`")
+        if not re.search(rf"\b{word}\b", manuals["reference/market.md"]):
+            lost.append(f"docs/reference/market.md does not name `{word}`")
     lost += [
-        f"docs/SCRIPT.md does not name `{it}`" for it in COMMAND if not re.search(rf"\b{it}\b", manuals["SCRIPT.md"])
+        f"docs/reference/script.md does not name `{it}`" for it in COMMAND if not re.search(rf"\b{it}\b", manuals["reference/script.md"])
     ]
     return lost
 

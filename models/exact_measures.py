@@ -8,7 +8,7 @@
 
 MODEL is the folder of an independent model of schedules, a package of Python that this repository does not have. CASES are the columns
 `market,terms,after,yield` of crates/price_vectors/data/derivatives.csv, over the calendars of its curves.csv. Each mode but `ask` writes the rows of its file
-there: of the yield at the whole part of the price and of each measure the figure of the plain model, another, and the bound of the gap, as docs/MEASURE.md
+there: of the yield at the whole part of the price and of each measure the figure of the plain model, another, and the bound of the gap, as docs/reference/measure.md
 derives it. The other is by derivatives (`derivatives`), by QuantLib's prices a basis point apart (`prices`), or by its own duration and convexity
 (`formulas`). `ask` writes what benchmarks/measures_quantlib.cpp reads, and FIGURES is what that writes. All but FIGURES is in fifty digits.
 """

@@ -1,20 +1,26 @@
--- Whether words and files are accepted, and what is done then (this project's profile).
-use Rattle.std.specs.Prelude.{ℕ, Bool, List, Result}
+-- What is asked of words and files, what is written, and what is computed for it (this project's profile).
+use Rattle.std.specs.Prelude.{ℕ, Bool, List}
 use Rattle.desk_plan.specs.Verdict.{ScriptRun}
 use Rattle.desk_terms.specs.Reading.{Calc}
 use Rattle.grid_model.specs.Grid.{grid, grid_calls}
 use Rattle.grid_shape.specs.declared.shape.Blocks.TheVariants.{Scenarios}
-use Rattle.market_loader.specs.Files.{Files}
 use Rattle.script_steps.specs.declared.status.BlocksStatus.{BlocksStatus}
-use Rattle.script_steps.specs.Verdict as blocks
-
--- what is to be done for words, or the status with which it is refused
-abbrev pub verdict_of : Files → List (List ℕ) → Result ScriptRun BlocksStatus
-verdict_of files words = blocks.verdict_of Scenarios files words
+use Rattle.script_steps.specs.Verdict.{basis_of, blocks_asks}
+use Rattle.tool_run.specs.Tool.{Tool}
+use Rattle.tool_run.specs.Words.{Pair}
 
 -- the bytes that are written, and the computations that are made
 abbrev pub output_in : Calc → ScriptRun → List ℕ
-output_in calc run = grid calc (blocks.basis_of run) run.script
+output_in calc run = grid calc (basis_of run) run.script
 
 abbrev pub computed_in : Calc → ScriptRun → List (ℕ × Bool)
-computed_in calc run = grid_calls calc (blocks.basis_of run) run.script
+computed_in calc run = grid_calls calc (basis_of run) run.script
+
+-- the tool that it is: of a script of scenarios over a market
+abbrev pub grid_tool : Tool Pair ScriptRun BlocksStatus
+grid_tool = record {
+  asks = blocks_asks Scenarios;
+  output = output_in;
+  computed = computed_in;
+  NeedsBench = λ run. Unit {0};
+}

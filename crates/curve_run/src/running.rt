@@ -1,14 +1,15 @@
 // The call of the program.
-ghost use Rattle.std.specs.Prelude.{◌≡◌, ◌⊎◌, ◌↔◌, ◌+◌, ◌≤◌, map, None, IfOk, IfSome};
+ghost use Rattle.std.specs.Prelude.{◌≡◌, ◌⊎◌, ◌↔◌, ◌+◌, ◌≤◌, map, None, IfOk, IfErr, IfSome, IsErrOf};
 ghost use Rattle.std.specs.String.{string_bytes};
 ghost use Rattle.desk_edge.specs.Count.{Rose};
 ghost use Rattle.desk_edge.specs.Shelf.{files_of};
 ghost use Rattle.market_file.specs.Standing.{IsReady};
-ghost use Rattle.market_loader.specs.declared.faults.MarketRole.{MarketRole};
 ghost use Rattle.bump_model.specs.Asking.{Calls, Made, MadeFront};
 ghost use Rattle.tool_run.specs.Market.{wanted_in};
-ghost use Rattle.tool_run.specs.Run.{given_for, IsAccepted, IsAcceptedAs, IsThere};
-ghost use Rattle.tool_run.specs.Stage.{IsOutside, IsEarly, IsQuiet, Writes, Computes, faults_then};
+ghost use Rattle.tool_run.specs.Run.{given_for, IsAccepted, IsAcceptedAs, IsThere, Tells, faults_after};
+ghost use Rattle.tool_run.specs.Stage.{Failed, Missing, Cut, IsOutside, IsEarly, IsBefore, IsQuiet, Writes, Computes, faults_then, puts_then};
+ghost use Rattle.tool_run.specs.Status as market;
+ghost use Rattle.tool_run.specs.Tool.{IsReached};
 ghost use Rattle.curve_run.specs.Named.{ItemsAre};
 ghost use Rattle.curve_run.specs.Status.{stage_of, IsOf, Notes};
 ghost use Rattle.curve_run.specs.Verdict.{Wanted as Asked, verdict_of, ending_of, shown_in, output_in, notes_in, computed_in, reading_calls, HasCurves};
@@ -57,7 +58,9 @@ pub fn run_curve<H: Shelf, K: Sink, N: Sink, B: Bench>(
     // too, there are none.
     ensures written { IfSome (files_of (H.contents shelf.old)) (λ files.
         Writes (K.bytes out.old) (K.bytes out.new) (given_for (output_in (B.calc bench.old)) (verdict_of files (map string_bytes words.now))) (stage_of result)) }
-    ensures nothing { IsEarly (stage_of result) → out.new ≡ out.old }
+    // No put is made before the text is whole: where it is refused or memory runs out the sink is as it was.
+    ensures nothing { IsBefore (stage_of result) → out.new ≡ out.old }
+    ensures unwritten { result ≡ CurveStatus.Refused → out.new ≡ out.old }
     // Where it is refused the bytes noted are the lines that say so, but for a fault of noting them, and else there are none.
     ensures noted { IfSome (files_of (H.contents shelf.old)) (λ files.
         Notes (N.bytes notes.old) (N.bytes notes.new) (N.faults notes.old) (N.faults notes.new)
@@ -80,18 +83,20 @@ pub fn run_curve<H: Shelf, K: Sink, N: Sink, B: Bench>(
     ensures same { B.calc bench.new ≡ B.calc bench.old }
 
     // Each fault was counted.
-    ensures read { result ≡ CurveStatus.Of MarketStatus.ReadFault → Rose (H.faults shelf.old) (H.faults shelf.new) }
+    ensures read { stage_of result ≡ Failed → Rose (H.faults shelf.old) (H.faults shelf.new) }
     // A call of the shelf that failed is the answer, and was the last: any call may fail, and one more would be counted too.
     ensures counted { H.faults shelf.new ≡ faults_then (stage_of result) (H.faults shelf.old) }
-    ensures write { result ≡ CurveStatus.Of MarketStatus.WriteFault → Rose (K.faults out.old) (K.faults out.new) }
-    ensures absent { (role : MarketRole) → result ≡ CurveStatus.Of (MarketStatus.Absent role) → Rose (H.misses shelf.old) (H.misses shelf.new) }
+    ensures absent { stage_of result ≡ Missing → Rose (H.misses shelf.old) (H.misses shelf.new) }
+    // So was a put of the text that failed; where none failed, none is counted.
+    ensures write { stage_of result ≡ Cut → Rose (K.faults out.old) (K.faults out.new) }
+    ensures put { K.faults out.new ≡ puts_then (stage_of result) (K.faults out.old) }
     ensures files { files_of (H.contents shelf.new) ≡ files_of (H.contents shelf.old) }
 
     // Each file is read once, in the order above, and none behind the first failure.
     ensures calls { IfSome (files_of (H.contents shelf.old)) (λ files.
         H.calls shelf.new ≤ H.calls shelf.old + reading_calls files (map string_bytes words.now)) }
 {
-    let found = match find(alloc, words, shelf) {
+    let found = match wanted_of(alloc, words, shelf) {
         Ok(found) => found,
         Err(status) => return CurveStatus::Of(status),
     };
@@ -106,6 +111,29 @@ pub fn run_curve<H: Shelf, K: Sink, N: Sink, B: Bench>(
         }
         Err(_) => CurveStatus::Of(MarketStatus::NoMemory),
     }
+}
+
+// What the words and the files ask for.
+fn wanted_of<'a, H: Shelf>(
+    alloc: Global,
+    words: &'a [String],
+    shelf: &mut H,
+) -> Result<Found<Request<'a>>, MarketStatus>
+    ensures tells { IfSome (files_of (H.contents shelf.old)) (λ files.
+        Tells market.stage_of (wanted_in request_in) result (verdict_of files (map string_bytes words.now))) }
+    ensures usage { IsErrOf result MarketStatus.Usage ↔ (request_of (map string_bytes words.now) ≡ None) }
+    ensures there { IfSome (files_of (H.contents shelf.old)) (λ files.
+        IsReached MarketStatus.NoMemory result → IsThere (request_of (map string_bytes words.now)) (λ request. request.market) files) }
+    ensures ready { IfOk result (λ found. IsReady found.market.names found.market.made.items) }
+    ensures before { IfErr result (λ status. IsBefore (market.stage_of status)) }
+    ensures read { IfErr result (λ status. market.stage_of status ≡ Failed → Rose (H.faults shelf.old) (H.faults shelf.new)) }
+    ensures absent { IfErr result (λ status. market.stage_of status ≡ Missing → Rose (H.misses shelf.old) (H.misses shelf.new)) }
+    ensures counted { H.faults shelf.new ≡ faults_after market.stage_of result (H.faults shelf.old) }
+    ensures files { files_of (H.contents shelf.new) ≡ files_of (H.contents shelf.old) }
+    ensures calls { IfSome (files_of (H.contents shelf.old)) (λ files.
+        H.calls shelf.new ≤ H.calls shelf.old + reading_calls files (map string_bytes words.now)) }
+{
+    find(alloc, words, shelf)
 }
 
 // Notes lines. Where they cannot be written, the status tells all the same.

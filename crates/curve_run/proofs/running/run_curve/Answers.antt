@@ -1,7 +1,5 @@
 use Rattle.std.proofs.Common.{◌≡◌, ◌⊎◌, inl, inr, refl, sym, ap, subst, ℕ, List, [], Option, Some, None, Result, pos, true}
-use Rattle.std.specs.Prelude.{map}
 use Rattle.std.proofs.lemmas.List.{append-nil}
-use Rattle.std.specs.String.{string_bytes}
 use Rattle.curve_lines.specs.declared.lines.Plot.TheVariants.{Factors}
 use Rattle.desk_edge.specs.Shelf.{files_of}
 use Rattle.desk_edge.specs.Sink.{appended}
@@ -9,16 +7,16 @@ use Rattle.market_loader.proofs.Steps.{told_map}
 use Rattle.bump_model.specs.Asking.{Made, MadeFront}
 use Rattle.bump_model.proofs.Calls.{front_none}
 use Rattle.tool_run.specs.Market.{wanted_in}
+use Rattle.tool_run.specs.Stage as stage
 use Rattle.desk_terms.specs.Reading.{Calc}
 use Rattle.tool_run.specs.declared.status.MarketStatus.{MarketStatus}
 use Rattle.tool_run.specs.Run.{given_for}
-use Rattle.tool_run.specs.Stage.{IsEarly, IsBefore, Writes, Computes, Log}
+use Rattle.tool_run.specs.Stage.{Stage, Done, Missing, Failed, Cut, Halted, IsEarly, IsBefore, Writes, Computes, Log, puts_then}
 use Rattle.tool_run.proofs.Early.{early_or_none}
-use Rattle.tool_run.proofs.There.{wanted_there}
 use Rattle.curve_run.specs.declared.status.CurveStatus.TheVariants.{Of, Refused}
 use Rattle.curve_run.specs.Status.{stage_of, Notes}
 use Rattle.curve_run.specs.Verdict.{Wanted, text_of, lines_of, output_in, notes_in, computed_in}
-use Rattle.curve_run.specs.Words.{Request, request_in, request_of}
+use Rattle.curve_run.specs.Words.{request_in}
 use Rattle.curve_run.proofs.running.run_curve.Goals as goal
 
 -- some wanted thing: memory ran out before anything was known of it
@@ -106,5 +104,16 @@ returns-clause-carried g c = inr (wanted_in request_in c.in-Ok.found, refl, refl
 
 pub returns-clause-there : goal.returns-clause-there
 returns-clause-there g c =
-    wanted_there (λ (request : Request). request.market) _ (files_of (g.H.Shelf.contents c.args.shelf.now))
-    (request_of (map string_bytes c.args.words.now)) (wanted_in request_in c.in-Ok.found) c.in-Ok.ensures.tells
+    told_map (files_of (g.H.Shelf.contents c.args.shelf.now)) (λ files h halted. h tt) c.in-Ok.ensures.there
+
+-- nothing was put
+put_none : (n : Stage) → IsBefore n → (faults : ℕ) → faults ≡ puts_then n faults
+put_none stage.Refused before faults = refl
+put_none Missing before faults = refl
+put_none Failed before faults = refl
+put_none Halted before faults = refl
+put_none Done before faults = absurd before
+put_none Cut before faults = absurd before
+
+pub returns-in-Err-clause-put : goal.returns-in-Err-clause-put
+returns-in-Err-clause-put g c = put_none (stage_of (Of c.in-Err.status)) c.in-Err.ensures.before (g.K.Sink.faults c.args.out.now)

@@ -75,7 +75,9 @@ pub record IsCurve {K N B : Type 0} (words : List (List ℕ)) (result : CurveSta
   pub usage : (result ≡ shown.Of refused.Usage) ↔ (curve_words.request_of words ≡ None)
   pub written : IfSome shelf.old.files (λ files. stage.Writes (sink.bytes sink.old) (sink.bytes sink.new)
       (given_for (curves.output_in (bench.calc bench.old)) (curves.verdict_of files words)) (curve.stage_of result))
-  pub nothing : stage.IsEarly (curve.stage_of result) → sink.new ≡ sink.old
+  pub nothing : stage.IsBefore (curve.stage_of result) → sink.new ≡ sink.old
+  pub unwritten : result ≡ shown.Refused → sink.new ≡ sink.old
+  pub put : sink.faults sink.new ≡ stage.puts_then (curve.stage_of result) (sink.faults sink.old)
   pub noted : IfSome shelf.old.files (λ files. curve.Notes (notes.bytes notes.old) (notes.bytes notes.new) (notes.faults notes.old) (notes.faults notes.new)
       (given_for (curves.notes_in (bench.calc bench.old)) (curves.verdict_of files words)) result)
   pub silent : curve.IsOf result → notes.new ≡ notes.old

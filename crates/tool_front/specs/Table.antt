@@ -71,14 +71,14 @@ row_of command.Grid = record {
   name = codes "grid";
   arguments = codes "MARKET SCRIPT";
   summary = codes "Prices scenarios: each block of a script over the same market.";
-  about = codes "Runs each block of a script over the market as it is read, and writes the values of each\nobject that is asked for, one line a scenario.";
+  about = codes "Runs each block of a script over the market as it is read, writes the lines of its asks,\nand for each ask the scenario with the least money.";
   example = codes "doqs grid market.toml scenarios.txt";
 }
 row_of command.Bump = record {
   name = codes "bump";
   arguments = codes "MARKET NAME";
   summary = codes "Shows how a price moves when each quote moves by one basis point.";
-  about = codes "Prices NAME with each quote that it depends on moved up and down by one basis point, and\nthen with all of them moved.";
+  about = codes "Prices NAME with each quote of the market moved up and down by one basis point, and\nthen with all of them moved together.";
   example = codes "doqs bump market.toml book";
 }
 row_of command.Risk = record {

@@ -72,14 +72,14 @@ impl Command {
                 name: "grid",
                 arguments: "MARKET SCRIPT",
                 summary: "Prices scenarios: each block of a script over the same market.",
-                about: "Runs each block of a script over the market as it is read, and writes the values of each\nobject that is asked for, one line a scenario.",
+                about: "Runs each block of a script over the market as it is read, writes the lines of its asks,\nand for each ask the scenario with the least money.",
                 example: "doqs grid market.toml scenarios.txt",
             },
             Command::Bump => Row {
                 name: "bump",
                 arguments: "MARKET NAME",
                 summary: "Shows how a price moves when each quote moves by one basis point.",
-                about: "Prices NAME with each quote that it depends on moved up and down by one basis point, and\nthen with all of them moved.",
+                about: "Prices NAME with each quote of the market moved up and down by one basis point, and\nthen with all of them moved together.",
                 example: "doqs bump market.toml book",
             },
             Command::Risk => Row {

@@ -2,3 +2,6 @@ mod Values
 mod Handles
 mod Progress
 mod Setting
+mod AskLines
+mod CurveKinds
+mod Answered

@@ -1,49 +1,35 @@
 -- What the calls of a session for C give.
-use Rattle.std.specs.Prelude.{◌≡◌, ◌++◌, ◌^◌, ◌<◌, ◌≤◌, unsigned_abs, ◌*ℤ◌, ◌+ℤ◌, pos, ℕ, ℤ, nat_eq, if◌then◌else◌, true, List, [], take, drop, length, Option, Some, None, Ok, Err}
+use Rattle.std.specs.Prelude.{◌≡◌, ◌⊎◌, ◌++◌, ◌^◌, ◌<◌, ◌≤◌, unsigned_abs, ◌*ℤ◌, ◌+ℤ◌, pos, ℕ, ℤ, true, List, [], Option, Some, None, Ok, Err}
 use Rattle.std.specs.Result.{result_err}
 use Rattle.desk_bench.specs.Pricing.{desk_calc}
 use Rattle.desk_names.specs.Names.{has_text, place_of}
-use Rattle.desk_terms.specs.declared.asked.Mark.{Mark}
+use Rattle.curve_points.specs.Curve as points
+use Rattle.desk_terms.specs.declared.asked.Asked.{Asked}
 use Rattle.desk_terms.specs.declared.cause.Cause.{Cause}
-use Rattle.desk_terms.specs.declared.asked.Mark.TheVariants.{Fresh, Frozen, Late, Held, Recalc}
-use Rattle.pricing_session.specs.declared.answer.Answer.{Answer}
-use Rattle.pricing_session.specs.declared.answer.Worth.TheVariants.{Money, Curve}
-use Rattle.pricing_session.specs.Asking.{IsAnswered, IsCutShort as AskIsCutShort}
+use Rattle.desk_terms.specs.declared.value.Value.TheVariants.{Money, Curve}
+use Rattle.desk_terms.specs.Reading.{Outcome}
+use Rattle.pricing_session.specs.Asking.{IsAsked, IsCutShort as AskIsCutShort}
 use Rattle.pricing_session.specs.Speaking.{as_live}
 use Rattle.session_commands.specs.declared.command.Command.{Command}
-use Rattle.session_commands.specs.declared.command.Command.TheVariants.{Set}
+use Rattle.session_commands.specs.declared.command.Command.TheVariants.{Set, Ask}
 use Rattle.session_commands.specs.declared.refusal.Refusal.{Refusal}
+use Rattle.session_model.specs.declared.place.Place.{Place}
 use Rattle.session_model.specs.declared.place.Place.TheVariants.{Priced}
 use Rattle.session_model.specs.Course.{Meaning, taken}
+use Rattle.session_model.specs.Pricing.{asking}
 use Rattle.session_model.specs.Resolve.{find, resolve}
 use Rattle.session_model.specs.Standing.{Standing}
 use Rattle.session_model.specs.Turn.{turn}
 use Rattle.watch_rounds.specs.Order.{order_at, order_after}
 use Rattle.watch_rounds.specs.declared.picker.Order.{Order}
-use Rattle.watch_rounds.specs.declared.picker.Order.TheVariants.{First, Last, Seed}
 use Rattle.live_model.specs.Live.{said}
 use Rattle.live_session.specs.Saying.{IsCutShort}
 use Rattle.desk_c.specs.declared.kept.Kept.{Kept}
+use Rattle.desk_c.specs.Numbers.{mark_number}
 
 -- the rule by which the bench prices, and the order of watchers that are due
 abbrev pub ordered : Meaning Order
 ordered = record { calc = desk_calc; at = order_at; after = order_after }
-
--- a text laid into a room, as much of it as fits
-abbrev pub laid : List ℕ → List ℕ → List ℕ
-laid text room = take (length room) text ++ drop (length text) room
-
--- the order that a number and a seed name
-abbrev pub order_in : ℕ → ℕ → Option Order
-order_in order seed =
-    if nat_eq order 0 then Some First else if nat_eq order 1 then Some Last else if nat_eq order 2 then Some (Seed seed) else None
-
-abbrev pub mark_number : Mark → ℕ
-mark_number Fresh = 0
-mark_number Frozen = 1
-mark_number Late = 2
-mark_number Held = 3
-mark_number Recalc = 4
 
 abbrev pub standing_of : Kept → Standing
 standing_of kept = kept.session.running.standing
@@ -106,39 +92,59 @@ abbrev pub IsHalted : List ℕ → ℤ → Kept → Type 0
 IsHalted name units kept =
     (has_text (standing_of kept).names name ≡ true) × ((unsigned_abs units ≤ 10 ^ 18) × ((standing_of kept).stopped ≡ true))
 
--- AN OBJECT IS ASKED: its answer is such a one, and nothing else is changed
-pub record Asks (name : List ℕ) (Told : Answer → Type 0) (old new : Kept) : Type 0 where
-  pub answer : Answer
-  pub answers : IsAnswered desk_calc (number_of name old) (standing_of old) (standing_of new) answer old.session.bench.calls
-      new.session.bench.calls None None
-  pub told : Told answer
-  pub rest : as_live new.session ≡ record (as_live old.session) { running = record old.session.running { standing = standing_of new } }
-  pub text : new.text ≡ old.text
+-- the lines of a command's turn: what the line of a script that is this command writes
+abbrev pub lines_of : Command → Kept → List ℕ
+lines_of c kept = (turn desk_calc (standing_of kept) c).lines
 
--- an answer of money, in two parts of which the second is less than the unit of the first
-pub record IsPriced (high low : ℤ) (mark runs : ℕ) (answer : Answer) : Type 0 where
-  pub worth : answer.worth ≡ Ok (Money (high *ℤ pos (10 ^ 18) +ℤ low))
+-- all but the text and what is stored of objects is as it was
+abbrev pub KeepsRest : Kept → Kept → Type 0
+KeepsRest old new =
+    as_live new.session ≡ record (as_live old.session) { running = record old.session.running { standing = standing_of new } }
+
+-- AN OBJECT IS ASKED: such an outcome and such an answer show, the line of the ask is the text, and nothing else is changed
+pub record Asks (name : List ℕ) (Told : Outcome → Asked → Type 0) (old new : Kept) : Type 0 where
+  pub answer : Asked
+  pub asked : IsAsked desk_calc (number_of name old) (standing_of old) (standing_of new) answer old.session.bench.calls
+      new.session.bench.calls None None
+  pub told : Told (asking desk_calc asked.object (standing_of old).state).outcome answer
+  pub rest : KeepsRest old new
+  pub text : new.text.items ≡ lines_of (Ask (number_of name old)) old
+
+-- two parts of an amount
+abbrev pub money_parts : ℤ → ℤ → ℤ
+money_parts high low = high *ℤ pos (10 ^ 18) +ℤ low
+
+-- money, in two parts of which the second is less than the unit of the first
+pub record IsPriced (high low : ℤ) (mark runs : ℕ) (outcome : Outcome) (answer : Asked) : Type 0 where
+  pub worth : outcome ≡ Ok (Money (money_parts high low))
   pub small : unsigned_abs low < 10 ^ 18
   pub stands : mark ≡ mark_number answer.mark
   pub number : runs ≡ answer.runs
 
 -- no value, for a cause
-abbrev pub IsUnpriced : Answer → Type 0
-IsUnpriced answer = (cause : Cause) × (answer.worth ≡ Err cause)
+abbrev pub IsUnpriced : Outcome → Asked → Type 0
+IsUnpriced outcome answer = (cause : Cause) × (outcome ≡ Err cause)
 
 -- a curve
-abbrev pub IsCurve : Answer → Type 0
-IsCurve answer = answer.worth ≡ Ok Curve
+abbrev pub IsCurve : Outcome → Asked → Type 0
+IsCurve outcome answer = (curve : points.Curve) × (outcome ≡ Ok (Curve curve))
 
--- the name is none of an object that is priced
+-- the name is none of an object that is priced: the line of the refusal is the text
 pub record IsNotAsked (name : List ℕ) (old new : Kept) : Type 0 where
   pub refusal : Refusal
   pub fails : find Priced (standing_of old) (number_of name old) ≡ Err refusal
-  pub same : new ≡ old
+  pub same : new.session ≡ old.session
+  pub text : new.text.items ≡ lines_of (Ask (number_of name old)) old
 
--- memory ran out in the ask: what was computed is kept, and nothing else is changed
+-- memory ran out in the line of a refusal
+pub record IsUnsaid (place : Place) (name : List ℕ) (old new : Kept) : Type 0 where
+  pub refusal : Refusal
+  pub fails : find place (standing_of old) (number_of name old) ≡ Err refusal
+  pub same : new.session ≡ old.session
+
+-- memory ran out in the ask or in its line: what was computed is kept, nothing else is changed, and the text is empty
 pub record IsAskCut (name : List ℕ) (old new : Kept) : Type 0 where
-  pub stops : AskIsCutShort desk_calc (number_of name old) (standing_of old) (standing_of new) old.session.bench.calls
-      new.session.bench.calls None None
-  pub rest : as_live new.session ≡ record (as_live old.session) { running = record old.session.running { standing = standing_of new } }
-  pub text : new.text ≡ old.text
+  pub stops : IsUnsaid Priced name old new ⊎ AskIsCutShort desk_calc (number_of name old) (standing_of old) (standing_of new)
+      old.session.bench.calls new.session.bench.calls None None
+  pub rest : KeepsRest old new
+  pub text : new.text.items ≡ []

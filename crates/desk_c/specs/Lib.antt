@@ -1,3 +1,10 @@
 pub mod Owned
+pub mod Texts
+pub mod Orders
+pub mod Numbers
 pub mod Calls
+pub mod Objects
+pub mod Curves
+pub mod Tables
 pub mod Opening
+pub mod Header

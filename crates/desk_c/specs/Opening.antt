@@ -12,7 +12,9 @@ use Rattle.desk_plan.specs.declared.status.Status.{Status}
 use Rattle.desk_plan.specs.declared.status.Status.TheVariants as status
 use Rattle.desk_plan.specs.Status.{code_of, words_of}
 use Rattle.desk_c.specs.declared.kept.Kept.{Kept}
-use Rattle.desk_c.specs.Calls.{laid, ordered}
+use Rattle.desk_c.specs.Calls.{ordered}
+use Rattle.desk_c.specs.Tables.{fault_numbers}
+use Rattle.desk_c.specs.Texts.{laid}
 
 -- A SESSION IS OPENED: that of the market behind the script, whose commands are done, and their lines
 pub record Opens (order : Order) (market quotes fixings script : List ℕ) (kept : Kept) : Type 0 where
@@ -48,10 +50,11 @@ pub record IsOpen (order : Option Order) (market quotes fixings script : List �
   pub opens : Opens known market quotes fixings script kept
 
 -- the order is one, and this is why none is opened, as the message tells it
-pub record IsTold (order : Option Order) (market quotes fixings script : List ℕ) (code : ℕ) (message_old message_new : List ℕ) : Type 0 where
+pub record IsTold (order : Option Order) (market quotes fixings script : List ℕ) (code : ℕ) (numbers : ℕ × ℕ × ℕ) (message_old message_new : List ℕ) : Type 0 where
   pub known : Order
   pub is_known : order ≡ Some known
   pub told : Status
   pub fails : FailsToOpen known market quotes fixings script told
   pub number : code ≡ code_of told
+  pub fault : Some numbers ≡ fault_numbers told
   pub message : message_new ≡ laid (words_of told) message_old

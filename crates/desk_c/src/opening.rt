@@ -1,24 +1,22 @@
 // A session is opened from texts.
-ghost use Rattle.std.specs.Prelude.{◌≡◌, ◌⊎◌, false, All, IfOk, IfErr};
-ghost use Rattle.desk_plan.specs.Refusals.{market_status, script_status};
-ghost use Rattle.desk_plan.specs.Status.{code_of, words_of};
+ghost use Rattle.std.specs.Prelude.{◌≡◌, false, All, IfOk, IfErr};
+ghost use Rattle.desk_plan.specs.Refusals.{script_status};
 ghost use Rattle.desk_plan.specs.declared.status.Status.TheVariants.{NoMemory};
 ghost use Rattle.live_model.specs.Log.{done};
 ghost use Rattle.pricing_session.specs.Speaking.{as_live};
 ghost use Rattle.session_model.specs.Rounds.{transcript};
 ghost use Rattle.session_model.specs.Standing.{IsKnown};
-ghost use Rattle.desk_c.specs.Calls.{laid, order_in, ordered};
+ghost use Rattle.desk_c.specs.Calls.{ordered};
+ghost use Rattle.desk_c.specs.Orders.{order_in};
 ghost use Rattle.desk_c.specs.Opening.{Opens, FailsToOpen};
-ghost use Rattle.desk_c.specs.declared.status.TheConstants.{NO_MEMORY};
 
 use crate::kept::Kept;
 use crate::playing::play_all;
-use crate::status::NO_MEMORY;
-use crate::texts::lay;
+use crate::tables::market_status;
 use desk_bench::DeskBench;
 use desk_names::Names;
-use desk_plan::{Status, StatusWords};
-use market_file::{Market, MarketFault, read_market};
+use desk_plan::Status;
+use market_file::{Market, read_market};
 use pricing_session::{LiveSession, NamedMarket};
 use session_commands::Command;
 use session_lang::ScriptFault;
@@ -34,20 +32,6 @@ pub(crate) fn order_of(order: u32, seed: u64) -> Option<Order>
         1 => Some(Order::Last),
         2 => Some(Order::Seed(seed)),
         _ => None,
-    }
-}
-
-// The number of a status, whose words are laid into the room.
-pub(crate) fn tell(alloc: Global, status: Status, room: &mut [u8]) -> u32
-    ensures { ((result ≡ code_of status) × (room.new ≡ laid (words_of status) room.old)) ⊎ ((result ≡ NO_MEMORY) × (room.new ≡ room.old)) }
-{
-    let words = StatusWords(status);
-    match format!(in alloc; "{words}") {
-        Ok(text) => {
-            lay(text.as_bytes(), room);
-            u32::from(status.code())
-        }
-        Err(_) => NO_MEMORY,
     }
 }
 
@@ -73,19 +57,6 @@ pub(crate) fn opened(
     match LiveSession::open(alloc, named, script, order, DeskBench::new()) {
         Ok((session, commands)) => played(alloc, session, commands.items()),
         Err(fault) => Err(script_status(fault)),
-    }
-}
-
-fn market_status(fault: MarketFault) -> Status
-    ensures { result ≡ market_status fault }
-{
-    match fault {
-        MarketFault::At {
-            section,
-            entry,
-            kind,
-        } => Status::Market(section, entry, kind),
-        MarketFault::NoMemory => Status::NoMemory,
     }
 }
 

@@ -1,4 +1,7 @@
-// How a call ended.
+// The version, and how a call ended.
+
+/// The version: 1,000 for each major one, and the minor one.
+pub const VERSION: u32 = 18;
 
 /// The call was carried out.
 pub const DONE: u32 = 0;
@@ -35,3 +38,6 @@ pub const UNPRICED: u32 = 15;
 
 /// It was asked, and is worth a curve.
 pub const NOT_MONEY: u32 = 16;
+
+/// It has a value, which is no curve.
+pub const NOT_CURVE: u32 = 18;

@@ -1,6 +1,6 @@
 // Texts that are handed to C.
 ghost use Rattle.std.specs.Prelude.{◌≡◌};
-ghost use Rattle.desk_c.specs.Calls.{laid};
+ghost use Rattle.desk_c.specs.Texts.{laid};
 
 use std::cmp::min;
 

@@ -34,7 +34,7 @@ int main(int count, char **words) {
     desk d = {0};
     desk_price price = {0, 0, 0, 0};
     if (count != 3 || desk_open(&d, read_file(words[1], market), read_file(words[2], quotes), bytes_of(""), bytes_of(""), DESK_FIRST, 0,
-                                (desk_room){NULL, 0}))
+                                (desk_room){NULL, 0}, NULL))
         return 1;
     if (say(&d, "quote q 1") || say(&d, "stock t q"))
         return 2;

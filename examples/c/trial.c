@@ -2,8 +2,8 @@
  *
  *     trial MARKET QUOTES FIXINGS < STEPS
  *
- * It is linked with -Wl,--wrap=malloc,--wrap=realloc. A step is a line that is said, `=NAME UNITS`, which sets a quote, or `?NAME`,
- * which asks. It plays all steps with ample memory; and then once for each N, until N are not made, with the Nth allocation refused.
+ * It is linked with -Wl,--wrap=malloc,--wrap=realloc. A step is a line that is said, `=NAME UNITS`, which sets a quote, `?NAME`,
+ * which asks, or `~NAME DAY`, which asks for a discount factor. It plays all steps with ample memory; and then once for each N, until N are not made, with the Nth allocation refused.
  * What is said in docs/C.md of want of memory must hold: else it tells where, and ends with 1. */
 #include "doqsheley.h"
 
@@ -45,6 +45,8 @@ static void check(bool holds, const char *what, int step) {
 
 static desk_bytes bytes_of(const char *text) { return (desk_bytes){text, strlen(text)}; }
 
+static bool is_ask(const char *step) { return *step == '?' || *step == '~'; }
+
 static answer take(desk *d, char *step) {
     answer it = {0, 0, out};
     desk_price price = {0, 0, 9, 0};
@@ -53,10 +55,16 @@ static answer take(desk *d, char *step) {
         char *number = strchr(step, ' ');
         it.ended = desk_set(d, (desk_bytes){step + 1, (size_t)(number - step - 1)}, strtoll(number, NULL, 10));
         check(made == before, "a quote was set, and memory was taken", 0);
-    } else if (*step == '?') {
-        it.ended = desk_ask(d, bytes_of(step + 1), &price);
-        it.size = (size_t)snprintf(out, MOST_TEXT, "%lld %lld %u %llu", (long long)price.high, (long long)price.low, price.mark,
-                                   (unsigned long long)price.runs);
+    } else if (is_ask(step)) {
+        char *day = strchr(step, ' ');
+        desk_bytes name = {step + 1, day ? (size_t)(day - step - 1) : strlen(step + 1)};
+        desk_factor factor = {0, 9, 0};
+        it.ended = day ? desk_df(d, name, (uint32_t)strtoul(day, NULL, 10), &factor) : desk_ask(d, name, &price);
+        size_t size = desk_text(d, 0, (desk_room){out, MOST_TEXT / 2});
+        check(it.ended != DESK_NO_MEMORY || size == 0, "an ask found no memory, and its text is not empty", 0);
+        it.size = size + (size_t)snprintf(out + size, MOST_TEXT / 2, "%lld %lld %u %llu %lld %u %llu", (long long)price.high,
+                                          (long long)price.low, price.mark, (unsigned long long)price.runs, (long long)factor.units,
+                                          factor.mark, (unsigned long long)factor.runs);
     } else {
         it.ended = desk_say(d, bytes_of(step), (desk_room){out, MOST_TEXT}, &it.size);
     }
@@ -79,7 +87,7 @@ static desk_bytes read_file(const char *path) {
 
 static uint32_t begin(desk *d, desk_bytes *texts) {
     char message[80] = {0};
-    uint32_t ended = desk_open(d, texts[0], texts[1], texts[2], bytes_of(""), DESK_FIRST, 0, (desk_room){message, 79});
+    uint32_t ended = desk_open(d, texts[0], texts[1], texts[2], bytes_of(""), DESK_FIRST, 0, (desk_room){message, 79}, NULL);
     check(ended == DESK_DONE || !strcmp(message, "no memory") || !*message, message, 0);
     return ended;
 }
@@ -97,15 +105,15 @@ static bool play(desk *d, desk_bytes *texts) {
         if (is_known(it, step))
             continue;
         check(it.ended == DESK_NO_MEMORY, "another answer", step);
-        check(*steps[step] == '?' || (it.size <= known[step].size && !memcmp(it.text, known[step].text, it.size)), "no front", step);
+        check(is_ask(steps[step]) || (it.size <= known[step].size && !memcmp(it.text, known[step].text, it.size)), "no front", step);
         it = take(d, steps[step]);
         if (it.ended == DESK_STOPPED) {
-            check(*steps[step] != '?' && it.size == 0, "an ask is stopped, or something is written", step);
+            check(!is_ask(steps[step]) && it.size == 0, "an ask is stopped, or something is written", step);
             check(take(d, "?nobody").ended == DESK_NO_NAME, "a stopped session does not answer", step);
             return true;
         }
         /* The second time an ask computes what is left. */
-        check(*steps[step] == '?' ? it.ended == known[step].ended : is_known(it, step), "another answer the second time", step);
+        check(is_ask(steps[step]) ? it.ended == known[step].ended : is_known(it, step), "another answer the second time", step);
     }
     return false;
 }

@@ -1,9 +1,9 @@
 """The script, read as the program reads it, up to the first fault."""
 import re
 
-from days import day_of
-from market_text import MOST_BYTES, Fault, article, near
-from places import A_DAY, A_NAME, A_RATE, BILLION, TEN, is_name, one_of, shown, units_of, why_not_decimal
+from .days import day_of
+from .market_text import MOST_BYTES, Fault, article, near
+from .places import A_DAY, A_NAME, A_RATE, BILLION, TEN, is_name, one_of, shown, units_of, why_not_decimal
 
 MOST_NAMES = 65536
 LINES, COMMANDS, BLOCKS, FAULTS = "Lines and words", "Commands", "Watchers", "Faults of a script"

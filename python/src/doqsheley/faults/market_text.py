@@ -1,12 +1,12 @@
 """The market and its two tables, read as the program reads them, up to the first fault."""
 import difflib
 
-from csv_text import records
-from days import CONVENTIONS, WEEK, Calendar, NoSchedule, OutOfRange
-from days import bespoke, day_of, schedule, target, tenor_of, text_of, weekdays
-from places import A_DAY, A_NAME, A_RATE, A_TENOR, BILLION, TEN, WORDS
-from places import is_name, one_of, shown, ticked, units_of, why_not_decimal
-from toml_text import TomlFault, read
+from .csv_text import records
+from .days import CONVENTIONS, WEEK, Calendar, NoSchedule, OutOfRange
+from .days import bespoke, day_of, schedule, target, tenor_of, text_of, weekdays
+from .places import A_DAY, A_NAME, A_RATE, A_TENOR, BILLION, TEN, WORDS
+from .places import is_name, one_of, shown, ticked, units_of, why_not_decimal
+from .toml_text import TomlFault, read
 
 MOST_BYTES, MOST_OBJECTS, MOST_FLOWS = 8388608, 4096, 1602
 CALENDARS = {

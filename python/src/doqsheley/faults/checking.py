@@ -6,9 +6,9 @@ import sys
 import tempfile
 from pathlib import Path
 
-from csv_text import records
-from market_text import CALENDARS, MOST_BYTES, OBJECTS, Fault, Market
-from script_text import COMMAND, Script
+from .csv_text import records
+from .market_text import CALENDARS, MOST_BYTES, OBJECTS, Fault, Market
+from .script_text import COMMAND, Script
 
 MARKETS = ["top", "lengths", "calendars", "quotes", "objects", "curves", "instruments", "fixings", "versions"]
 ONE_VERSION = ("top", "lengths", "versions")

@@ -1,0 +1,22 @@
+"""A proved pricing session: a market of quotes, curves and instruments, asked for while quotes move.
+
+>>> from doqsheley import Session
+>>> with Session("market.toml") as desk:
+...     desk.set("s5", "0.0253")
+...     desk.ask("book")
+[]
+Price(name='book', value=Decimal('5497271.244744'), mark='fresh', runs=7)
+"""
+
+from . import errors
+from .backends import KINDS, MARKS
+from .errors import *  # noqa: F403
+from .events import Curve, Event, Factor, Graph, Node, Object, Over, Picture, Price, Quote, Report, Table, read
+from .session import Session
+
+__version__ = "0.18"
+__all__ = [
+    *errors.__all__,
+    "KINDS", "MARKS", "Curve", "Event", "Factor", "Graph", "Node", "Object", "Over", "Picture", "Price", "Quote",
+    "Report", "Session", "Table", "errors", "read",
+]  # fmt: skip

@@ -1,0 +1,1 @@
+"""Where the first fault of a market or of a script is: `reader.read`, `reader.located`."""

@@ -6,7 +6,7 @@
 Lines of standard input are lines of the session, as `doqs live` takes them. Once all that have come are done, each
 object that is shown is asked, and the open pages are told. The page has a line to type a command, too. The port is
 8083, or a free one where it is 0. Whoever reaches the page can type: it is for one's own machine, as HOST is unless one
-is given. It ends by an interrupt, not with the input. --log keeps the session's script, for `doqs run`.
+is given. It ends by an interrupt, not with the input. --log keeps the session's script in a new file, for `doqs run`.
 """
 
 import argparse
@@ -19,8 +19,8 @@ from http.server import BaseHTTPRequestHandler, ThreadingHTTPServer
 from pathlib import Path
 
 HERE = Path(__file__).resolve().parent
-sys.path.insert(0, str(HERE.parent))
-from desk import Curve, Desk, DeskError, Factor, Over, Price, Refused  # noqa: E402
+sys.path.insert(0, str(HERE.parents[2] / "python" / "src"))
+from doqsheley import Curve, DeskError, Factor, Over, Price, Session, Unpriced  # noqa: E402
 
 
 def text(event):
@@ -61,7 +61,7 @@ class Board:
             found = self.desk.send(f"ask {name}")[0]
         except DeskError as error:
             return {"name": name, "why": str(error), "mark": "ended" if self.desk.ended else "none", "runs": 0}
-        if isinstance(found, Refused):
+        if isinstance(found, Unpriced):
             return {"name": name, "why": str(found).split(": ", 1)[1], "mark": "refused", "runs": found.runs}
         price = f"{found.value:,f}" if isinstance(found, Price) else f"{len(found.nodes)} nodes"
         return {"name": name, "price": price, "mark": found.mark, "runs": found.runs}
@@ -119,9 +119,7 @@ def main():
     words.add_argument("--host", default="127.0.0.1")
     words.add_argument("--log")
     said = words.parse_args()
-    with Desk(said.market, said.script) as desk:
-        if said.log:
-            desk.log(said.log)
+    with Session(said.market, said.script, via="pipe", journal=said.log) as desk:
         board = Page.board = Board(desk, said.show.split(","))
         server = ThreadingHTTPServer((said.host, said.port), Page)
         threading.Thread(target=server.serve_forever, daemon=True).start()

@@ -1,4 +1,4 @@
-/* A pricing session in the process of a C program: the header of libdesk_c. docs/C.md is its page.
+/* A pricing session in the process of a C program: the header of libdesk_c. docs/reference/c.md is its page.
  *
  * The library is proved, but for what its functions cannot test. That is tested here: each call returns DESK_NULL, and does
  * nothing, where a pointer is null that must not be, or a length is beyond PTRDIFF_MAX. Bytes of which there are 0 may be null.

@@ -4,7 +4,7 @@
  *
  * It is linked with -Wl,--wrap=malloc,--wrap=realloc. A step is a line that is said, `=NAME UNITS`, which sets a quote, `?NAME`,
  * which asks, or `~NAME DAY`, which asks for a discount factor. It plays all steps with ample memory; and then once for each N, until N are not made, with the Nth allocation refused.
- * What is said in docs/C.md of want of memory must hold: else it tells where, and ends with 1. */
+ * What is said in docs/reference/c.md of want of memory must hold: else it tells where, and ends with 1. */
 #include "doqsheley.h"
 
 #include <stdio.h>

@@ -1,6 +1,6 @@
 //! A session for C: a market's texts and a script open it, lines are said to it, and quick calls set a quote and ask a price
 //! by name. Each export states what the session's own call states; none has a premise beyond its types, none ends the
-//! process, and a handle that holds nothing is answered by `CLOSED`. `examples/c/doqsheley.h` is its header, docs/C.md its page.
+//! process, and a handle that holds nothing is answered by `CLOSED`. `examples/c/doqsheley.h` is its header, docs/reference/c.md its page.
 #![tactic(auto)]
 
 ghost use Rattle.std.specs.Prelude.{◌≡◌, ◌≢◌, ◌⊎◌, ◌↔◌, ◌^◌, ◌-◌, ◌<◌, ◌≤◌, [], None, true, false, drop, length, unsigned_abs, IsErr};

@@ -1,5 +1,6 @@
 // The cases of a file, and how many of them agree.
 use crate::asked::Opening;
+use crate::tools::Tool;
 use crate::wholes::Told;
 use crate::{agrees, asked, calls, endless, lives, printed, tools};
 use std::alloc::{AllocError, Global};
@@ -11,8 +12,8 @@ use std::{fs, io};
 pub(crate) enum Cases<'a> {
     /// Scripts, which are run or said line by line.
     Told(Told),
-    /// Runs of a command of `doqs`; with no name the words name it.
-    Tool(&'static str),
+    /// Runs of a command of `doqs`.
+    Tool(Tool),
     /// Live sessions.
     Live,
     /// Live sessions that are asked by number.

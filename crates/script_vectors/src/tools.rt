@@ -13,59 +13,93 @@ use tool_process::Ending;
 // The most bytes that a case may write.
 const ROOM: usize = 250_000;
 
+/// The command that the cases of a file run.
+#[derive(Clone, Copy)]
+pub(crate) enum Tool {
+    Bump,
+    Curve,
+    Explain,
+    /// The words of a case name it.
+    Front,
+    Graph,
+    Grid,
+    Measure,
+    Risk,
+    Why,
+    Yield,
+}
+
+impl Tool {
+    // Its name, which stands before the words of a case: none where these name it.
+    fn word(self) -> &'static str {
+        match self {
+            Tool::Bump => "bump",
+            Tool::Curve => "curve",
+            Tool::Explain => "explain",
+            Tool::Front => "",
+            Tool::Graph => "graph",
+            Tool::Grid => "grid",
+            Tool::Measure => "measure",
+            Tool::Risk => "risk",
+            Tool::Why => "why",
+            Tool::Yield => "yield",
+        }
+    }
+}
+
 // Each command's `by_hand` has its limits, names that are none, words and files that are refused or not there; `markets` and
 // `bonds` are made at random, `version_two` over markets of version 2; `faults` has markets and scripts that are refused.
 pub(crate) fn compare(rt: &HostRuntime) -> io::Result<()> {
     // Quotes at the limit and quotes without a value.
-    compare_file(rt, "bump", "bump_by_hand")?;
-    compare_file(rt, "bump", "bump_markets")?;
-    compare_file(rt, "bump", "bump_faults")?;
+    compare_file(rt, Tool::Bump, "bump_by_hand")?;
+    compare_file(rt, Tool::Bump, "bump_markets")?;
+    compare_file(rt, Tool::Bump, "bump_faults")?;
     // Curves of one day and of sixty years, factors near 1, above it and far below.
-    compare_file(rt, "curve", "curve_by_hand")?;
-    compare_file(rt, "curve", "curve_markets")?;
-    compare_file(rt, "curve", "curve_version_two")?;
-    compare_file(rt, "curve", "curve_faults")?;
+    compare_file(rt, Tool::Curve, "curve_by_hand")?;
+    compare_file(rt, Tool::Curve, "curve_markets")?;
+    compare_file(rt, Tool::Curve, "curve_version_two")?;
+    compare_file(rt, Tool::Curve, "curve_faults")?;
     // Par rates of deposits and swaps, of sums and handles, of curves seen from another day, and one that a unit of a factor moves.
-    compare_file(rt, "curve", "curve_pars")?;
+    compare_file(rt, Tool::Curve, "curve_pars")?;
     // Steps that are refused, a day that moves, a fixing that is missing and then told, values that vanish and come back, twenty
     // steps, no step and no ask.
-    compare_file(rt, "explain", "explain_by_hand")?;
-    compare_file(rt, "explain", "explain_markets")?;
-    compare_file(rt, "explain", "explain_faults")?;
+    compare_file(rt, Tool::Explain, "explain_by_hand")?;
+    compare_file(rt, Tool::Explain, "explain_markets")?;
+    compare_file(rt, Tool::Explain, "explain_faults")?;
     // Sessions of which each shows one thing, and scripts cut off at some command, with what is frozen, late or held then.
-    compare_file(rt, "graph", "graph_by_hand")?;
-    compare_file(rt, "graph", "graph_sessions")?;
+    compare_file(rt, Tool::Graph, "graph_by_hand")?;
+    compare_file(rt, Tool::Graph, "graph_sessions")?;
     // Blocks in either order, a block that holds nothing, as many blocks and asks as there may be and one more.
-    compare_file(rt, "grid", "grid_by_hand")?;
-    compare_file(rt, "grid", "grid_markets")?;
-    compare_file(rt, "grid", "grid_version_two")?;
-    compare_file(rt, "grid", "grid_faults")?;
+    compare_file(rt, Tool::Grid, "grid_by_hand")?;
+    compare_file(rt, Tool::Grid, "grid_markets")?;
+    compare_file(rt, Tool::Grid, "grid_version_two")?;
+    compare_file(rt, Tool::Grid, "grid_faults")?;
     // Sizes at their limits, names that are none and names twice, sides that are refused.
-    compare_file(rt, "risk", "risk_by_hand")?;
-    compare_file(rt, "risk", "risk_markets")?;
-    compare_file(rt, "risk", "risk_faults")?;
+    compare_file(rt, Tool::Risk, "risk_by_hand")?;
+    compare_file(rt, Tool::Risk, "risk_markets")?;
+    compare_file(rt, Tool::Risk, "risk_faults")?;
     // Answers of which each shows one thing, and of scripts cut off at some command: every kind, mark and cause.
-    compare_file(rt, "why", "why_by_hand")?;
-    compare_file(rt, "why", "why_sessions")?;
+    compare_file(rt, Tool::Why, "why_by_hand")?;
+    compare_file(rt, Tool::Why, "why_sessions")?;
     // The same prices and days as for yields.
-    compare_file(rt, "measure", "measure_by_hand")?;
-    compare_file(rt, "measure", "measure_bonds")?;
+    compare_file(rt, Tool::Measure, "measure_by_hand")?;
+    compare_file(rt, Tool::Measure, "measure_bonds")?;
     // Prices at the curve and beyond, curves that are refused, days off the curve, flows beyond the limit.
-    compare_file(rt, "measure", "measure_spreads")?;
+    compare_file(rt, Tool::Measure, "measure_spreads")?;
     // Prices at the limits and beyond, days on and beside those of coupons.
-    compare_file(rt, "yield", "yield_by_hand")?;
-    compare_file(rt, "yield", "yield_bonds")?;
+    compare_file(rt, Tool::Yield, "yield_by_hand")?;
+    compare_file(rt, Tool::Yield, "yield_bonds")?;
     // Help, version, words that are no command, and the commands of `desk`.
-    compare_file(rt, "", "front")
+    compare_file(rt, Tool::Front, "front")
 }
 
 // Compares the cases of a file and prints how many agree.
-fn compare_file(rt: &HostRuntime, command: &'static str, file: &str) -> io::Result<()> {
-    cases::compare(rt, Cases::Tool(command), file)
+fn compare_file(rt: &HostRuntime, tool: Tool, file: &str) -> io::Result<()> {
+    cases::compare(rt, Cases::Tool(tool), file)
 }
 
 /// Whether the run that a case asks for shows the text after its line `-- shown`.
-pub(crate) fn agrees(alloc: Global, command: &str, case: &str) -> Result<bool, AllocError> {
+pub(crate) fn agrees(alloc: Global, tool: Tool, case: &str) -> Result<bool, AllocError> {
     match case.split_once("-- shown\n") {
         Some((given, text)) => {
             let mut shelf = shelf_of(alloc, given)?;
@@ -75,7 +109,7 @@ pub(crate) fn agrees(alloc: Global, command: &str, case: &str) -> Result<bool, A
                 SizeList::new(alloc),
                 CallList::new(alloc),
             );
-            let shown = shown(alloc, command, &words, &mut shelf, &mut feed)?;
+            let shown = shown(alloc, tool.word(), &words, &mut shelf, &mut feed)?;
             Ok(shown.as_slice() == text.as_bytes())
         }
         None => Ok(false),

@@ -7,16 +7,17 @@
 # (2 where none are given), runs once more the parts that were not done, and joins what was written into OUT: byte for byte what
 # one run of `desk_grid` writes of the whole script. Where a part fails again, it is named, and OUT is not there.
 #
-# DESK_GRID is the program, `crates/desk_grid/out/desk_grid` where nothing is said. GRID_PARALLEL holds further words for
+# DESK_GRID is the program, `desk_grid` of the path where nothing is said. GRID_PARALLEL holds further words for
 # parallel, as `--sshlogin :,other` for another host that has the same files at the same paths. GRID_FOLDER is where the parts
 # stand, and are kept; a folder of its own, which is deleted, where nothing is said.
 set -euo pipefail
 [ $# -ge 4 ] || { echo "usage: grid.sh MARKET SCRIPT BLOCKS OUT [PROCESSES]" >&2; exit 2; }
 here=$(cd "$(dirname "$0")" && pwd)
-export DESK_GRID=${DESK_GRID:-$(realpath -m "$here/../../crates/desk_grid/out/desk_grid")}
+[ -n "${DESK_GRID-}" ] || [ ! -x "$here/../../crates/desk_grid/out/desk_grid" ] || DESK_GRID=$(realpath "$here/../../crates/desk_grid/out/desk_grid") # clone
+export DESK_GRID=${DESK_GRID:-$(command -v desk_grid || echo desk_grid)}
 market=$1 script=$2 blocks=$3 out=$4 processes=${5:-2}
 if [ ! -x "$DESK_GRID" ]; then
-    echo "grid.sh: $DESK_GRID is not built: tools/install proves and builds it" >&2
+    echo "grid.sh: there is no program $DESK_GRID: DESK_GRID names one" >&2
     exit 2
 fi
 command -v parallel > /dev/null || { echo "grid.sh: no command parallel: it takes GNU parallel (apt-get install parallel)" >&2; exit 2; }

@@ -15,7 +15,7 @@
 set -euo pipefail
 here=$(cd "$(dirname "$0")" && pwd)
 top=$(cd "$here/../.." && pwd)
-export PATH="$top/crates/doqs/out:$PATH"
+export PATH="$top/crates/doqs/out:$PATH" # clone
 work=$(mktemp -d)
 trap 'rm -rf "$work"' EXIT
 

@@ -19,7 +19,7 @@ from http.server import BaseHTTPRequestHandler, ThreadingHTTPServer
 from pathlib import Path
 
 HERE = Path(__file__).resolve().parent
-sys.path.insert(0, str(HERE.parents[2] / "python" / "src"))
+sys.path.insert(0, str(HERE.parents[2] / "python" / "src"))  # clone
 from doqsheley import Curve, DeskError, Factor, Over, Price, Session, Unpriced  # noqa: E402
 
 

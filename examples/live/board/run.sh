@@ -5,6 +5,6 @@
 set -euo pipefail
 here=$(cd "$(dirname "$0")" && pwd)
 cd "$here/../../desk"
-export PATH="$here/../../../crates/doqs/out:$PATH"
+export PATH="$here/../../../crates/doqs/out:$PATH" # clone
 "$here/../ticks.py" quotes.csv 100000 0.5 |
     "$here/board.py" market.toml --show book,state,floater,payer,spring,share,offer,euro "$@"

@@ -12,7 +12,8 @@
 set -euo pipefail
 here=$(cd "$(dirname "$0")" && pwd)
 cd "$here/../../desk"
-export PATH="$here/../../../crates/doqs/out:$PATH:/usr/sbin"
+export PATH="$PATH:/usr/sbin"
+export PATH="$here/../../../crates/doqs/out:$PATH" # clone
 market=market.toml
 port=${PORT:-18883}
 for program in mosquitto mosquitto_sub mosquitto_pub "${DOQS:-doqs}"; do

@@ -11,6 +11,8 @@ import os, re, shutil, sys
 
 HERE = os.path.dirname(os.path.abspath(__file__))
 PROGRAMS = "doqs desk desk_bump desk_grid desk_yield".split()
+# The library for C, a static one: its functions get the arguments of the header.
+LIBRARY = "desk_c"
 # The file in which the program says by what it was built.
 VERSION = "crates/tool_front/src/version.rt"
 SHIMS = ["rt_std", "slab", "itoa", "indexmap", "jiff", "jiff_core", "toml", "csv", "clap"]
@@ -72,6 +74,7 @@ def braced(text, at):
 
 CLAUSE = re.compile(r"(?:requires|ensures|decreases|invariant)\*?\s*(?:[a-z_0-9A-Z]+\s*)?(?=\{)")
 GHOST = re.compile(r"(?:pub\s+)?ghost\s+\w+")
+FIELD = re.compile(r"(?:pub(?:\(crate\))?\s+)?ghost\s+\w+:\s*(?=\{)")
 
 
 def strip(text):
@@ -88,6 +91,11 @@ def strip(text):
             found = CLAUSE.match(text, at)
             if found:
                 at = braced(text, found.end())
+                continue
+            found = FIELD.match(text, at)
+            end = braced(text, found.end()) if found else at
+            if text.startswith(",", end) and found:
+                at = end + 1
                 continue
             found = GHOST.match(text, at)
             if found:
@@ -128,8 +136,34 @@ def derived(found):
     return "#[derive(%s)]" % ", ".join(words) if words else ""
 
 
+EXPORT = re.compile(r"^#\[unsafe\(no_mangle\)\]\npub extern \"C\" fn (\w+)\(([^)]*)\)( -> \w+)?", re.M)
+
+
+def exported(text):
+    """The text, in which each function for C is also one that takes a slice as a pointer and a length."""
+    def outside(found):
+        name, result = found[1], found[3] or ""
+        given, handed = [], []
+        for it in filter(None, (it.strip() for it in found[2].split(","))):
+            word, kind = it.split(": ", 1)
+            if kind == "Global":
+                handed.append("Global")
+            elif kind in ("&[u8]", "&mut [u8]"):
+                pointer, make = ("*const", "from_raw_parts") if kind == "&[u8]" else ("*mut", "from_raw_parts_mut")
+                given += [f"{word}: {pointer} u8", f"{word}_length: usize"]
+                handed.append(f"core::slice::{make}({word}, {word}_length)")
+            else:
+                given.append(f"{word}: {kind}")
+                handed.append(word)
+        return (
+            f"#[unsafe(no_mangle)]\npub unsafe extern \"C\" fn {name}({', '.join(given)}){result} {{\n"
+            f"    unsafe {{ {name}_of({', '.join(handed)}) }}\n}}\n\nfn {name}_of({found[2]}){result}"
+        )
+    return EXPORT.sub(outside, text)
+
+
 def convert(text, path):
-    text = strip(text)
+    text = exported(strip(text))
     text = re.sub(r"^(\s*)//[/!]", r"\1//", text, flags=re.M)
     for name in ("Model", "Drop"):
         text = without_impls(text, name)
@@ -202,7 +236,7 @@ def libraries(top, programs):
 def make(top, out, profile):
     """Makes the workspace of the repository `top` in the folder `out`, and returns its programs."""
     programs = [it for it in PROGRAMS if os.path.exists(f"{top}/crates/{it}/src/main.rt")]
-    needed = libraries(top, programs)
+    needed = libraries(top, [*programs, LIBRARY])
     made = set()
 
     def put(path, text):
@@ -215,7 +249,8 @@ def make(top, out, profile):
                 path = os.path.join(folder, file)
                 if file.endswith(".rt") and "tests" not in os.path.relpath(path, source):
                     put(f"{name}/src/{os.path.relpath(path, source)[:-3]}.rs", convert(read(path), path))
-        put(f"{name}/Cargo.toml", manifest(name, ["rt_std", *(it for it in deps if it in needed or it in SHIMS)]))
+        extra = '\n[lib]\ncrate-type = ["staticlib"]\n' if name == LIBRARY else ""
+        put(f"{name}/Cargo.toml", manifest(name, ["rt_std", *(it for it in deps if it in needed or it in SHIMS)], extra))
     for shim in SHIMS:
         put(f"{shim}/src/lib.rs", read(f"{HERE}/shims/{shim}.rs"))
         put(f"{shim}/Cargo.toml", manifest(shim, {"rt_std": [], "jiff": ["rt_std", "jiff_core"]}.get(shim, ["rt_std"])))

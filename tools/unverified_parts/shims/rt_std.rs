@@ -1,7 +1,6 @@
 //! Rattle's std over Rust's: the same names, fallible in type, never failing.
 #![allow(clippy::all)]
-pub use ::std::{any, array, borrow, char, clone, cmp, convert, default, error, fmt, hash, iter, marker, mem, num, ops, option, primitive, result, slice, str};
-pub use ::std::boxed;
+pub use ::std::{any, array, borrow, char, clone, cmp, convert, default, error, fmt, hash, iter, marker, mem, num, ops, option, primitive, ptr, result, slice, str};
 pub use ::std::{matches, debug_assert, assert, panic, write, concat, println, eprintln};
 pub use ::std::time;
 
@@ -20,6 +19,28 @@ pub mod alloc {
     }
 }
 use alloc::{AllocError, AllocFailed, Global};
+
+pub struct Box<T, A = Global>(::std::boxed::Box<T>, A);
+
+impl<T, A> Box<T, A> {
+    #[inline(always)]
+    pub fn new(alloc: A, value: T) -> Result<Self, AllocFailed<T>> { Ok(Box(::std::boxed::Box::new(value), alloc)) }
+    #[inline(always)]
+    pub fn into_raw_with_allocator(it: Self) -> (*mut T, A) { (::std::boxed::Box::into_raw(it.0), it.1) }
+    /// # Safety
+    /// The pointer is that of a box.
+    #[inline(always)]
+    pub unsafe fn from_raw(alloc: A, at: *mut T) -> Self { Box(unsafe { ::std::boxed::Box::from_raw(at) }, alloc) }
+}
+impl<T, A> ops::Deref for Box<T, A> {
+    type Target = T;
+    #[inline(always)]
+    fn deref(&self) -> &T { &self.0 }
+}
+impl<T, A> ops::DerefMut for Box<T, A> {
+    #[inline(always)]
+    fn deref_mut(&mut self) -> &mut T { &mut self.0 }
+}
 
 /// A vector, whose indices are proved to be in range: with `--cfg plain` they are not checked again.
 #[derive(Debug, PartialEq, Eq, PartialOrd, Ord, Hash)]
@@ -401,6 +422,6 @@ pub fn start<T: process::Termination>(main: fn(HostRuntime) -> T) -> process::Ex
 
 pub mod prelude {
     pub mod lab {
-        pub use crate::{HostRuntime, Slices, Texts, String, Vec};
+        pub use crate::{Box, HostRuntime, Slices, Texts, String, Vec};
     }
 }

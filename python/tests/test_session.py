@@ -9,6 +9,8 @@ import doctest
 import importlib.util
 import os
 import random
+import re
+import resource
 import signal
 import subprocess
 import sys
@@ -16,7 +18,7 @@ import tempfile
 import threading
 import unittest
 from contextlib import suppress
-from datetime import date
+from datetime import date, datetime
 from decimal import Decimal, localcontext
 from pathlib import Path
 
@@ -114,6 +116,10 @@ def send(it, lines):
 HAS_LIBRARY = importlib.util.find_spec("doqsheley._desk") is not None
 
 
+def via_library(it):
+    return it._back is None
+
+
 class Both:
     """Each test is made over the library and over the pipe."""
 
@@ -151,6 +157,40 @@ class Answers(Both, unittest.TestCase):
             context.prec = 2
             self.assertEqual(str(it.ask("book").value), "5495252.776163")
             self.assertEqual(str(it.df("euro", "2029-01-17").value), "0.883430079917")
+
+    def test_arguments_by_name(self):
+        with self.session(MARKET) as it:
+            self.assertEqual(it.set(quote="s5", value="0.0253"), [])
+            self.assertEqual(it.set("s5", value=0.0253), [])
+            self.assertEqual(it.ask(name="book").value, Decimal("5497271.244744"))
+            for day in ("2029-01-17", date(2029, 1, 17), datetime(2029, 1, 17, 12, 30)):
+                factor = it.df(curve="euro", day=day)
+                self.assertEqual((factor, it.df("euro", day)), (factor._replace(runs=0),) * 2)
+                self.assertEqual(factor.day, date(2029, 1, 17))
+            for call in (it.ask, it.set, it.df):
+                self.assertRaises(TypeError, call)
+                self.assertRaises(TypeError, call, "a", "b", "c")
+            self.assertRaises(TypeError, it.ask, book="book")
+
+    def test_a_price_of_any_size(self):
+        with self.session(MARKET) as it:
+            it.quote("q", 0)
+            it.stock("t", "q")
+            for name, member in (("k", "t"), ("kk", "k")):
+                it.composite(name)
+                it.member(name, member, 1000000)
+            for value in ("0", "1", "-1", "0.000001", "0.000000001", "999.999999999", "-1000000000", "1000000000", "-123456.789012345"):
+                it.set("q", value)
+                shares = Decimal(value).quantize(Decimal("0.000001"), rounding="ROUND_HALF_UP")
+                self.assertEqual(str(it.ask("t").value), str(abs(shares) if not shares else shares))
+                for name in ("k", "kk"):
+                    try:
+                        price = it.ask(name).value
+                    except errors.ValueTooLarge:
+                        continue
+                    with tempfile.TemporaryDirectory() as room:
+                        Path(room, "day").write_bytes(it.script())
+                        self.assertEqual(played(MARKET, f"{room}/day").split()[-3].decode(), str(price))
 
     def test_a_curve(self):
         with self.session(MARKET) as it:
@@ -226,6 +266,63 @@ class Answers(Both, unittest.TestCase):
                 self.assertRaises(ValueError, it.ask, name)
                 self.assertRaises(ValueError, it.freeze, name)
             self.assertRaises(ValueError, it.set, "acme", "1 2")
+
+    def test_the_numbers_that_are_taken(self):
+        pick = random.Random(83)
+
+        def numbers():
+            for text in ("0", "-0", "00.10", "1000000000", "1000000000.000000001", "-1000000000", "9999999999", "1.", ".5", "", "-", "1e3",
+                         "+1", " 1", "1,5", "0.0000000001", "\u0663", "1_0"):  # fmt: skip
+                yield text
+                if text.isascii():
+                    with suppress(ArithmeticError):
+                        yield Decimal(text)
+            yield from (0, -1, 10**9, 10**9 + 1, -(10**9), 2**70, 0.0, -0.0, 0.1, 0.1 + 0.2, 1e-9, 5e-10, 1e9, 1e22, 999999.999999999)
+            yield from (float("inf"), float("nan"), Decimal("NaN"), Decimal("1E-9"), Decimal("1E-10"), Decimal("4.2E1"), Decimal("1E+3"))
+            for _ in range(2000):
+                units = pick.choice([pick.randint(-(10**18), 10**18), pick.randint(-(10**12), 10**12), pick.randint(-(10**9), 10**9)])
+                exact = Decimal(units).scaleb(-9)
+                yield pick.choice([exact, f"{exact:f}", float(exact), float(exact) * (1 + 2**-52), units, float(exact) + 1e-10])
+
+        told = {}
+        with self.session(MARKET) as it:
+            it.unset("acme")
+            for number in numbers():
+                try:
+                    wanted = values.number_text(number)
+                except errors.InexactValue as error:
+                    self.assertEqual(error.value, Decimal(number)) if number == number else None
+                    self.assertRaises(errors.InexactValue, it.set, "acme", number)
+                    told["inexact"] = told.get("inexact", 0) + 1
+                    continue
+                before = it.script()
+                try:
+                    it.set("acme", number)
+                except (Fault, ValueError) as error:
+                    if isinstance(error, Fault):
+                        self.assertRaises(Fault, it.send, f"set acme {wanted}")
+                    else:
+                        self.assertNotRegex(wanted, "^[^ ]+$")
+                    self.assertEqual(it.script(), before)
+                    told["fault"] = told.get("fault", 0) + 1
+                    continue
+                line = it.script()[len(before) :].decode()
+                word, name, shown = line.split()
+                self.assertEqual((word, name, Decimal(shown)), ("set", "acme", Decimal(wanted)), repr(number))
+                it.send(f"set acme {wanted}")
+                if via_library(it):
+                    self.assertEqual(dict(it.quotes())["acme"], Decimal(shown))
+                told["taken"] = told.get("taken", 0) + 1
+        self.assertGreater(min(told.get(it, 0) for it in ("inexact", "fault", "taken")), 10, told)
+        self.assertRaises(TypeError, values.number_text, True)
+
+    def test_many_lines(self):
+        with self.session(MARKET) as it:
+            wanted = []
+            for number in range(90000 if via_library(it) else 20000):
+                it.set("acme", number)
+                wanted.append(b"set acme %d\n" % number)
+            self.assertEqual(it.script(), b"".join(wanted))
 
     def test_watchers(self):
         with self.session(MARKET) as it:
@@ -335,10 +432,37 @@ class Refusals(Both, unittest.TestCase):
             self.assertEqual((got.exception.line, got.exception.kind), (2, "unclosed"))
             self.assertEqual(played(MARKET, f"{room}/day"), Path(room, "written").read_bytes())
 
+    def test_every_word_of_the_pages_has_a_class(self):
+        transcript = (TOP / "docs/reference/transcript.md").read_text()
+        self.assertEqual(words_of(transcript, "CAUSE"), set(errors.UNPRICED))
+        self.assertEqual(words_of(transcript, "REFUSAL"), set(errors.REJECTED))
+        faults = words_of((TOP / "docs/reference/script.md").read_text(), "KIND")
+        live = words_of((TOP / "docs/reference/live.md").read_text(), "KIND")
+        self.assertEqual(faults | live | {"unended"}, set(Fault.WORDS))
+        self.assertEqual(words_of(transcript, "MARK"), set(doqsheley.MARKS))
+        for it in [*errors.UNPRICED.values(), *errors.REJECTED.values()]:
+            self.assertIs(getattr(doqsheley, it.__name__), it)
+
+    def test_every_command_has_a_method(self):
+        page = (TOP / "docs/reference/script.md").read_text()
+        commands = {cell.split()[0] for row in table_of(page, "Command") for cell in re.findall("`([^`]*)`", row)}
+        self.assertGreater(len(commands), 25)
+        self.assertEqual([it for it in sorted(commands | {"action"}) if not callable(getattr(Session, it, None))], [])
+
     def test_every_word_is_tried(self):
         self.assertEqual({it[2] for it in CAUSES} | {"pillar"}, set(errors.UNPRICED))
         self.assertEqual({it[2] for it in REFUSALS} | {"toomany"}, set(errors.REJECTED))
         self.assertEqual({it[2] for it in FAULTS} | {"names", "unclosed", "unended"}, set(Fault.WORDS))
+
+
+def table_of(page, heading):
+    """The first cells of the table of a page whose first column has this heading."""
+    rows = page[re.search(rf"^\| {heading} \|.*\n", page, re.M).end() :].split("\n\n")[0].split("\n")[1:]
+    return [it.split("|")[1].strip() for it in rows]
+
+
+def words_of(page, heading):
+    return {re.match(r"`(\w+)", it)[1] for it in table_of(page, heading)}
 
 
 class Starts(Both, unittest.TestCase):
@@ -409,7 +533,77 @@ class Journals(Both, unittest.TestCase):
                 self.assertEqual(it.set("s5", "0.0254"), [Price("book", Decimal("5499289.127303"), "fresh", 6)])
             written = played(MARKET, f"{room}/day", "--order=last")
             self.assertEqual(written.splitlines()[-1], b"book 5499289.127303 fresh 6")
-            self.assertEqual(Path(room, "more").read_bytes(), b"book 5499289.127303 fresh 6\n")
+            self.assertEqual(Path(room, "more").read_bytes(), written)
+
+    def test_a_transcript_goes_on(self):
+        with tempfile.TemporaryDirectory() as room:
+            day, written = Path(room, "day"), Path(room, "written")
+            with self.session(MARKET, journal=day, transcript=written) as it:
+                for number in range(20):
+                    it.set("acme", number)
+                    it.ask("share")
+            whole = written.read_bytes()
+            for had in (b"", whole[:1], whole[:-1], whole, whole[: len(whole) // 2]):
+                written.write_bytes(had)
+                Session.recover(MARKET, day, via=self.via, transcript=written).close()
+                self.assertEqual(written.read_bytes(), whole)
+            written.unlink()
+            with Session.recover(MARKET, day, via=self.via, transcript=written) as it:
+                self.assertEqual((it.count, it.opening), (40, []))
+                it.ask("book")
+            self.assertEqual(written.read_bytes(), played(MARKET, day))
+            for had in (b"x" + whole[1:], whole + b"book 5495252.776163 fresh 7\nmore\n"):
+                written.write_bytes(had)
+                self.assertRaises(errors.JournalError, Session.recover, MARKET, day, via=self.via, transcript=written)
+                self.assertEqual(written.read_bytes(), had)
+
+    def test_one_session_has_a_journal(self):
+        with tempfile.TemporaryDirectory() as room:
+            with self.session(MARKET, journal=f"{room}/day"):
+                self.assertRaises(errors.JournalError, Session.recover, MARKET, f"{room}/day", via=self.via)
+            Session.recover(MARKET, f"{room}/day", via=self.via).close()
+            self.assertRaises(errors.JournalError, Session.recover, MARKET, f"{room}/none", via=self.via)
+            self.assertRaises(errors.JournalError, self.session, MARKET, journal=f"{room}/no/folder")
+            for front in (b"", b"# doqs", b"# doqsheley journal 1 order=first script=9\nset "):
+                Path(room, "front").write_bytes(front)
+                self.assertRaises(errors.JournalError, Session.recover, MARKET, f"{room}/front", via=self.via)
+
+    def test_an_action_that_is_open_in_a_journal(self):
+        with tempfile.TemporaryDirectory() as room:
+            day = Path(room, "day")
+            with suppress(Fault), self.session(MARKET, journal=day) as it:
+                send(it, "set acme 42; action a; ask share")
+                copy = day.read_bytes()
+            day.write_bytes(copy)
+            with Session.recover(MARKET, day, via=self.via) as it:
+                self.assertEqual(it.count, 3)
+                with self.assertRaises(Fault) as got:
+                    it.send("action b")
+                self.assertEqual((got.exception.line, got.exception.kind), (4, "nested"))
+                send(it, "end; watch w a; register w acme")
+                self.assertEqual(it.set("acme", 43), [Price("share", Decimal(43), "fresh", 1)])
+            self.assertEqual(played(MARKET, day), b"share 43.000000 fresh 1\n")
+
+    def test_a_journal_that_cannot_be_written(self):
+        limits = resource.getrlimit(resource.RLIMIT_FSIZE)
+        with tempfile.TemporaryDirectory() as room:
+            day, told = Path(room, "day"), []
+            it = self.session(MARKET, journal=day)
+            resource.setrlimit(resource.RLIMIT_FSIZE, (200, limits[1]))
+            try:
+                with self.assertRaises(errors.JournalError):
+                    for number in range(100):
+                        it.set("acme", number)
+                        told.append(f"set acme {number}")
+            finally:
+                resource.setrlimit(resource.RLIMIT_FSIZE, limits)
+            self.assertRaises(errors.Ended, it.ask, "share")
+            self.assertIsNotNone(it.ended)
+            with suppress(doqsheley.DeskError):
+                it.close()
+            self.assertEqual(day.read_text().split("\n")[1:-1], told)
+            with Session.recover(MARKET, day, via=self.via) as it:
+                self.assertEqual(it.ask("share").value, len(told) - 1)
 
     def test_a_client_that_is_killed(self):
         pick = random.Random(int(os.environ.get("DESK_SEED", "83")))
@@ -529,7 +723,7 @@ class PipedAnswers(Answers):
 
 class PipedRefusals(Refusals):
     via = "pipe"
-    test_every_word_is_tried = None
+    test_every_word_is_tried = test_every_word_of_the_pages_has_a_class = test_every_command_has_a_method = None
 
 
 class PipedStarts(Starts):
@@ -617,7 +811,9 @@ class Programs(unittest.TestCase):
             explained = it.explain({"five": ["set s5 0.0253"], "share": ["set acme 43"]}, ask=["book"])
             self.assertEqual(explained.splitlines()[:2], ["step base", "book 5495252.776163 fresh 7"])
             self.assertEqual(it.explain("action five\nset s5 0.0253\nend\naction share\nset acme 43\nend\nask book"), explained)
-            self.assertIn(["share", "delta", "acme", "2.000000"], it.risk("share").rows)
+            self.assertIn(["share", "delta", "acme", "0.000200"], it.risk("share").rows)
+            self.assertIn(["share", "delta", "acme", "2.000000"], it.risk("share", size=1).rows)
+            self.assertEqual(it.risk("book"), it.risk("book", size=0.0001))
             self.assertIn("book 5497271.244744", it.grid({"five": ["set s5 0.0253"]}, ask=["book"]))
             self.assertIn("digraph", it.graph())
             self.assertIn("<svg", it.picture("euro"))

@@ -3,16 +3,9 @@
 from __future__ import annotations
 
 import os
-import subprocess
-import tempfile
-from contextlib import suppress
-from pathlib import Path
-from typing import IO, TYPE_CHECKING, List, NamedTuple, Optional, Tuple, Union
+from typing import IO, List, NamedTuple, Optional, Tuple, Union
 
 from .errors import Ended, FileMissing, MarketFault, OpenFault, ScriptFault, UsageFault
-
-if TYPE_CHECKING:
-    from ._desk import Desk
 
 PathLike = Union[str, "os.PathLike[str]"]
 
@@ -50,8 +43,9 @@ def order_of(order: Optional[str]) -> Tuple[int, int]:
 def read_file(role: str, path: PathLike) -> bytes:
     """The bytes of a file."""
     try:
-        return Path(path).read_bytes()
-    except FileNotFoundError:
+        with open(path, "rb") as file:
+            return file.read()
+    except (FileNotFoundError, IsADirectoryError):
         raise FileMissing(role, f"no file {role}: there is no {os.fspath(path)} below {os.getcwd()}") from None
 
 
@@ -87,44 +81,12 @@ def fault_of(status: int, said: str) -> OpenFault:
     return OpenFault(status, said)
 
 
-class Library:
-    """A session in this process. Only the thread that made it may use it."""
-
-    def __init__(self, texts: Texts, order: Optional[str]) -> None:
-        from . import _desk
-
-        number, seed = order_of(order)
-        self.desk: Optional[Desk] = _desk.Desk()
-        status, said, *_ = self.desk.open(texts.market, texts.quotes, texts.fixings, texts.script, number, seed)
-        if status == NO_MEMORY:
-            raise MemoryError
-        if status != DONE:
-            raise fault_of(status, said)
-        self.opening = self.desk.text()
-
-    def say(self, line: bytes) -> bytes:
-        """What a line writes."""
-        status, text = self.desk.say(line) if self.desk else (CLOSED, b"")
-        if status == NO_MEMORY:
-            raise MemoryError
-        if status:
-            raise Ended(0, "the session is closed") if status == CLOSED else Ended(STOPPED, "the session takes no line any more")
-        return text
-
-    def close(self) -> None:
-        """Frees the session."""
-        if self.desk:
-            self.desk.close()
-
-    @property
-    def is_open(self) -> bool:
-        return self.desk is not None
-
-
 class Pipe:
     """A session in a program that answers line by line. An interrupted call ends the program, whose answer would be lost."""
 
     def __init__(self, words: List[str], folder: Optional[str] = None) -> None:
+        import subprocess
+
         pipe = subprocess.PIPE
         try:
             self.process = subprocess.Popen(words, stdin=pipe, stdout=pipe, stderr=pipe, cwd=folder)
@@ -155,16 +117,20 @@ class Pipe:
         except BrokenPipeError:
             pass
         except BaseException:
-            self.process.kill()
+            self.kill()
             raise
         raise self._end()
+
+    def kill(self) -> None:
+        """Ends the program at once."""
+        self.process.kill()
+        self._end()
 
     def close(self) -> None:
         """Ends the program."""
         if self.ended:
             return
-        with suppress(OSError):
-            self._in.close()
+        _close(self._in)
         self._out.read()
         end = self._end()
         if end.status:
@@ -186,18 +152,27 @@ class Pipe:
 
     def _end(self) -> Ended:
         assert self.process.stderr is not None
-        said = self.process.stderr.read().decode(errors="replace").strip()
-        self.ended = Ended(self.process.wait(), said)
-        for it in (self._in, self._out, self.process.stderr):
-            with suppress(OSError):
-                it.close()
+        if self.ended is None:
+            said = self.process.stderr.read().decode(errors="replace").strip()
+            self.ended = Ended(self.process.wait(), said)
+            for it in (self._in, self._out, self.process.stderr):
+                _close(it)
         return self.ended
+
+
+def _close(file: IO[bytes]) -> None:
+    try:
+        file.close()
+    except OSError:
+        pass
 
 
 class Files:
     """Texts as files in a folder of their own, for a program that reads files."""
 
     def __init__(self, texts: Texts, quotes: Optional[str], fixings: Optional[str]) -> None:
+        import tempfile
+
         self._folder = tempfile.TemporaryDirectory(prefix="doqsheley")
         self.folder = self._folder.name
         self.put("market.toml", texts.market)
@@ -207,11 +182,12 @@ class Files:
         self.script = self.put("script.txt", texts.script) if texts.script else None
 
     def put(self, path: str, text: bytes) -> str:
-        place = Path(self.folder, path)
-        if os.path.isabs(path) or ".." in Path(path).parts:
+        place = os.path.join(self.folder, path)
+        if os.path.isabs(path) or ".." in path.split("/"):
             raise UsageFault(f"the market names {path}, which lies outside of a folder of its own")
-        place.parent.mkdir(parents=True, exist_ok=True)
-        place.write_bytes(text)
+        os.makedirs(os.path.dirname(place), exist_ok=True)
+        with open(place, "wb") as file:
+            file.write(text)
         return path
 
     def close(self) -> None:

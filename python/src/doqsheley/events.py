@@ -4,10 +4,14 @@ from __future__ import annotations
 
 from datetime import date
 from decimal import Decimal
-from html import escape
 from typing import Any, Iterable, Iterator, List, NamedTuple, Tuple, Union
 
 from .errors import REJECTED, UNPRICED, Fault, Rejected, Unpriced
+
+
+def escape(text: str) -> str:
+    """A text as it stands in HTML."""
+    return text.replace("&", "&amp;").replace("<", "&lt;").replace(">", "&gt;")
 
 
 class Price(NamedTuple):

@@ -3,24 +3,32 @@
 from __future__ import annotations
 
 import os
-import shutil
-import subprocess
-from pathlib import Path
-from typing import List, Optional, Sequence
+import sys
+from typing import List, NoReturn, Optional, Sequence
 
 from .errors import ProgramFailed
 
 
 def program(name: "Optional[os.PathLike[str] | str]" = None) -> str:
-    """The program `doqs`: the one named, else that of DOQS, else the one beside this package, else that of the path."""
+    """The program `doqs`: the one named, else that of DOQS, else the one of this package, else that of the path."""
     if name is not None:
         return os.fspath(name)
-    beside = Path(__file__).with_name("doqs")
-    return os.environ.get("DOQS") or (str(beside) if beside.is_file() else shutil.which("doqs") or "doqs")
+    own = os.path.join(os.path.dirname(__file__), "doqs")
+    return os.environ.get("DOQS") or (own if os.path.isfile(own) else "doqs")
+
+
+def main() -> NoReturn:
+    """Becomes the program."""
+    try:
+        os.execvp(program(), ["doqs", *sys.argv[1:]])
+    except OSError as error:
+        sys.exit(f"doqs: {program()}: {error.strerror}")
 
 
 def run(words: Sequence[str], doqs: "Optional[os.PathLike[str] | str]" = None, folder: Optional[str] = None) -> str:
     """What a command writes. Raises ProgramFailed where its exit status is not 0."""
+    import subprocess
+
     call: List[str] = [program(doqs), *words]
     try:
         ran = subprocess.run(call, stdin=subprocess.DEVNULL, stdout=subprocess.PIPE, stderr=subprocess.PIPE, cwd=folder)

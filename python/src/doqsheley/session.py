@@ -3,65 +3,61 @@
 from __future__ import annotations
 
 import os
-import tempfile
-from contextlib import suppress
-from decimal import Context, Decimal
-from pathlib import Path
-from typing import IO, TYPE_CHECKING, Iterable, List, Mapping, Optional, Sequence, Type, TypeVar, Union
+from decimal import Decimal
+from datetime import date
+from typing import TYPE_CHECKING, Iterable, List, Mapping, NoReturn, Optional, Sequence, Tuple, Type, TypeVar, Union
 
 from . import programs
-from .backends import KINDS, MARKS, Files, Library, PathLike, Pipe, Texts, read_texts
-from .errors import DeskError, Ended, Fault, MarketFault, OpenFault, ProgramFailed, Rejected, ScriptFault, Unpriced, UsageFault
+from .backends import CLOSED, KINDS, MARKS, NO_MEMORY, STOPPED, Files, PathLike, Pipe, Texts, fault_of, order_of, read_file, read_texts
+from .errors import DeskError, Ended, Fault, JournalError, MarketFault, OpenFault, ProgramFailed, Rejected, ScriptFault, Unpriced, UsageFault
 from .events import Curve, Event, Factor, Graph, Node, Object, Picture, Price, Quote, Report, Table, read
-from .journal import Journal, head_of, read_journal
-from .values import FACTOR, MONEY, RATE, Day, Number, day_number, day_of, day_text, number_text, units_of
+from .journal import Journal, Transcript, as_script, first_word, head_of, with_newline
+from .values import Day, Number, day_text, number_text
 
 if TYPE_CHECKING:
+    from tempfile import SpooledTemporaryFile
+
     from ._desk import Desk
+else:
+    try:
+        from . import _desk
+        from ._desk import Desk
+    except ImportError:
+        from ._no_desk import Desk
+    else:
+        _desk.set_up(Price, Factor, Decimal, date, JournalError, MARKS)
 
 S = TypeVar("S", bound="Session")
 Blocks = Union[str, Mapping[str, Iterable[str]]]
 
-# Exact for every number of a session, whatever the caller's context.
-EXACT = Context(prec=60)
-DONE, UNPRICED, NOT_MONEY, REFUSED = 0, 15, 16, 13
+# The number of the header where a call is carried out.
+DONE = 0
 
 
-def decimal(units: int, places: int) -> Decimal:
-    """So many units of 10^places."""
-    return EXACT.scaleb(Decimal(units), places)
-
-
-class Session:
+class Session(Desk):
     """A session over the market at a path, after the commands of a script where one is given.
 
     The market's own paths are as seen from the working folder. `order` is that of watchers: `first`, `last` or a number. `via` is
     `library`, a session in this process, or `pipe`, one in a program, which is `doqs live` or what `command` has.
 
     `journal` is the path of a new file that takes each accepted line before its result is handed on; with `sync` it is on the disk
-    then. `transcript` takes what the lines write.
+    then. `transcript` is the path of a file that takes what the lines write.
 
-    Raises FileMissing, MarketFault, ScriptFault or UsageFault.
+    Raises FileMissing, MarketFault, ScriptFault or UsageFault, and JournalError where the journal is there already.
     """
 
     opening: List[Event]
-    _back: Union[Library, Pipe]
-    _desk: Desk
+    # The program of a session over a pipe.
+    _back: Optional[Pipe]
     _texts: Texts
     _paths: Optional[List[str]]
     _files: Optional[Files]
     _journal: Optional[Journal]
-    _log: Optional[IO[bytes]]
-    _transcript: Optional[IO[bytes]]
+    _transcript: Optional[Transcript]
+    # The lines of a session over a pipe that has no journal.
+    _lines: Optional[SpooledTemporaryFile[bytes]]
     _order: Optional[str]
-    # How many lines were said, and the line of the action that is open.
-    _count: int
-    _action: int
     _is_closed: bool
-    # Whether set, ask and df go by the library's quick calls: not while an action is open.
-    _is_quick: bool
-    # Whether there may be a watcher: set is said as a line then, which runs it.
-    _has_watchers: bool
 
     def __init__(
         self,
@@ -75,22 +71,18 @@ class Session:
         sync: bool = False,
         transcript: Optional[PathLike] = None,
     ) -> None:
-        self._paths = [os.fspath(market)] + ([] if script is None else [os.fspath(script)])
-        self._files = None
-        self._begin(None if order is None else str(order))
+        self._begin(order, [os.fspath(market)] + ([] if script is None else [os.fspath(script)]))
         try:
-            if via == "library":
+            if _is_pipe(via):
+                self._start(self._words(command, self._paths or []))
+                said = b"" if script is None else read_file("script", script)
+            else:
                 texts = read_texts(market, script)
                 said = texts.script
-                self._back = Library(texts, self._order)
-            elif via == "pipe":
-                self._back = Pipe(self._words(command, self._paths))
-                said = b"" if script is None else Path(script).read_bytes()
-            else:
-                raise UsageFault(f"via is library or pipe, and not {via!r}")
+                self._open(texts)
         except (MarketFault, ScriptFault) as fault:
             raise self._located(fault) from None
-        self._open(said, journal, sync, transcript)
+        self._keep(said, journal, sync, transcript)
 
     @classmethod
     def from_texts(
@@ -110,18 +102,15 @@ class Session:
         """A session over texts in the place of files. A table that the market does not name is not read."""
         texts = Texts(*(it.encode() if isinstance(it, str) else it for it in (market, quotes, fixings, script)))
         self = cls.__new__(cls)
-        self._paths, self._files = None, None
+        self._begin(order, None)
         self._texts = texts
-        self._begin(None if order is None else str(order))
-        if via == "library":
-            self._back = Library(texts, self._order)
-        elif via == "pipe":
+        if _is_pipe(via):
             files = self._written()
             words = ["market.toml"] + ([files.script] if files.script else [])
-            self._back = Pipe(self._words(command, words), files.folder)
+            self._start(self._words(command, words), files.folder)
         else:
-            raise UsageFault(f"via is library or pipe, and not {via!r}")
-        self._open(texts.script, journal, sync, transcript)
+            self._open(texts)
+        self._keep(texts.script, journal, sync, transcript)
         return self
 
     @classmethod
@@ -135,33 +124,56 @@ class Session:
         sync: bool = False,
         transcript: Optional[PathLike] = None,
     ) -> S:
-        """A session over the market, in which the lines of a journal are done again in silence, and which goes on with the journal."""
-        order, script, lines = read_journal(journal)
-        with tempfile.TemporaryDirectory(prefix="doqsheley") as room:
-            path = Path(room, "script.txt")
-            path.write_bytes(script)
-            self = cls(market, path if script else None, order=order, via=via, command=command, transcript=transcript)
-        for line in lines.split(b"\n")[:-1]:
-            self._take(line)
-        self._journal = Journal(journal, None, sync)
-        if self._log is not None:
-            self._log.close()
-        self._log = None
+        """A session over the market, in which the lines of a journal are done again in silence, and which goes on with the journal.
+
+        A last line that was not written whole is cut off. `transcript` may have the first part of what the lines write, as the session
+        left it that began the journal: what is missing is written, and nothing twice.
+
+        Raises JournalError where there is no such journal, another session has it, or the transcript is not its own."""
+        self = cls.__new__(cls)
+        self._begin(None, [os.fspath(market)])
+        held = Journal(journal, False, sync)
+        try:
+            self._order, script, lines = held.read()
+            record = None if transcript is None else Transcript(transcript, False)
+            try:
+                self._replay(via, command, script, lines, record)
+                if record is not None:
+                    record.end()
+            except BaseException:
+                if record is not None:
+                    record.close()
+                raise
+        except (MarketFault, ScriptFault) as fault:
+            held.close()
+            raise self._located(fault) from None
+        except BaseException:
+            held.close()
+            raise
+        self._go_on(held, record, b"")
         return self
 
     def __enter__(self: S) -> S:
         return self
 
     def __exit__(self, kind: object, *_: object) -> None:
-        with suppress(*([] if kind is None else [DeskError])):
+        try:
             self.close()
+        except DeskError:
+            if kind is None:
+                raise
 
     @property
     def ended(self) -> Optional[Ended]:
         """How the session ended, once it has."""
-        if isinstance(self._back, Pipe):
+        if self._back is not None:
             return self._back.ended
         return Ended(0, "the session is closed") if self._is_closed else None
+
+    @property
+    def count(self) -> int:
+        """How many lines the session has taken, the faulty ones among them, and those of a journal that was recovered from."""
+        return self._count
 
     # Any line.
 
@@ -180,22 +192,6 @@ class Session:
 
     # Prices.
 
-    def ask(self, name: str) -> Price:
-        """The instrument's price. Raises Unpriced where it has none, Rejected where nothing that is priced has the name, and TypeError
-        for a curve."""
-        if self._is_quick:
-            text = _name(name)
-            status, units, mark, runs = self._desk.ask(text)
-            if status == DONE:
-                self._accept(b"ask " + text)
-                return Price(name, decimal(units, MONEY), MARKS[mark], runs)
-            event = self._told(b"ask " + text, status)
-        else:
-            event = self._one("ask", name)
-        if not isinstance(event, Price):
-            raise TypeError(f"{name} is a curve")
-        return event
-
     def curve(self, name: str) -> Curve:
         """The curve's nodes. Raises Unpriced where it has none, Rejected where nothing that is priced has the name, and TypeError for
         an instrument."""
@@ -204,45 +200,18 @@ class Session:
             raise TypeError(f"{name} is no curve")
         return event
 
-    def df(self, curve: str, day: Day) -> Factor:
-        """The curve's discount factor at a day. Raises Unpriced where there is none, and Rejected where no curve has the name."""
-        text = day_text(day)
-        number = day_number(text) if self._is_quick else 0
-        if number:
-            name = _name(curve)
-            line = b"df " + name + b" " + text.encode()
-            status, units, mark, runs = self._desk.df(name, number)
-            if status == DONE:
-                self._accept(line)
-                return Factor(curve, day_of(number), decimal(units, FACTOR), MARKS[mark], runs)
-            event = self._told(line, status)
-        else:
-            event = self._one("df", curve, text)
-        assert isinstance(event, Factor)
-        return event
-
     def nodes(self, curve: str) -> List[Node]:
         """The nodes of the curve's last value. Nothing is computed."""
-        desk, name, found = self._library("nodes"), _name(curve), []
+        self._is_library("nodes")
+        name, found = _line("ask", [curve])[4:], []
         for at in range(1 << 16):
-            status, day, units, _ = desk.node(name, at)
+            status, day, value = self._node_at(name, at)
             if status != DONE:
                 break
-            found.append(Node(day_of(day), decimal(units, FACTOR)))
+            found.append(Node(day, value))
         return found
 
     # Changes.
-
-    def set(self, quote: str, value: Number) -> List[Event]:
-        """Gives the quote a value of at most nine places, within 1,000,000,000 either way, and returns what watchers' runs wrote. A
-        float is taken where it is the nearest one to a decimal of nine places, else InexactValue is raised."""
-        text = number_text(value)
-        if self._is_quick and not self._has_watchers:
-            name, units = _name(quote), units_of(text)
-            if -(10**18) <= units <= 10**18 and self._desk.set(name, units) == DONE:
-                self._accept(b"set " + name + b" " + text.encode())
-                return []
-        return self._do("set", quote, text)
 
     def unset(self, quote: str) -> List[Event]:
         """Takes the quote's value away."""
@@ -376,23 +345,18 @@ class Session:
 
     def objects(self) -> Table:
         """The live objects by number, each with its name and its kind, one of KINDS."""
-        desk = self._library("objects")
-        rows = []
-        for number in range(desk.count()[1]):
-            status, name, kind, _, _ = desk.object(number)
-            if status == DONE:
-                rows.append(Object(number, name.decode(), KINDS[kind]))
-        return Table(rows, Object._fields)
+        return Table((Object(number, name, kind) for number, name, kind, _ in self._objects("objects")), Object._fields)
 
     def quotes(self) -> Table:
         """The quotes by number, each with its value, and none where it has none."""
-        desk = self._library("quotes")
-        rows = []
-        for number in range(desk.count()[1]):
-            status, name, kind, is_set, units = desk.object(number)
-            if status == DONE and KINDS[kind] == "quote":
-                rows.append(Quote(name.decode(), decimal(units, RATE) if is_set else None))
-        return Table(rows, Quote._fields)
+        return Table((Quote(name, value) for _, name, kind, value in self._objects("quotes") if kind == "quote"), Quote._fields)
+
+    def _objects(self, call: str) -> Iterable[Tuple[int, str, str, Optional[Decimal]]]:
+        self._is_library(call)
+        for number in range(self._number_count()[1]):
+            status, name, kind, value = self._object_at(number)
+            if status == DONE:
+                yield number, name, KINDS[kind], value
 
     # Commands of doqs, over the market and the lines of this session.
 
@@ -405,10 +369,10 @@ class Session:
         script, or the commands of each step by its name, with the objects to `ask` for."""
         return Report(self._run(["explain"], script=_blocks(steps, ask)))
 
-    def risk(self, *names: str, size: int = 1) -> Report:
-        """Delta, gamma, cross gamma and theta of prices in the market as the session was opened, for moves of `size` basis points:
-        `doqs risk`."""
-        return Report(self._run(["risk"], [str(size), *names], with_script=False))
+    def risk(self, *names: str, size: Number = "0.0001") -> Report:
+        """Delta, gamma, cross gamma and theta of prices in the market as the session was opened: `doqs risk`. Each quote moves by `size`,
+        in the units of the quote: 0.0001 is a basis point of a rate, and a hundredth of a cent of a share in euro."""
+        return Report(self._run(["risk"], [number_text(size), *names], with_script=False))
 
     def grid(self, scenarios: Blocks, ask: Iterable[str] = ()) -> Report:
         """The prices of scenarios, each done in the market as the session was opened: `doqs grid`. They are a script, or the commands
@@ -435,122 +399,213 @@ class Session:
         """The session's lines so far, those of its script first, without the faulty ones: a script that `doqs run` takes. An action that
         is open is ended."""
         if self._journal is not None:
-            text = Path(self._journal.path).read_bytes()
+            text = read_file("journal", self._journal.path)
+        elif self._back is None:
+            text = self._kept_lines()
+        elif self._lines is None or self._lines.closed:
+            raise Ended(0, "the session is closed")
         else:
-            assert self._log is not None
-            self._log.flush()
-            self._log.seek(0)
-            text = self._log.read()
-            self._log.seek(0, os.SEEK_END)
+            self._lines.seek(0)
+            text = self._lines.read()
+            self._lines.seek(0, os.SEEK_END)
         return text + (b"end\n" if self._action else b"")
 
     def close(self) -> None:
         """Ends the session. Raises Ended where its program fails, and Fault where an action was left open, which is ended."""
+        if self._is_closed:
+            return
+        line = self._action
         try:
-            if self._back.is_open and not self._is_closed:
-                self._is_closed = True
-                if self._action:
-                    self._accept(b"end")
+            if self._action and self._back is None:
+                self._say(b"end")
+            elif self._action and self._back is not None and self._back.ended is None:
+                self._keep_line(b"end", b"")
+                self._action = 0
+            if self._back is not None:
                 self._back.close()
-                if self._action:
-                    raise Fault(self._action, "unclosed")
+            if line:
+                raise Fault(line, "unclosed")
         finally:
-            for it in (self._journal, self._log, self._transcript, self._files):
-                if it is not None:
-                    it.close()
-            self._is_quick = False
+            self._release()
+
+    def _release(self) -> None:
+        """Frees the session in this process, and closes its files."""
+        self._is_closed = True
+        self._close_desk()
+        for it in (self._journal, self._transcript, self._files, self._lines):
+            if it is not None:
+                it.close()
 
     # How lines are taken.
 
-    def _begin(self, order: Optional[str]) -> None:
-        self._order = order
-        self._count = 0
-        self._action = 0
+    def _begin(self, order: Union[str, int, None], paths: Optional[List[str]]) -> None:
+        self._order = None if order is None else str(order)
+        self._paths = paths
         self._is_closed = False
-        self._is_quick = False
-        self._has_watchers = False
-        self._journal = self._log = self._transcript = None
+        self._back = self._files = self._journal = self._transcript = self._lines = None
+        self.opening = []
 
-    def _open(self, script: bytes, journal: Optional[PathLike], sync: bool, transcript: Optional[PathLike]) -> None:
-        back = self._back
+    def _open(self, texts: Texts) -> bytes:
+        """Opens the session in this process. The result is what the script wrote."""
+        number, seed = order_of(self._order)
+        status, said, *_ = self._open_desk(texts.market, texts.quotes, texts.fixings, texts.script, number, seed)
+        if status == NO_MEMORY:
+            raise MemoryError
+        if status != DONE:
+            raise fault_of(status, said)
+        self._has_watchers = b"watch" in texts.script
+        return self._last_text()
+
+    def _start(self, words: List[str], folder: Optional[str] = None) -> bytes:
+        """Opens the session in a program. The result is what the script wrote."""
+        self._back = Pipe(words, folder)
+        return self._back.opening
+
+    def _keep(self, script: bytes, journal: Optional[PathLike], sync: bool, transcript: Optional[PathLike]) -> None:
+        """Keeps the lines of a session that is open."""
+        said = self._last_text() if self._back is None else self._back.opening
+        held = record = None
         try:
             if journal is not None:
-                self._journal = Journal(journal, head_of(self._order, script), sync)
-            else:
-                self._log = tempfile.SpooledTemporaryFile(1 << 20)
-                self._log.write(script + (b"\n" if script and not script.endswith(b"\n") else b""))
+                held = Journal(journal, True, sync)
+                held.begin(head_of(self._order, script))
             if transcript is not None:
-                self._transcript = open(transcript, "wb")
-                self._transcript.write(back.opening)
+                record = Transcript(transcript, True)
+                record.write(said)
         except BaseException:
-            back.close()
+            self._is_closed = True
+            for it in (held, record):
+                if it is not None:
+                    it.close()
+            if self._back is not None:
+                self._back.kill()
+            self._close_desk()
             raise
-        self.opening = [read(it) for it in back.opening.decode().split("\n")[:-1]]
-        self._has_watchers = b"watch" in script
-        if isinstance(back, Library) and back.desk is not None:
-            self._desk = back.desk
-            self._is_quick = True
+        self._go_on(held, record, script)
+        self.opening = [read(it) for it in said.decode().split("\n")[:-1]]
 
-    def _take(self, line: bytes) -> bytes:
-        """What a line writes, which is in no log yet."""
-        if line.endswith(b"\r"):
-            line = line[:-1]
-        written = self._back.say(line)
-        self._count += 1
-        if written.startswith(b"fault ") and written.count(b" ") == 2:
-            return written
-        words = line.partition(b"#")[0].split()
-        if words:
-            if words[0] == b"action" and not self._action:
-                self._action = self._count
-                self._is_quick = False
-            elif words[0] == b"end":
-                self._action = 0
-                self._is_quick = isinstance(self._back, Library)
-            elif words[0] == b"watch":
-                self._has_watchers = True
-        return written
+    def _go_on(self, journal: Optional[Journal], transcript: Optional[Transcript], script: bytes) -> None:
+        self._journal, self._transcript = journal, transcript
+        if self._back is None:
+            files = [-1 if it is None else it.file for it in (journal, transcript)]
+            self._keep_lines(b"" if journal else with_newline(script), files[0], journal is not None and journal.sync, files[1])
+        elif journal is None:
+            from tempfile import SpooledTemporaryFile
 
-    def _said(self, line: bytes) -> List[Event]:
+            self._lines = SpooledTemporaryFile(1 << 20)
+            self._lines.write(with_newline(script))
+
+    def _replay(
+        self, via: str, command: Optional[Sequence[str]], script: bytes, lines: bytes, transcript: Optional[Transcript]
+    ) -> None:
+        """Opens the session, and does the lines of a journal, whose texts the transcript takes."""
+        assert self._paths is not None
+        if not _is_pipe(via):
+            said = self._open(read_texts(self._paths[0], None)._replace(script=script))
+        else:
+            from tempfile import TemporaryDirectory
+
+            with TemporaryDirectory(prefix="doqsheley") as room:
+                # A program that has --quiet takes them as its script, and says nothing of them.
+                quiet, left = (b"", lines) if transcript is not None else as_script(script, lines)
+                path = os.path.join(room, "script.txt")
+                files = [self._paths[0], path]
+                try:
+                    if not quiet:
+                        raise UsageFault
+                    _write(path, quiet)
+                    said = self._start([*self._words(command, files), "--quiet"])
+                    self._count, lines = lines.count(b"\n") - left.count(b"\n"), left
+                except UsageFault:
+                    _write(path, script)
+                    said = self._start(self._words(command, files if script else files[:1]))
+        if transcript is not None:
+            transcript.write(said)
+        for line in lines.split(b"\n")[:-1]:
+            said = self._say(line)
+            if transcript is not None:
+                transcript.write(said)
+
+    def _say(self, line: bytes) -> bytes:
+        """What a line writes, which is kept where it has no fault."""
         if self._is_closed:
             raise Ended(0, "the session is closed")
-        written = self._take(line)
+        if line.endswith(b"\r"):
+            line = line[:-1]
+        if self._back is None:
+            status, written = self._say_line(line)
+            if status == NO_MEMORY:
+                raise MemoryError
+            if status == CLOSED:
+                self._release()
+                raise Ended(0, "the session is closed")
+            if status:
+                raise Ended(STOPPED, "the session takes no line any more")
+            return written
+        try:
+            written = self._back.say(line)
+            self._count += 1
+            if not (written.startswith(b"fault ") and written.count(b" ") == 2):
+                self._keep_line(line, written)
+                word = first_word(line)
+                if word in (b"action", b"end"):
+                    self._action = self._count if word == b"action" else 0
+        except BaseException:
+            # A line that was done and may not be kept ends the session.
+            if self._back.ended is None:
+                self._back.kill()
+            raise
+        return written
+
+    def _keep_line(self, line: bytes, written: bytes) -> None:
+        """Keeps a line of a session over a pipe."""
+        place = "journal"
+        try:
+            if self._journal is not None:
+                self._journal.write(line + b"\n")
+            elif self._lines is not None:
+                self._lines.write(line + b"\n")
+            place = "transcript"
+            if self._transcript is not None:
+                self._transcript.write(written)
+        except OSError as error:
+            raise JournalError(f"the session ended: a line was done and cannot be kept in the {place}: {error.strerror}") from None
+
+    def _said(self, line: bytes) -> List[Event]:
+        written = self._say(line)
         events = [read(it) for it in written.decode().split("\n")[:-1]]
         if events and isinstance(events[0], Fault):
             raise Fault(self._count, events[0].kind)
-        self._keep(line, written)
         return events
 
-    def _keep(self, line: bytes, written: bytes) -> None:
-        if self._journal is not None:
-            self._journal.write(line + b"\n")
-        elif self._log is not None:
-            self._log.write(line + b"\n")
-        if self._transcript is not None:
-            self._transcript.write(written)
-            self._transcript.flush()
+    def _told(self, text: bytes, name: str) -> NoReturn:
+        """Raises what an ask wrote that has no value of its sort."""
+        event = read(text.decode().rstrip("\n"))
+        if isinstance(event, (Unpriced, Rejected)):
+            raise event
+        raise TypeError(f"{name} is a curve")
 
-    def _accept(self, line: bytes) -> None:
-        """Keeps a line that a quick call has done."""
-        self._count += 1
-        self._keep(line, self._desk.text() if self._transcript is not None and line[:4] != b"set " and line != b"end" else b"")
+    # What `ask`, `df` and `set` of the base do where they are not quick.
 
-    def _told(self, line: bytes, status: int) -> Event:
-        """What a quick ask told that has no price, or what the line writes where the ask could not be made."""
-        if status not in (UNPRICED, NOT_MONEY, REFUSED):
-            return self._first(self._said(line), line)
-        self._accept(line)
-        return self._first([read(self._desk.text().decode().rstrip("\n"))], line)
+    def _ask(self, name: str) -> Price:
+        event = self._one("ask", name)
+        if not isinstance(event, Price):
+            raise TypeError(f"{name} is a curve")
+        return event
 
-    def _first(self, events: List[Event], line: bytes) -> Event:
-        event = events[0]
+    def _df(self, curve: str, day: Day) -> Factor:
+        event = self._one("df", curve, day_text(day))
+        assert isinstance(event, Factor)
+        return event
+
+    def _set(self, quote: str, value: Number) -> List[Event]:
+        return self._do("set", quote, number_text(value))
+
+    def _one(self, word: str, *words: str) -> Event:
+        event = self._said(_line(word, words))[0]
         if isinstance(event, (Unpriced, Rejected)):
             raise event
         return event
-
-    def _one(self, word: str, *words: str) -> Event:
-        line = _line(word, words)
-        return self._first(self._said(line), line)
 
     def _do(self, word: str, *words: str) -> List[Event]:
         events = self._said(_line(word, words))
@@ -558,10 +613,11 @@ class Session:
             raise events[0]
         return events
 
-    def _library(self, call: str) -> "Desk":
-        if not isinstance(self._back, Library) or self._is_closed:
+    def _is_library(self, call: str) -> None:
+        if self._is_closed:
+            raise Ended(0, "the session is closed")
+        if self._back is not None:
             raise TypeError(f"{call} needs a session in this process: via='library'")
-        return self._desk
 
     # Files and programs.
 
@@ -578,16 +634,17 @@ class Session:
         return self._files
 
     def _run(self, words: List[str], more: Sequence[str] = (), *, with_script: bool = True, script: Optional[bytes] = None) -> str:
+        from tempfile import TemporaryDirectory
+
         folder = None
         market = self._paths[0] if self._paths else ""
         if self._paths is None:
             folder, market = self._written().folder, "market.toml"
-        with tempfile.TemporaryDirectory(prefix="doqsheley") as room:
+        with TemporaryDirectory(prefix="doqsheley") as room:
             files = [market]
             if with_script:
-                path = Path(room, "script.txt")
-                path.write_bytes(self.script() if script is None else script)
-                files.append(str(path))
+                files.append(os.path.join(room, "script.txt"))
+                _write(files[1], self.script() if script is None else script)
             return programs.run([*words, *files, *more], folder=folder)
 
     def _located(self, fault: OpenFault) -> OpenFault:
@@ -604,10 +661,15 @@ def _blocks(blocks: Blocks, ask: Iterable[str]) -> bytes:
     return (front + "".join(f"{it}\n" for it in [*lines, *(f"ask {it}" for it in ask)])).encode()
 
 
-def _name(name: str) -> bytes:
-    if not name.isidentifier() and not name.isalnum():
-        raise ValueError(f"{name!r} is no name")
-    return name.encode()
+def _is_pipe(via: str) -> bool:
+    if via not in ("library", "pipe"):
+        raise UsageFault(f"via is library or pipe, and not {via!r}")
+    return via == "pipe"
+
+
+def _write(path: str, text: bytes) -> None:
+    with open(path, "wb") as file:
+        file.write(text)
 
 
 def _line(word: str, words: Sequence[str]) -> bytes:

@@ -432,6 +432,14 @@ class Refusals(Both, unittest.TestCase):
             self.assertEqual((got.exception.line, got.exception.kind), (2, "unclosed"))
             self.assertEqual(played(MARKET, f"{room}/day"), Path(room, "written").read_bytes())
 
+    def test_an_ask_in_an_action(self):
+        with self.session(MARKET) as it:
+            it.send("action a")
+            for call in (lambda: it.ask("share"), lambda: it.curve("euro"), lambda: it.df("euro", "2029-01-17")):
+                self.assertRaises(doqsheley.DeskError, call)
+            send(it, "ask share; end")
+            self.assertEqual(it.script(), b"action a\nask share\nend\n")
+
     def test_every_word_of_the_pages_has_a_class(self):
         transcript = (TOP / "docs/reference/transcript.md").read_text()
         self.assertEqual(words_of(transcript, "CAUSE"), set(errors.UNPRICED))

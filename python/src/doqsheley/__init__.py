@@ -11,12 +11,12 @@ Price(name='book', value=Decimal('5497271.244744'), mark='fresh', runs=7)
 from . import errors
 from .backends import KINDS, MARKS
 from .errors import *  # noqa: F403
-from .events import Curve, Event, Factor, Graph, Node, Object, Over, Picture, Price, Quote, Report, Table, read
+from .events import Curve, Event, Factor, Graph, Grid, Node, Object, Over, Picture, Price, Quote, Report, Table, read
 from .session import Session
 
 __version__ = "0.18"
 __all__ = [
     *errors.__all__,
-    "KINDS", "MARKS", "Curve", "Event", "Factor", "Graph", "Node", "Object", "Over", "Picture", "Price", "Quote",
+    "KINDS", "MARKS", "Curve", "Event", "Factor", "Graph", "Grid", "Node", "Object", "Over", "Picture", "Price", "Quote",
     "Report", "Session", "Table", "errors", "read",
 ]  # fmt: skip

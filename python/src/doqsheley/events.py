@@ -4,7 +4,7 @@ from __future__ import annotations
 
 from datetime import date
 from decimal import Decimal
-from typing import Any, Iterable, Iterator, List, NamedTuple, Tuple, Union
+from typing import Any, Dict, Iterable, Iterator, List, NamedTuple, Tuple, Union
 
 from .errors import REJECTED, UNPRICED, Fault, Rejected, Unpriced
 
@@ -156,6 +156,26 @@ class Report(str):
 
     def _repr_html_(self) -> str:
         return f"<pre>{escape(self)}</pre>"
+
+
+class Grid(Report):
+    """The text of `doqs grid`."""
+
+    @property
+    def scenarios(self) -> Dict[str, List[Event]]:
+        """What each scenario wrote, by its name: `base` first. A move that was refused is among it, and the asks are the last.
+
+        >>> Grid("scenario base\\nbook 1.000000 fresh 2\\nscenario up\\nbook 2.000000 fresh 2\\nworst book base 1.000000").scenarios["up"]
+        [Price(name='book', value=Decimal('2.000000'), mark='fresh', runs=2)]
+        """
+        found: Dict[str, List[Event]] = {}
+        for line in self.splitlines():
+            words = line.split(" ")
+            if len(words) == 2 and words[0] == "scenario":
+                events = found[words[1]] = []
+            elif words[0] != "worst" or words[-1].isdigit():
+                events.append(read(line))
+        return found
 
 
 class Picture(str):

@@ -10,7 +10,7 @@ from typing import TYPE_CHECKING, Iterable, List, Mapping, NoReturn, Optional, S
 from . import programs
 from .backends import CLOSED, KINDS, MARKS, NO_MEMORY, STOPPED, Files, PathLike, Pipe, Texts, fault_of, order_of, read_file, read_texts
 from .errors import DeskError, Ended, Fault, JournalError, MarketFault, OpenFault, ProgramFailed, Rejected, ScriptFault, Unpriced, UsageFault
-from .events import Curve, Event, Factor, Graph, Node, Object, Picture, Price, Quote, Report, Table, read
+from .events import Curve, Event, Factor, Graph, Grid, Node, Object, Picture, Price, Quote, Report, Table, read
 from .journal import Journal, Transcript, as_script, first_word, head_of, with_newline
 from .values import Day, Number, day_text, number_text
 
@@ -374,10 +374,10 @@ class Session(Desk):
         in the units of the quote: 0.0001 is a basis point of a rate, and a hundredth of a cent of a share in euro."""
         return Report(self._run(["risk"], [number_text(size), *names], with_script=False))
 
-    def grid(self, scenarios: Blocks, ask: Iterable[str] = ()) -> Report:
+    def grid(self, scenarios: Blocks, ask: Iterable[str] = ()) -> Grid:
         """The prices of scenarios, each done in the market as the session was opened: `doqs grid`. They are a script, or the commands
         of each scenario by its name, with the objects to `ask` for."""
-        return Report(self._run(["grid"], script=_blocks(scenarios, ask)))
+        return Grid(self._run(["grid"], script=_blocks(scenarios, ask)))
 
     def measure(self, name: str, day: Day, price: Number) -> Report:
         """Yield, duration, convexity and spread of a bond at a clean price: `doqs measure`."""
@@ -602,6 +602,8 @@ class Session(Desk):
         return self._do("set", quote, number_text(value))
 
     def _one(self, word: str, *words: str) -> Event:
+        if self._action:
+            raise DeskError(f"{word} has no result in the action that line {self._action} begins: send adds it to the action")
         event = self._said(_line(word, words))[0]
         if isinstance(event, (Unpriced, Rejected)):
             raise event

@@ -15,8 +15,20 @@ from .events import Curve, Event, Factor, Graph, Grid, Node, Object, Over, Pictu
 from .session import Session
 
 __version__ = "0.18"
+
+
+def build() -> str:
+    """What the extension was built from: `logic` and the first digits of the logic that proved it, or `unverified build`. Without an
+    extension it is empty."""
+    try:
+        from . import _desk
+    except ImportError:
+        return ""
+    return _desk.build()
+
+
 __all__ = [
     *errors.__all__,
     "KINDS", "MARKS", "Curve", "Event", "Factor", "Graph", "Grid", "Node", "Object", "Over", "Picture", "Price", "Quote",
-    "Report", "Session", "Table", "errors", "read",
+    "Report", "Session", "Table", "build", "errors", "read",
 ]  # fmt: skip

@@ -5,7 +5,8 @@
 #   examples/c/run.sh                                            # or DESK_C_LIB=.. DOQS=.. examples/c/run.sh
 #
 # It runs the example under valgrind, linked with the static library and with the shared one. It takes the steps of answers.txt, whose
-# numbers and texts come from the second implementation. It refuses each allocation of a session in turn, and does that under valgrind
+# numbers and texts come from the second implementation. It runs a session in each of four threads, also under helgrind, which looks for
+# data that they share. It refuses each allocation of a session in turn, and does that under valgrind
 # too, for a shorter one. It times a pair of `set` and `ask`. It fails where one of these fails; the times are those of this machine. The
 # gate runs it by checks/c_library. DESK_C_LINK has the words to link the library with, where these are not the kit's. It needs cc and valgrind.
 set -euo pipefail
@@ -24,6 +25,7 @@ cc "${flags[@]}" "$here/main.c" "${libs[@]}" -o "$work/main"
 cc "${flags[@]}" "$here/answers.c" "${libs[@]}" -o "$work/answers"
 cc "${flags[@]}" -D_POSIX_C_SOURCE=200809L -Wl,--wrap=malloc,--wrap=realloc "$here/trial.c" "${libs[@]}" -o "$work/trial"
 cc "${flags[@]}" -D_POSIX_C_SOURCE=200809L "$here/pairs.c" "${libs[@]}" -o "$work/pairs"
+cc "${flags[@]}" -pthread "$here/threads.c" "${libs[@]}" -o "$work/threads"
 cc -shared -o "$work/libdoqsheley.so.0" -Wl,-soname,libdoqsheley.so.0 -Wl,--version-script,"$here/doqsheley.map" \
     -Wl,--whole-archive "$lib" -Wl,--no-whole-archive "${more[@]}"
 ln -s libdoqsheley.so.0 "$work/libdoqsheley.so"
@@ -39,6 +41,8 @@ exported=$(nm -D --defined-only "$work/libdoqsheley.so.0" | awk '$2 == "T" { pri
 [ "$exported" = 0 ] || { echo "the shared library exports more than desk_c_*"; exit 1; }
 echo "the example: no fault and no leak, and the same lines by the shared library"
 "${sound[@]}" "$work/answers" "${files[@]}" "$here/answers.txt"
+"$work/threads" "${files[@]}" 500
+valgrind -q --tool=helgrind --error-exitcode=99 "$work/threads" "${files[@]}" 3 > "$work/told" || { cat "$work/told"; exit 1; }
 
 "$work/trial" "${files[@]}" < "$here/steps.txt"
 head -3 "$here/steps.txt" | "${sound[@]}" "$work/trial" ../one_deposit/market.toml ../one_deposit/quotes.csv -

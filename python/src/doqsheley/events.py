@@ -65,6 +65,9 @@ class Factor(NamedTuple):
     mark: str
     runs: int
 
+    def _repr_html_(self) -> str:
+        return f"<code>{escape(self.name)}</code> {self.day} <b>{self.value}</b> <small>{self.mark}</small>"
+
 
 class Over(NamedTuple):
     """A watcher's name has run eight times, and runs no more for this command."""

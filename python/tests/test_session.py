@@ -149,6 +149,7 @@ class Answers(Both, unittest.TestCase):
             it.set("s5", 0.0252)
             self.assertEqual(it.ask("state").mark, "late")
             self.assertRaises(TypeError, it.ask, "euro")
+            self.assertRaises(TypeError, it.ask_units, "euro")
             self.assertRaises(TypeError, it.curve, "state")
             self.assertRaises(ValueError, it.send, "ask share\nask book")
 
@@ -187,7 +188,10 @@ class Answers(Both, unittest.TestCase):
                     try:
                         price = it.ask(name).value
                     except errors.ValueTooLarge:
+                        self.assertRaises(errors.ValueTooLarge, it.ask_units, name)
                         continue
+                    self.assertEqual(it.ask_units(name=name), int(price.scaleb(6)))
+                    self.assertEqual(it.ask_units(name), int(price.scaleb(6)))
                     with tempfile.TemporaryDirectory() as room:
                         Path(room, "day").write_bytes(it.script())
                         self.assertEqual(played(MARKET, f"{room}/day").split()[-3].decode(), str(price))
@@ -435,7 +439,7 @@ class Refusals(Both, unittest.TestCase):
     def test_an_ask_in_an_action(self):
         with self.session(MARKET) as it:
             it.send("action a")
-            for call in (lambda: it.ask("share"), lambda: it.curve("euro"), lambda: it.df("euro", "2029-01-17")):
+            for call in (lambda: it.ask("share"), lambda: it.ask_units("share"), lambda: it.curve("euro"), lambda: it.df("euro", "2029-01-17")):
                 self.assertRaises(doqsheley.DeskError, call)
             send(it, "ask share; end")
             self.assertEqual(it.script(), b"action a\nask share\nend\n")

@@ -348,6 +348,20 @@ static PyObject *decimal(int64_t high, int64_t low, int places) {
     return made;
 }
 
+/* An amount of two parts as one integer. */
+static PyObject *whole(int64_t high, int64_t low) {
+    if (!high)
+        return PyLong_FromLongLong(low);
+    PyObject *unit = PyLong_FromLongLong(1000000000000000000), *first = PyLong_FromLongLong(high), *second = PyLong_FromLongLong(low);
+    PyObject *product = unit && first ? PyNumber_Multiply(first, unit) : NULL;
+    PyObject *sum = product && second ? PyNumber_Add(product, second) : NULL;
+    Py_XDECREF(unit);
+    Py_XDECREF(first);
+    Py_XDECREF(second);
+    Py_XDECREF(product);
+    return sum;
+}
+
 /* A named tuple of these fields, which it takes. */
 static PyObject *record(PyObject *type, PyObject **fields, int count) {
     allocfunc make = (allocfunc)PyType_GetSlot((PyTypeObject *)type, Py_tp_alloc);
@@ -392,20 +406,22 @@ static PyObject *told(Desk *self, PyObject *name) {
 
 static int has_no_value(uint32_t ended) { return ended == DESK_UNPRICED || ended == DESK_NOT_MONEY || ended == DESK_REFUSED; }
 
-static PyObject *ask(PyObject *it, PyObject *const *args, Py_ssize_t count, PyObject *words) {
+/* A price as a Price, or as its units alone. */
+static PyObject *asked(PyObject *it, PyObject *const *args, Py_ssize_t count, PyObject *words, int is_units) {
     Desk *self = (Desk *)it;
     Line line = {.length = 0};
     desk_price price = {0, 0, 0, 0};
+    const char *slow = is_units ? "_ask_units" : "_ask";
     const Name *name = self->is_quick && count == 1 && !words ? name_of(self, args[0]) : NULL;
     if (!name)
-        return slowly(it, "_ask", args, count, words);
+        return slowly(it, slow, args, count, words);
     if (!is_own(self))
         return NULL;
     uint32_t ended = desk_ask(&self->held, (desk_bytes){name->bytes, name->length}, &price);
     if (ended == DESK_NO_MEMORY)
         return PyErr_NoMemory();
     if (ended != DESK_DONE && !has_no_value(ended))
-        return slowly(it, "_ask", args, count, words);
+        return slowly(it, slow, args, count, words);
     add(&line, "ask ", 4);
     add(&line, name->bytes, name->length);
     add(&line, "\n", 1);
@@ -413,8 +429,16 @@ static PyObject *ask(PyObject *it, PyObject *const *args, Py_ssize_t count, PyOb
         return NULL;
     if (ended != DESK_DONE)
         return told(self, args[0]);
+    if (is_units)
+        return whole(price.high, price.low);
     PyObject *fields[4] = {again(args[0]), decimal(price.high, price.low, 6), mark_of(price.mark), PyLong_FromUnsignedLongLong(price.runs)};
     return record(price_type, fields, 4);
+}
+
+static PyObject *ask(PyObject *it, PyObject *const *args, Py_ssize_t count, PyObject *words) { return asked(it, args, count, words, 0); }
+
+static PyObject *ask_units(PyObject *it, PyObject *const *args, Py_ssize_t count, PyObject *words) {
+    return asked(it, args, count, words, 1);
 }
 
 /* A day of the form YYYY-MM-DD as the number YYYYMMDD, 0 where it is of another form. */
@@ -733,6 +757,8 @@ static PyMethodDef methods[] = {
     {"ask", (PyCFunction)(void (*)(void))ask, QUICK,
      "ask($self, /, name)\n--\n\nThe instrument's price. Raises Unpriced where it has none, Rejected where nothing that is priced has the\n"
      "name, and TypeError for a curve."},
+    {"ask_units", (PyCFunction)(void (*)(void))ask_units, QUICK,
+     "ask_units($self, /, name)\n--\n\nThe instrument's price as a whole number of units of 10^-6. It raises what `ask` raises."},
     {"df", (PyCFunction)(void (*)(void))df, QUICK,
      "df($self, /, curve, day)\n--\n\nThe curve's discount factor at a day. Raises Unpriced where there is none, and Rejected where no curve\n"
      "has the name."},

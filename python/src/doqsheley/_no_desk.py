@@ -25,6 +25,10 @@ class Desk:
         for a curve."""
         return self._ask(name)  # type: ignore[no-any-return]
 
+    def ask_units(self: Any, name: str) -> int:
+        """The instrument's price as a whole number of units of 10^-6. It raises what `ask` raises."""
+        return self._ask_units(name)  # type: ignore[no-any-return]
+
     def df(self: Any, curve: str, day: Day) -> Factor:
         """The curve's discount factor at a day. Raises Unpriced where there is none, and Rejected where no curve has the name."""
         return self._df(curve, day)  # type: ignore[no-any-return]

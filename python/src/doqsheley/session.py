@@ -585,13 +585,17 @@ class Session(Desk):
             raise event
         raise TypeError(f"{name} is a curve")
 
-    # What `ask`, `df` and `set` of the base do where they are not quick.
+    # What `ask`, `ask_units`, `df` and `set` of the base do where they are not quick.
 
     def _ask(self, name: str) -> Price:
         event = self._one("ask", name)
         if not isinstance(event, Price):
             raise TypeError(f"{name} is a curve")
         return event
+
+    def _ask_units(self, name: str) -> int:
+        digits = str(self._ask(name).value).replace(".", "")
+        return int(digits)
 
     def _df(self, curve: str, day: Day) -> Factor:
         event = self._one("df", curve, day_text(day))

@@ -882,8 +882,12 @@ class Docs(unittest.TestCase):
     def test_version(self):
         from doqsheley import _desk
 
-        self.assertEqual(doqsheley.__version__, "0.18")
-        self.assertEqual(_desk.version(), 18)
+        heading = re.search(r"^## ([\d.]+),", (TOP / "CHANGELOG.md").read_text(), re.M)[1]
+        self.assertEqual(doqsheley.__version__, heading)
+        self.assertIn(f'\nversion = "{heading}"\n', (TOP / "python/pyproject.toml").read_text())
+        major, minor = map(int, heading.split("."))
+        self.assertEqual(_desk.version(), 1000 * major + minor)
+        self.assertRegex(doqsheley.build(), "^(logic [0-9a-f]{16}|unverified build)$")
 
 
 if __name__ == "__main__":

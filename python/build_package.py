@@ -60,7 +60,7 @@ def compile_extension(target):
     link = shlex.split(words) if words is not None else [of_the_kit()] if logic else []
     subprocess.run([
         *shlex.split(os.environ.get("CC") or "cc"), "-shared", "-fPIC", "-std=c11", "-O2", "-Wall", "-Wextra", "-fvisibility=hidden",
-        "-DPy_LIMITED_API=0x03090000", "-D_GNU_SOURCE", f'-DDOQSHELEY_BUILD="{build}"', f"-I{sysconfig.get_path('include')}",
+        "-DPy_LIMITED_API=0x03090000", f'-DDOQSHELEY_BUILD="{build}"', f"-I{sysconfig.get_path('include')}",
         f"-I{TOP / 'examples' / 'c'}", str(HERE / "src" / NAME / "_desk.c"), str(archive), *link, "-Wl,--exclude-libs,ALL", "-Wl,--gc-sections,-s",
         "-o", str(target),
     ], check=True)  # fmt: skip

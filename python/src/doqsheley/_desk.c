@@ -3,6 +3,9 @@
  * `set`, `ask` and `df` are here whole: they read their arguments, call the library, keep the line, and make the result. What they do not
  * take, they hand to `_set`, `_ask` and `_df` of Session, which say the line. A line is kept in the call that does it, so that no signal
  * comes between. Other methods take texts as bytes, and return how the call ended, a number of the header, before what it gives. */
+#ifndef _GNU_SOURCE
+#define _GNU_SOURCE
+#endif
 #define PY_SSIZE_T_CLEAN
 #include <Python.h>
 #include <structmember.h>

@@ -15,6 +15,7 @@ import hmac
 import json
 import os
 import secrets
+import select
 import sys
 import tempfile
 import threading
@@ -142,19 +143,22 @@ class Page(BaseHTTPRequestHandler):
         self.send(200, "text/html; charset=utf-8", text.encode(), Content_Security_Policy=policy)
 
     def events(self):
-        if not self.pages.acquire(blocking=False):
+        # A page that is reloaded gives its place back as soon as its connection is seen to be closed.
+        if not self.pages.acquire(timeout=5):
             raise Refused(503, f"{MOST_PAGES} pages are open already")
         try:
             last = self.headers.get("Last-Event-ID", "")
             version, entry = -1, int(last) if last.isascii() and last.isdigit() and len(last) < 16 else 0
             self.send(200, "text/event-stream", None)
-            while True:
-                made = self.desk.since(version, entry, BEAT_SECONDS)
-                if made is None:
-                    self.wfile.write(b": \n\n")
-                else:
+            quiet = 0
+            while not select.select([self.connection], [], [], 0)[0]:
+                made = self.desk.since(version, entry, 1)
+                quiet = quiet + 1 if made is None else 0
+                if made is not None:
                     version, entry = made["version"], made["entry"]
                     self.wfile.write(f"id: {entry}\ndata: {json.dumps(made)}\n\n".encode())
+                elif quiet % BEAT_SECONDS == 0:
+                    self.wfile.write(b": \n\n")
         finally:
             self.pages.release()
 
@@ -213,6 +217,7 @@ class Page(BaseHTTPRequestHandler):
 
 class Server(ThreadingHTTPServer):
     daemon_threads = True
+    request_queue_size = 64
 
     def handle_error(self, request, address):
         """A page that goes away, or that reads no more, is no error."""

@@ -17,7 +17,7 @@ from tracked import BOOKS, CURVES, INSTRUMENTS, Tracked, read_graph, words_of
 
 MOST_SHOWN = 200
 MOST_ENTRIES = 500
-MOST_WRITTEN, MOST_LETTERS = 200, 2000
+MOST_WRITTEN, MOST_LETTERS = 100, 1000
 MOST_WAITING = 10000
 MOST_BLOCK = 10000
 MOST_IDS = 4096
@@ -46,7 +46,7 @@ class Snapshot:
 
 
 def grouped(value):
-    return f"{value:,f}"
+    return f"{value:,.6f}"
 
 
 class LiveDesk(threading.Thread):
@@ -80,6 +80,10 @@ class LiveDesk(threading.Thread):
             with self.opened() as self.session:
                 graph = reports.run(["graph", self.market, "@script"], {"@script": self.opening})
                 self.tracked = Tracked(graph, self.opening)
+                priced = {name for kinds in (BOOKS, INSTRUMENTS, CURVES) for name in self.tracked.named(kinds)}
+                for name in self.show:
+                    if name not in priced:
+                        raise DeskError(f"--show: {name} is no instrument, composite or curve of the market")
                 self.look()
                 self.began.set_result(None)
                 self.work()
@@ -233,7 +237,8 @@ class LiveDesk(threading.Thread):
             wrote, good = [["an action has no end: none of these lines is done", True]], False
         else:
             wrote, good = self.say_all(lines)
-        made = self.ids[key] = self.add(self.typed, lines, wrote, good, key)
+        made = self.add(self.typed, lines, wrote, good, key)
+        self.ids[key] = {"n": made["n"], "good": good, "wrote": wrote[:5]}
         while len(self.ids) > MOST_IDS:
             self.ids.popitem(last=False)
         if self.is_stale:
@@ -269,7 +274,7 @@ class LiveDesk(threading.Thread):
             return {**row, "why": str(found).partition(": ")[2], "mark": "refused", "runs": found.runs}
         self.opens.setdefault(name, found.value)
         row.update(value=grouped(found.value), mark=found.mark, runs=found.runs, money=found.value)
-        row.update(open=grouped(self.opens[name]), change=f"{found.value - self.opens[name]:+,f}")
+        row.update(open=grouped(self.opens[name]), change=f"{found.value - self.opens[name]:+,.6f}")
         return row
 
     def look(self):
@@ -369,7 +374,7 @@ class LiveDesk(threading.Thread):
             paid = self.paid.get(name, Decimal(0))
             row["paid"] = grouped(paid)
             if money is not None:
-                row["result"] = f"{money - self.opens[name] + paid:+,f}"
+                row["result"] = f"{money - self.opens[name] + paid:+,.6f}"
 
     # Calls of other threads.
 

@@ -19,6 +19,7 @@ import select
 import sys
 import tempfile
 import threading
+import time
 import urllib.parse
 from http.server import BaseHTTPRequestHandler, ThreadingHTTPServer
 from pathlib import Path
@@ -37,6 +38,7 @@ HOST = "127.0.0.1"
 MOST_BYTES = 1 << 20
 MOST_PAGES = 16
 BEAT_SECONDS = 15
+PAUSE_SECONDS = 0.1
 QUIET_SECONDS = 30
 
 
@@ -157,6 +159,7 @@ class Page(BaseHTTPRequestHandler):
                 if made is not None:
                     version, entry = made["version"], made["entry"]
                     self.wfile.write(f"id: {entry}\ndata: {json.dumps(made)}\n\n".encode())
+                    time.sleep(PAUSE_SECONDS)
                 elif quiet % BEAT_SECONDS == 0:
                     self.wfile.write(b": \n\n")
         finally:

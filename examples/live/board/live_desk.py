@@ -16,7 +16,7 @@ from reports import plain
 from tracked import BOOKS, CURVES, INSTRUMENTS, Tracked, read_graph, words_of
 
 MOST_SHOWN = 200
-MOST_ENTRIES = 500
+MOST_ENTRIES = 300
 MOST_WRITTEN, MOST_LETTERS = 100, 1000
 MOST_WAITING = 10000
 MOST_BLOCK = 10000

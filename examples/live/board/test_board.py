@@ -16,6 +16,7 @@ import os
 import re
 import shutil
 import signal
+import struct
 import subprocess
 import sys
 import tempfile
@@ -23,6 +24,7 @@ import threading
 import time
 import unittest
 import urllib.parse
+import zlib
 from decimal import Decimal
 from pathlib import Path
 
@@ -385,6 +387,39 @@ class Requests(unittest.TestCase):
             time.sleep(0.05)
 
 
+def small_picture(png):
+    """A screenshot with at most 256 colours, as a PNG with a palette."""
+    width, height, _, kind = struct.unpack(">IIBB", png[16:26])
+    size, at, data = {2: 3, 6: 4}[kind], 8, b""
+    while at < len(png):
+        length = int.from_bytes(png[at : at + 4], "big")
+        data += png[at + 8 : at + 8 + length] if png[at + 4 : at + 8] == b"IDAT" else b""
+        at += length + 12
+    raw, lines, above = zlib.decompress(data), [], bytes(width * size)
+    for y in range(height):
+        line = bytearray(raw[y * (width * size + 1) + 1 : (y + 1) * (width * size + 1)])
+        how = raw[y * (width * size + 1)]
+        for x in range(width * size if how else 0):
+            left, up, corner = (line[x - size] if x >= size else 0), above[x], (above[x - size] if x >= size else 0)
+            near = min((abs(up - corner), 0, left), (abs(left - corner), 1, up), (abs(left + up - 2 * corner), 2, corner))[2]
+            line[x] = (line[x] + (0, left, up, (left + up) // 2, near)[how]) & 255
+        above = bytes(line)
+        lines.append([above[x : x + 3] for x in range(0, width * size, size)])
+    for bits in (255, 252, 248, 240, 224):
+        colours = sorted({bytes(it & bits | (it >> 5 if bits != 255 else 0) for it in pixel) for pixel in set().union(*lines)})
+        if len(colours) <= 256:
+            break
+    number = {it: place for place, it in enumerate(colours)}
+    of = {pixel: number[bytes(it & bits | (it >> 5 if bits != 255 else 0) for it in pixel)] for pixel in set().union(*lines)}
+    body = b"".join(b"\0" + bytes(map(of.__getitem__, line)) for line in lines)
+
+    def chunk(name, inside):
+        return struct.pack(">I", len(inside)) + name + inside + struct.pack(">I", zlib.crc32(name + inside))
+
+    head = struct.pack(">IIBBBBB", width, height, 8, 3, 0, 0, 0)
+    return png[:8] + chunk(b"IHDR", head) + chunk(b"PLTE", b"".join(colours)) + chunk(b"IDAT", zlib.compress(body, 9)) + chunk(b"IEND", b"")
+
+
 class Browser:
     """Chromium with a window of this size, by the protocol of WebDriver."""
 
@@ -447,7 +482,7 @@ class Browser:
         return [it["message"] for it in self.call("POST", "/se/log", {"type": "browser"}) if it["source"] != "network"]
 
     def picture(self, path):
-        path.write_bytes(base64.b64decode(self.call("GET", "/screenshot")))
+        path.write_bytes(small_picture(base64.b64decode(self.call("GET", "/screenshot"))))
 
     def close(self):
         self.call("DELETE", "")
@@ -570,7 +605,7 @@ class Pages(unittest.TestCase):
         self.await_row(self.wide, "share", "46.990000", "fresh")
         self.assertEqual(self.wide.texts("#typed .said"), typed)
         self.wait(lambda: self.wide.texts("#notes li:first-child .said") == ["set acme 46.99"])
-        self.assertLessEqual(self.wide.run("document.querySelectorAll('#notes li').length"), 500)
+        self.assertLessEqual(self.wide.run("document.querySelectorAll('#notes li').length"), 300)
         self.assertEqual(self.wide.texts("#notes li:first-child .wrote"), ["share 46.990000 fresh, 1 computed"])
         # The keys up and down bring earlier commands back.
         self.wide.focus("#line")
@@ -827,35 +862,39 @@ class Pages(unittest.TestCase):
 
     @unittest.skipUnless(os.environ.get("PICTURES"), "PICTURES=1 renews the pictures")
     def test_pictures(self):
-        board = self.board(pages=("wide", "phone"))
-        board.tick("set s5 0.0253", "set acme 42.1", "action look", "ask book", "end", "watch limit look", "register limit book", "set s7 0.0252", "sell book")
-        self.type(self.wide, "ask book", "unset premium", "ask nobody")
-        self.await_typed(self.wide, "ask nobody", "ask: no object has the name nobody")
-        self.wide.focus("#quote-s10")
-        self.wide.press("2,5" + ENTER)
-        self.wait(lambda: self.wide.texts("#hint-s10")[0])
+        board, wide = self.board(pages=("wide", "phone")), self.wide
+        self.type(wide, "action look", "ask book", "end", "watch limit look", "register limit book")
+        for it in ("set s5 0.0253", "set acme 42.1", "sell book", "set s7 0.0252"):
+            board.tick(it)
+            time.sleep(0.5)
+        self.type(wide, "ask book", "unset premium", "ask nobody")
+        self.await_typed(wide, "ask nobody", "ask: no object has the name nobody")
         board.do("freeze payer", "set s5 0.0254")
+        wide.focus("#quote-s10")
+        wide.press("2,5" + ENTER)
+        self.wait(lambda: wide.texts("#hint-s10")[0])
         time.sleep(2)
-        self.wide.picture(HERE / "wide.png")
+        wide.picture(HERE / "wide.png")
         self.phone.picture(HERE / "phone.png")
-        board.do("thaw payer", "set premium 0.05")
+        board = self.board()
+        board.do("set s5 0.0253")
         board.do("today 2024-02-15")
-        self.wide.focus("#quote-s10")
-        self.wide.press(ESCAPE)
-        self.wide.click("#run")
-        self.wait(lambda: self.wide.texts("#grid .worst"))
-        self.wide.run("(document.getElementById('script').hidden = true, scrollTo(0, 1e6))")
+        wide.click("#run")
+        self.wait(lambda: wide.texts("#grid .worst"))
+        wide.run("document.getElementById('script').hidden = true")
+        wide.cdp("Emulation.setDeviceMetricsOverride", {"width": 1440, "height": 1240, "deviceScaleFactor": 1, "mobile": False})
         time.sleep(2)
-        self.wide.picture(HERE / "day.png")
-        self.wide.click("#title")
-        self.wait(lambda: self.wide.run("document.querySelectorAll('#body .graph g').length"))
-        self.wide.run("document.querySelector('#body g[data-name=book]').focus()")
-        self.wide.picture(HERE / "graph.png")
-        self.wide.click("#close")
-        self.wide.click("#row-state .link")
-        self.wait(lambda: self.wide.texts("#body tfoot"))
-        self.wide.picture(HERE / "why.png")
-        self.wide.click("#close")
+        wide.picture(HERE / "day.png")
+        wide.cdp("Emulation.setDeviceMetricsOverride", {"width": 1440, "height": 900, "deviceScaleFactor": 1, "mobile": False})
+        wide.click("#title")
+        self.wait(lambda: wide.run("document.querySelectorAll('#body .graph g').length"))
+        wide.run("document.querySelector('#body g[data-name=book]').focus()")
+        wide.picture(HERE / "graph.png")
+        wide.click("#close")
+        wide.click("#row-state .link")
+        self.wait(lambda: wide.texts("#body tfoot"))
+        wide.picture(HERE / "why.png")
+        wide.click("#close")
 
 
 def main():

@@ -287,6 +287,12 @@ class Requests(unittest.TestCase):
             found = board.get(f"why?name={name}")
             self.assertEqual(found["objects"], wanted["objects"])
         self.assertEqual(board.get("graph")["nodes"], tracked.read_graph(doqs("graph", MARKET, "SCRIPT", script=every))["nodes"])
+        # After a freeze all lines are used.
+        board.do("freeze state", "set s5 0.031", "set s5 0.032")
+        every = board.journal().splitlines()
+        self.assertIn("frozen", [it.get("mark") for it in board.get("why?name=book")["objects"]])
+        self.assertEqual(board.get("why?name=book")["objects"], reports.read_why(doqs("why", MARKET, "SCRIPT", "book", script=every))["objects"])
+        self.assertEqual(board.get("graph")["nodes"], tracked.read_graph(doqs("graph", MARKET, "SCRIPT", script=every))["nodes"])
 
     def test_quotes_that_an_action_moves(self):
         board = Board(self)
@@ -323,11 +329,11 @@ class Requests(unittest.TestCase):
 
     def test_scenarios_begin_with_the_market_of_now(self):
         board = Board(self)
-        board.do("set s5 0.0263", "today 2024-01-17")
+        board.do("set s5 0.0263", "today 2024-01-17", "link rates rough")
         script = ["action up", "set s5 0.0363", "end", "ask book", "action lost", "unset s5", "set nobody 1", "end", "ask share", "ask euro"]
         status, text = board.request(f"{board.at.path}grid", {"script": "\n".join(script)})
         self.assertEqual(status, 200, text)
-        found, moves = json.loads(text), ["set s5 0.0263", "today 2024-01-17"]
+        found, moves = json.loads(text), ["set s5 0.0263", "today 2024-01-17", "link rates rough"]
         now, up, lost = found["scenarios"]
         self.assertEqual([it["name"] for it in found["scenarios"]], ["now", "up", "lost"])
         self.assertEqual(now["cells"][0]["value"], asked(*moves, "ask book")[1])
@@ -358,7 +364,7 @@ class Requests(unittest.TestCase):
         self.assertEqual(board.journal(), Path(board.log).read_text())
 
     def test_a_session_that_ends(self):
-        board = Board(self)
+        board = Board(self, "--via", "pipe")
         board.do("set s5 0.0253")
         board.kill_session()
         self.wait(lambda: board.state()["ended"])
@@ -723,7 +729,13 @@ class Pages(unittest.TestCase):
         page.run("document.querySelector('#body g[data-name=book]').focus()")
         self.assertEqual(page.run("document.querySelectorAll('#body path.lit').length"), 5)
         page.press(ENTER)
-        self.wait(lambda: page.texts("#panel-head") == ["book"])
+        self.wait(lambda: page.texts("#panel-head") == ["book"] and page.texts("#body .chips"))
+        # The graph around one object: what it depends on, and what depends on it.
+        page.click("#back")
+        self.wait(lambda: page.run("document.querySelector('#body select') !== null"))
+        page.run("(it => { it.value = 'asked'; it.onchange() })(document.querySelector('#body select'))")
+        names = lambda: page.run("[...document.querySelectorAll('#body .graph g')].map(it => it.dataset.name)")  # noqa: E731
+        self.wait(lambda: names() == ["acme", "premium", "asked", "offer"], names)
         page.click("#close")
 
     def test_scenarios(self):
@@ -778,7 +790,7 @@ class Pages(unittest.TestCase):
         self.assertEqual(page.texts("#typed .wrote.bad"), [])
 
     def test_a_session_that_ends_and_a_board_that_goes(self):
-        board = self.board()
+        board = self.board("--via", "pipe")
         page = self.wide
         board.do("set s5 0.0253")
         board.kill_session()

@@ -22,6 +22,7 @@ MOST_WAITING = 10000
 MOST_BLOCK = 10000
 MOST_IDS = 4096
 IDLE_SECONDS = 1.0
+DESK_SECONDS = 10  # for a command of doqs that the desk's thread waits for
 SYNC_SECONDS = 2.0
 
 
@@ -68,7 +69,7 @@ class LiveDesk(threading.Thread):
         self.typed, self.notes = deque(maxlen=MOST_ENTRIES), deque(maxlen=MOST_ENTRIES)
         self.ended, self.feed_state = None, {"lines": 0, "faults": 0, "ended": False, "lost": 0}
         self.lines, self.day, self.hidden, self.is_deferred = 0, "", 0, False
-        self.is_paying = False
+        self.is_paying, self.unread, self.shown_unread = False, None, None
         # Of the desk's thread alone.
         self.opens, self.open_quotes, self.last_money, self.pending, self.paid = {}, {}, {}, {}, {}
         self.ids = OrderedDict()
@@ -195,13 +196,15 @@ class LiveDesk(threading.Thread):
             if self.ended:
                 self.feed_state["lost"] += 1
                 return
-        if self.feed_block is not None or words[:1] == ["action"]:
-            self.feed_block = [*(self.feed_block or []), line]
+        if self.feed_block is None and self.tracked.begins(words):
+            self.feed_block = []
+        if self.feed_block is not None:
+            self.feed_block.append(line)
             if words[:1] != ["end"] and len(self.feed_block) < MOST_BLOCK:
                 return
             lines, self.feed_block = self.feed_block, None
             if words[:1] != ["end"]:
-                lines.append("end")
+                lines = [*lines, "end"]
         else:
             lines = [line]
         try:
@@ -298,11 +301,12 @@ class LiveDesk(threading.Thread):
             self.pay(name, row)
         quotes = {name: self.quote(name, value) for name, value in self.tracked.quotes.items()}
         with self.changed:
-            before = (self.day, self.hidden, self.is_deferred, self.is_paying)
+            before = (self.day, self.hidden, self.is_deferred, self.is_paying, self.shown_unread)
             self.day, self.hidden, self.is_deferred = self.tracked.day, hidden, self.tracked.is_deferred
             self.is_paying = bool(self.paid or self.pending)
             version = self.version + 1
-            is_new = before != (self.day, self.hidden, self.is_deferred, self.is_paying)
+            self.shown_unread = self.unread
+            is_new = before != (self.day, self.hidden, self.is_deferred, self.is_paying, self.shown_unread)
             for key, old, new in (("names", self.rows, rows), ("quotes", self.quotes, quotes)):
                 if list(old) != list(new):
                     self.orders[key], is_new = (version, list(new)), True
@@ -327,9 +331,12 @@ class LiveDesk(threading.Thread):
         """Reads the market from `doqs graph` where actions have moved it, since nothing else shows that."""
         if self.is_unsynced and time.monotonic() - self.synced >= SYNC_SECONDS:
             self.is_unsynced, self.synced = False, time.monotonic()
-            with suppress(ProgramFailed):
+            try:
                 text = Snapshot(self.tracked, self.journal).text()
-                self.tracked.read(reports.run(["graph", self.market, "@script"], {"@script": text}))
+                self.tracked.read(reports.run(["graph", self.market, "@script"], {"@script": text}, DESK_SECONDS))
+                self.unread = None
+            except ProgramFailed as error:
+                self.unread = str(error)
         elif self.is_unsynced:
             self.is_stale = True
 
@@ -348,16 +355,17 @@ class LiveDesk(threading.Thread):
     def payments(self, before, now, names):
         """What was paid to each name between two snapshots, None where that is not known."""
         found = {}
-        with suppress(ProgramFailed):
+        # A report that fails, or that has another form, tells nothing.
+        with suppress(ProgramFailed, ValueError, LookupError, ArithmeticError):
             if before.can_be_explained and now.can_be_explained:
                 script = reports.explain_script(before.moves, now.moves, names)
-                found = reports.read_paid(reports.run(["explain", self.market, "@script"], {"@script": script}))
+                found = reports.read_paid(reports.run(["explain", self.market, "@script"], {"@script": script}, DESK_SECONDS))
             if all(it in found for it in names):
                 return found
             states = []
             for it in (before, now):
                 script, every = reports.all_script(it.text(), names, it.kinds)
-                states.append(reports.run(["why", self.market, "@script", every], {"@script": script}))
+                states.append(reports.run(["why", self.market, "@script", every], {"@script": script}, DESK_SECONDS))
             then, after = ({it["name"]: it for it in reports.read_why(text)["objects"]} for text in states)
             return {it: reports.paid_by_flows(then, after, it, now.day) for it in names}
         return dict.fromkeys(names)
@@ -421,7 +429,7 @@ class LiveDesk(threading.Thread):
             return {
                 "version": self.version, "entry": self.entry, "market": Path(self.market).name, "day": self.day, "lines": self.lines,
                 "ended": self.ended, "feed": dict(self.feed_state), "hidden": self.hidden, "deferred": self.is_deferred,
-                "paying": self.is_paying, "orders": orders, "rows": rows, "quotes": quotes,
+                "paying": self.is_paying, "unread": self.shown_unread, "orders": orders, "rows": rows, "quotes": quotes,
                 "typed": [it for it in self.typed if it["n"] > entry], "notes": [it for it in self.notes if it["n"] > entry],
             }  # fmt: skip
 

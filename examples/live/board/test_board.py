@@ -311,6 +311,12 @@ class Requests(unittest.TestCase):
         lines = board.journal().splitlines()
         at = lines.index("action look")
         self.assertEqual(lines[at : at + 3], ["action look", "ask share", "end"])
+        # A faulty beginning of an action holds no tick.
+        faulty = ["action", "action 1", "action look", "action none", "action a b"]
+        board.tick(*faulty, "set acme 45")
+        self.wait(lambda: board.row("share")["value"] == "45.000000")
+        self.assertEqual([it["lines"] for it in board.state()["notes"][-6:]], [*([it] for it in faulty), ["set acme 45"]])
+        self.assertEqual(board.state()["feed"]["faults"], 5)
         self.assertEqual(board.do("action half", "ask share")["good"], False)
         self.assertNotIn("action half", board.journal())
         self.assertEqual(board.do("action look", "ask share", "set acme 1", "end")["good"], False)

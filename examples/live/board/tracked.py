@@ -14,6 +14,7 @@ MOST_KEPT = 50000
 BOOKS, CURVES = {"composite"}, {"curve", "implied curve"}
 INSTRUMENTS = {"bond", "swap", "forward rate agreement", "stock"}
 
+NAME = re.compile(r"[A-Za-z]\w{0,31}", re.ASCII)
 NODE = re.compile(r'  "(\w+)" \[shape=\w+,? ?(.*)label="(.*)"\];')
 EDGE = re.compile(r'  "(\w+)" -> "(\w+)"(.*);')
 SIGNS = {"fresh", "not current", "frozen", "late", "held", "unpriced", "deferred"}
@@ -47,7 +48,7 @@ class Tracked:
         self.is_moved_by_actions = False  # whether an action has a command that this class would have to see done
         self.is_deferred = False
         self.made = False  # whether an object was made or dropped that the market's file does not have
-        self.kept, self.asked, self.count, self.block, self.first_moves = {}, {}, 0, None, []
+        self.kept, self.asked, self.count, self.block, self.first_moves, self.actions = {}, {}, 0, None, [], set()
         for line in self.opening.splitlines():
             self.opened(line)
 
@@ -66,6 +67,10 @@ class Tracked:
             if words[0] in MOVES:
                 self.first_moves.append(" ".join(words))
 
+    def begins(self, words):
+        """Whether a line with these words begins the block of an action."""
+        return len(words) == 2 and words[0] == "action" and bool(NAME.fullmatch(words[1])) and words[1] not in {"none", "unset", *self.actions}
+
     def note(self, words):
         """Notes what a line means for the lines after it. Returns whether it is one of a block."""
         word = words[0]
@@ -74,7 +79,8 @@ class Tracked:
         elif self.block is not None:
             self.is_moved_by_actions |= word in SHAPES
         elif word == "action":
-            self.block, self.is_short = words[1:], False
+            self.block, self.is_short = words[1], False
+            self.actions.add(words[1])
         else:
             if word == "defer" or word == "resume":
                 self.is_deferred = word == "defer"

@@ -1,7 +1,8 @@
 -- WHAT A COMMAND DOES: what its run does on the words after it, and its lines on standard error (this project's profile).
-use Rattle.std.specs.Prelude.{◌≡◌, ◌⊎◌, ℕ, List, Option}
+use Rattle.std.specs.Prelude.{◌≡◌, ◌⊎◌, ℕ, Bool, List, Option}
 use Rattle.desk_plan.specs.declared.status.Status.{Status}
 use Rattle.desk_plan.specs.Status as script
+use Rattle.desk_terms.specs.Reading.{Calc}
 use Rattle.script_steps.specs.declared.status.BlocksStatus.{BlocksStatus}
 use Rattle.script_steps.specs.Status as blocks
 use Rattle.curve_run.specs.declared.status.CurveStatus.{CurveStatus}
@@ -15,8 +16,11 @@ use Rattle.explain_run.specs.Tool.{explain_tool}
 use Rattle.graph_run.specs.Drawing.{graph_tool}
 use Rattle.grid_run.specs.Verdict.{grid_tool}
 use Rattle.measure_run.specs.Verdict.{measure_tool}
+use Rattle.named_run.specs.declared.status.NamedStatus.{NamedStatus}
+use Rattle.named_run.specs.Run.{IsNamedRun}
+use Rattle.named_run.specs.Status as named
 use Rattle.risk_run.specs.Verdict.{risk_tool}
-use Rattle.why_run.specs.Answering.{why_tool}
+use Rattle.why_run.specs.Answering.{refuses_in, why_tool}
 use Rattle.yield_run.specs.Verdict.{yield_tool}
 use Rattle.tool_front.specs.declared.command.Command.{Command}
 use Rattle.tool_front.specs.declared.command.Command.TheVariants as command
@@ -59,6 +63,11 @@ module _ {K N B : Type 0} (whole : List (List ℕ)) (result : FrontStatus) (a : 
   EndsScript c tool = (status : Status) × IsRun script.script_ends tool words status a.shelf a.sink a.bench
       × Ends c words (script.code_of status) (script.said_of status) result a.notes
 
+  -- the same of a run that tells a wrong name
+  abbrev pub EndsNamed : {Request Wanted : Type 0} → Command → Tool Request Wanted Status → (Calc → Wanted → Bool) → Type 0
+  EndsNamed c tool refuses = (status : NamedStatus Status) × IsNamedRun script.script_ends tool refuses words status a.shelf a.sink a.bench
+      × Ends c words (named.code_of script.code_of status) (named.said_of script.said_of status) result a.notes
+
   abbrev pub EndsBlocks : {Request Wanted : Type 0} → Command → Tool Request Wanted BlocksStatus → Type 0
   EndsBlocks c tool = (status : BlocksStatus) × IsRun blocks.blocks_ends tool words status a.shelf a.sink a.bench
       × Ends c words (blocks.code_of status) (blocks.said_of status) result a.notes
@@ -78,7 +87,7 @@ module _ {K N B : Type 0} (whole : List (List ℕ)) (result : FrontStatus) (a : 
   IsCommand command.Check = EndsDesk command.Check
   IsCommand command.Load = EndsDesk command.Load
   IsCommand command.Live = EndsLive
-  IsCommand command.Why = EndsScript command.Why why_tool
+  IsCommand command.Why = EndsNamed command.Why why_tool refuses_in
   IsCommand command.Explain = EndsBlocks command.Explain explain_tool
   IsCommand command.Grid = EndsBlocks command.Grid grid_tool
   IsCommand command.Bump = EndsMarket command.Bump bump_tool

@@ -37,6 +37,8 @@ pub record AreNoted : Type 0 where
       ≡ codes "doqs curve: market top 0 toml\ndesk_fault m says in which line, and what would be taken\n"
   pub absent : note_text command.Bump (codes "m" ∷ codes "b" ∷ []) 8 (Some (codes "no file market"))
       ≡ codes "doqs bump: no file market\n"
+  pub wrong_name : note_text command.Why (codes "m" ∷ codes "s" ∷ codes "bok" ∷ []) 10 (Some (codes "refused"))
+      ≡ codes "doqs why: refused\n"
 
 pub record AreHelped : Type 0 where
   pub measure : help_text command.Measure ≡ codes "usage: doqs measure MARKET NAME DAY PRICE\n\nWrites what yield writes, and then the gain of a basis point, duration, convexity and\nthe spread over the curve of the bond's engine.\n\nexample: doqs measure market.toml state 2024-01-17 990000\n"

@@ -12,4 +12,7 @@ pub record AreTaken : Type 0 where
   pub verb : triple_of (codes "run" ∷ codes "m" ∷ codes "s" ∷ codes "book" ∷ []) ≡ None
   pub option : triple_of (codes "--csv" ∷ codes "s" ∷ codes "book" ∷ []) ≡ None
   pub name : triple_of (codes "m" ∷ codes "s" ∷ codes "-book" ∷ []) ≡ None
+  pub two_lines : triple_of (codes "m" ∷ codes "s" ∷ codes "book\nbook 1 fresh 0" ∷ []) ≡ None
+  pub two_words : triple_of (codes "m" ∷ codes "s" ∷ codes "the book" ∷ []) ≡ None
+  pub reserved : triple_of (codes "m" ∷ codes "s" ∷ codes "none" ∷ []) ≡ None
   pub empty : triple_of (codes "m" ∷ [] ∷ codes "book" ∷ []) ≡ None

@@ -1,5 +1,6 @@
 -- The words of the command line (this project's profile).
 use Rattle.std.specs.Prelude.{ℕ, ◌&&◌, if◌then◌else◌, List, [], ◌∷◌, Option, None, Some}
+use Rattle.desk_names.specs.Name.{is_name}
 use Rattle.tool_run.specs.Words.{is_word}
 use Rattle.why_run.specs.declared.words.Triple as given
 
@@ -14,11 +15,11 @@ triple_in triple = record { market = triple.market.now; script = triple.script.n
 
 abbrev pub triple_with : List ℕ → List ℕ → List ℕ → Option Triple
 triple_with market script name =
-    if is_word market && (is_word script && is_word name)
+    if is_word market && (is_word script && is_name name)
     then Some (record { market = market; script = script; name = name })
     else None
 
--- `MARKET SCRIPT NAME`: there is one list that is taken
+-- `MARKET SCRIPT NAME`: there is one list that is taken. NAME has the form of a name, so that the line of an unknown one is one line
 abbrev pub triple_of : List (List ℕ) → Option Triple
 triple_of (market ∷ script ∷ name ∷ []) = triple_with market script name
 triple_of words = None

@@ -10,13 +10,14 @@ ghost use Rattle.session_why.specs.Computed.{why_asking};
 ghost use Rattle.desk_plan.specs.Asking.{found_in};
 ghost use Rattle.desk_plan.specs.Found.{CanRun};
 ghost use Rattle.tool_run.specs.Calls.{Calls};
-ghost use Rattle.why_run.specs.Answering.{output_in, computed_in};
+ghost use Rattle.why_run.specs.Answering.{output_in, computed_in, refuses_in, refuses_name};
 ghost use Rattle.why_run.specs.Words.{triple_in};
 
 use crate::words::Triple;
 use desk_plan::FoundRun;
 use desk_terms::Bench;
 use market_session::begun;
+use named_run::NamedText;
 use script_steps::play_all;
 use session_commands::Command;
 use session_rounds::WatchedSession;
@@ -29,9 +30,10 @@ pub(crate) fn text_of<B: Bench>(
     alloc: Global,
     found: FoundRun<Triple<'_>>,
     bench: &mut B,
-) -> Result<Vec<u8>, AllocError>
+) -> Result<NamedText, AllocError>
     requires can { CanRun found.run }
-    ensures text { IfOk result (λ text. text.items ≡ output_in (B.calc bench.old) (found_in triple_in found.entry)) }
+    ensures text { IfOk result (λ text. text.text.items ≡ output_in (B.calc bench.old) (found_in triple_in found.entry)) }
+    ensures refuses { IfOk result (λ text. text.refuses ≡ refuses_in (B.calc bench.old) (found_in triple_in found.entry)) }
     ensures calls { Calls (computed_in (B.calc bench.old) (found_in triple_in found.entry)) result
         (B.count bench.old) (B.count bench.new) (B.log bench.old) (B.log bench.new) }
     ensures same { B.calc bench.new ≡ B.calc bench.old }
@@ -62,17 +64,32 @@ fn answer_behind<B: Bench>(
     commands: &[Command],
     name: &[u8],
     bench: &mut B,
-) -> Result<Vec<u8>, AllocError>
+) -> Result<NamedText, AllocError>
     requires running { session.old.standing.stopped ≡ false }
     requires known { All (IsKnown session.old.standing) commands.now }
     requires sound { IsSound (B.calc bench.old) session.old.standing.state }
-    ensures text { IfOk result (λ text. text.items
+    ensures text { IfOk result (λ text. text.text.items
         ≡ why_text (B.calc bench.old) (after (B.calc bench.old) commands.now session.old).standing name.now) }
+    ensures refuses { IfOk result (λ text. text.refuses
+        ≡ refuses_name (after (B.calc bench.old) commands.now session.old).standing name.now) }
     ensures calls { Calls (calls_of (ordered (B.calc bench.old)) session.old commands.now
         ++ log_of (why_asking (B.calc bench.old) (after (B.calc bench.old) commands.now session.old).standing name.now).calls) result
         (B.count bench.old) (B.count bench.new) (B.log bench.old) (B.log bench.new) }
     ensures same { B.calc bench.new ≡ B.calc bench.old }
 {
     play_all(alloc, session, commands, bench)?;
-    why(alloc, session, name, bench)
+    let refuses = refuses_name(session, name);
+    let text = why(alloc, session, name, bench)?;
+    Ok(NamedText { text, refuses })
+}
+
+// Whether no priced object of a session has a name.
+fn refuses_name(session: &WatchedSession<Order>, name: &[u8]) -> bool
+    ensures { result ≡ refuses_name session.now.standing name.now }
+{
+    let session = session.session();
+    match session.names().find(name) {
+        Some(name) => session.priced(name).is_err(),
+        None => true,
+    }
 }

@@ -2,7 +2,7 @@
 //! an object was computed, over the session as it stands behind the last command, and a status, for every shelf of files,
 //! sink of bytes and bench of prices.
 //!
-//! `run_why`, `Status`.
+//! `run_why`, `Status`, `NamedStatus`.
 #![tactic(auto)]
 
 mod answering;
@@ -11,4 +11,5 @@ mod running;
 mod words;
 
 pub use desk_plan::Status;
+pub use named_run::NamedStatus;
 pub use running::run_why;

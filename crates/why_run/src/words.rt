@@ -2,6 +2,7 @@
 ghost use Rattle.std.specs.Prelude.{◌≡◌, ◌∷◌, [], option_map};
 ghost use Rattle.why_run.specs.Words.{triple_in, triple_of};
 
+use desk_names::is_name;
 use desk_plan::ScriptRequest;
 use tool_run::is_word;
 
@@ -45,7 +46,7 @@ impl<'a> ScriptRequest<'a> for Triple<'a> {
 fn triple_with<'a>(market: &'a str, script: &'a str, name: &'a str) -> Option<Triple<'a>>
     ensures { option_map triple_in result ≡ triple_of (market.now ∷ script.now ∷ name.now ∷ []) }
 {
-    if !is_word(market) || !is_word(script) || !is_word(name) {
+    if !is_word(market) || !is_word(script) || !is_name(name.as_bytes()) {
         return None;
     }
     Some(Triple {

@@ -14,4 +14,5 @@ returns c = record {
   no_script = refl;
   one_path = refl;
   absent = refl;
+  wrong_name = refl;
 }

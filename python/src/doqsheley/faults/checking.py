@@ -112,7 +112,7 @@ def compare_gate(top):
     return agree, differ
 
 
-def said_of(read, files):
+def said_of(read, files, blocks=None):
     """What is said of files, which stand in a folder of their own: the line, the status, and what follows."""
     here = os.getcwd()
     with tempfile.TemporaryDirectory(prefix="desk-fault-") as room:
@@ -120,10 +120,10 @@ def said_of(read, files):
         try:
             for name, data in files.items():
                 Path(name).write_bytes(data)
-            end = read("m", *(["s"] if "s" in files or "t" in files else []))
+            line, status, text = read("m", *(["s"] if "s" in files or "t" in files else []), blocks=blocks).told()
         finally:
             os.chdir(here)
-    said = "\n".join([f"{end.line} {end.status}".lstrip(), *end.said, ""])
+    said = "\n".join([f"{line} {status}".lstrip(), text, ""])
     return said.replace(os.path.realpath(room), "ROOM").replace(room, "ROOM")
 
 
@@ -138,7 +138,8 @@ def own_rows(top):
 def compare_own(read, top):
     agree, differ = 0, []
     for title, files, wanted in own_rows(top):
-        got = said_of(read, files)
+        blocks = title.partition(":")[0]
+        got = said_of(read, files, blocks if blocks in ("grid", "explain") else None)
         agree, differ = (agree + 1, differ) if got == wanted else (agree, differ + [f"{title}: this differs:\n{got}"])
     for title, wanted, files in whole_markets(top):
         got = said_of(read, {name: data.encode() for name, data in files.items() if name != "s"}).split("\n")[0]
@@ -153,7 +154,7 @@ def kinds_without_row(top):
     gate = {tuple(it[1].split()[::2]) for it in gate_markets(top) if it[1] != "ok"}
     gate |= {("script", it[1].split()[-1]) for it in gate_scripts(top) if it[1] != "ok"}
     said = [said.split("\n")[0].split() for _, _, said in own_rows(top)]
-    own = {(it[-4], it[-2]) if it[1] == "market" else (it[1], it[-2]) for it in said if len(it) > 4}
+    own = {(it[-4], it[-2]) if it[1] == "market" else (it[1], it[-2]) for it in said if len(it) > 4 and it[0] == "desk:"}
     return [f"no row of desk_fault_rows has {' '.join(it)}" for it in sorted(gate - own)]
 
 
@@ -161,7 +162,7 @@ def manual_sections(top):
     """The sections of the manuals that a row names and that have no such heading; and words of the tables that no
     manual has."""
     lost = []
-    manuals = {it: (top / "docs" / it).read_text() for it in ("reference/market.md", "reference/script.md")}
+    manuals = {it: (top / "docs" / it).read_text() for it in ("reference/market.md", "reference/script.md", "reference/grid.md")}
     headings = {it: re.findall(r"(?m)^#+ (.*)$", text) for it, text in manuals.items()}
     for file, section in set(
         re.findall(r'manual: docs/(\S+), "(.*)"', lines_of(top / "tools" / "desk_fault_rows" / "rows"))

@@ -1,4 +1,5 @@
-"""Where the first fault of a market or of a script is, and what would be taken there.
+"""Where a fault of a market or of a script is, and what would be taken there. Of a market it is the first one; of a script it is
+each, and each name in it that no run takes.
 
 It reads the files itself, and needs no program and no extension.
 """
@@ -11,15 +12,30 @@ from typing import Optional
 
 from ..errors import MarketFault, OpenFault, ScriptFault
 from .market_text import MOST_BYTES, Fault, Market
+from .names import Names
 from .script_text import Script
+from .shapes import shape_faults
+
+
+# How many faults are told beside the first, and how many names.
+MOST_TOLD = 100
 
 
 class End(Exception):
-    """How the reading ended: the status, the line on standard error, and what is said of it."""
+    """How the reading ended: the status, the line on standard error, and what is said of it. `more` is what is said of
+    the faults behind the first, and `names` what is said of names that no run takes, each a list of lines."""
 
-    def __init__(self, status, line, said=(), key=""):
+    def __init__(self, status, line, said=(), key="", more=(), names=()):
         super().__init__(line)
         self.status, self.line, self.said, self.key = status, line, list(said), key
+        self.more, self.names = list(more), list(names)
+
+    def told(self):
+        """The line on standard error, the status, and the text on standard output. Names alone end with 10."""
+        text = "\n\n".join("\n".join(it) for it in (self.said, *self.more, *self.names))
+        if not self.status and self.names:
+            return "desk_fault: refused", 10, text
+        return self.line, self.status, text
 
 
 def read_file(path, role, why):
@@ -63,7 +79,7 @@ class Text:
 
 
 def told_of(fault, text, manual):
-    """What is said of a fault behind the line of the program."""
+    """What is said of a fault after the line of the program."""
     said = [text.path]
     if fault.span:
         number, column, marked = text.marked(*fault.span)
@@ -100,21 +116,43 @@ def read_market(path):
         raise End(3, f"desk: market {fault.section} {fault.entry} {fault.kind}", said, fault.word) from None
 
 
-def read_script(path, market):
+def told_all(faults, text, manual):
+    """What is said of several faults, at most a hundred."""
+    told = [told_of(it, text, manual) for it in faults[:MOST_TOLD]]
+    return told + ([[f"and {len(faults) - MOST_TOLD} more"]] if len(faults) > MOST_TOLD else [])
+
+
+def read_script(path, market, blocks):
+    """How the reading of a script ended: with the line that it has this many commands, and what is said of its names.
+    Else it raises. `blocks` says for which command it has a shape, if for one."""
     data = read_file(path, "script", [])
+    text, manual = Text(path, data, False), "docs/reference/script.md"
+    script = Script(market.things)
     try:
-        return f"script ok commands {Script(market.things).read(data)}"
+        count = script.read(data)
     except Fault as fault:
-        said = told_of(fault, Text(path, data, False), "docs/reference/script.md")
-        raise End(4, f"desk: script {fault.entry} {fault.kind}", said) from None
+        more = told_all(script.faults[1:], text, manual)
+        said = told_of(fault, text, manual)
+        raise End(
+            4, f"desk: script {fault.entry} {fault.kind}", said, more=more,
+            names=told_all(Names(market, script.commands, script.wild).wrong, text, manual),
+        ) from None
+    if blocks:
+        faults = shape_faults(blocks, script)
+        if faults:
+            first, *more = told_all(faults, text, "docs/reference/grid.md")
+            raise End(9, f"doqs {blocks}: shape {faults[0].shape}", first, more=more)
+    return f"script ok commands {count}", told_all(Names(market, script.commands, script.wild).wrong, text, manual)
 
 
-def read(market_path, script_path=None):
-    """Returns how the reading of the files ended."""
+def read(market_path, script_path=None, blocks=None):
+    """Returns how the reading of the files ended. `blocks` is `grid` or `explain` where the script is one for these."""
     try:
         market, line = read_market(market_path)
-        said = [line] + ([read_script(script_path, market)] if script_path else [])
-        return End(0, "", said)
+        if script_path is None:
+            return End(0, "", [line])
+        said, names = read_script(script_path, market, blocks)
+        return End(0, "", [line, said], names=names)
     except End as end:
         return end
 

@@ -1,4 +1,5 @@
-"""The script, read as the program reads it, up to the first fault."""
+"""The script, read as the program reads it: its first fault, as the program tells it, and those behind it."""
+import difflib
 import re
 
 from .days import day_of
@@ -68,12 +69,15 @@ def place(letter, data):
 
 
 class Script:
-    """Reads a script, over the names that a market has."""
+    """Reads a script, over the names that a market has. `faults` are all its faults, the one that the program tells
+    before the others; `commands` are its commands without a fault, `begun` the names of its blocks, and `wild` the
+    words of the lines with a fault."""
 
     def __init__(self, names):
         self.names = set(names)
         self.actions, self.named, self.block = {}, [], None
         self.count = 0
+        self.faults, self.commands, self.wild, self.begun = [], [], set(), []
 
     @staticmethod
     def fault(number, kind, span, word, found, taken, manual):
@@ -82,32 +86,56 @@ class Script:
         return fault
 
     def read(self, data):
+        """How many commands a script has. A fault is raised, the first one."""
         if len(data) > MOST_BYTES:
             raise self.fault(
                 0, "toolong", None, "", f"more than {MOST_BYTES:,} bytes", f"a file of at most {MOST_BYTES:,} bytes",
                 LINES,
             )
+        self.lines(data)
+        if self.faults:
+            raise self.faults[0]
+        return self.count
+
+    def lines(self, data):
         at = 0
         for number, line in enumerate(data.split(b"\n"), 1):
             is_last = at + len(line) == len(data)
             said = line[:-1] if line.endswith(b"\r") and not is_last else line
             if said or not is_last:
-                self.line(number, said, at)
+                try:
+                    self.line(number, said, at)
+                except Fault as fault:
+                    self.behind(fault, said)
             at += len(line) + 1
         if self.block:
-            raise self.fault(
+            self.faults.append(self.fault(
                 self.block[0], "unclosed", self.block[1], "the block", "no `end` behind it",
                 "`end` in a line of its own", BLOCKS,
-            )
+            ))
         for number, word, span in self.named:
             if word not in self.actions:
                 taken = "the name of a block `action .. end`" + near(
                     word.decode(), [it.decode() for it in self.actions]
                 )
-                raise self.fault(
+                self.faults.append(self.fault(
                     number, "noaction", span, "the action", f"`{shown(word)}`, which no block defines", taken, BLOCKS
-                )
-        return self.count
+                ))
+
+    def behind(self, fault, line):
+        """Reads on behind a line with a fault: its names may be any, and it may begin or end a block. The names that
+        find no room are told once."""
+        if fault.kind != "names" or all(it.kind != "names" for it in self.faults):
+            self.faults.append(fault)
+        words = line.split(b"#", 1)[0].split()
+        self.wild.update(words[1:])
+        first = words[0].decode("latin-1") if words else ""
+        meant = [first] if first in COMMAND else difflib.get_close_matches(first, COMMAND, 1)
+        if meant == ["action"] and not self.block:
+            self.block = fault.entry, fault.span
+            self.actions.update((it, fault.entry) for it in words[1:] if it not in self.actions)
+        if meant == ["end"]:
+            self.block = None
 
     def line(self, number, line, at):
         odd = re.search(rb"[^\t\x20-\x7e]", line)
@@ -151,6 +179,8 @@ class Script:
             found = f"`{shown(words[1][0])}`, whose block begins in line {self.actions[words[1][0]]}"
             raise self.fault(number, "twice", words[1][1], "the action", found, "a name that no block has", BLOCKS)
         self.keep_names(number, letters, words)
+        if word not in ("action", "end"):
+            self.commands.append((number, bool(self.block), words))
         self.keep(number, word, words)
 
     def keep_names(self, number, letters, words):
@@ -167,6 +197,7 @@ class Script:
     def keep(self, number, word, words):
         if word == "action":
             self.actions[words[1][0]] = number
+            self.begun.append((words[1][0], number, words[1][1]))
             self.block = number, (words[0][1][0], words[-1][1][1])
         elif word == "end":
             self.block = None

@@ -1,10 +1,12 @@
 -- What a program about a bond asks of words and files, and what it writes (this project's profile).
-use Rattle.std.specs.Prelude.{ℕ, List, []}
+use Rattle.std.specs.Prelude.{ℕ, Bool, List, []}
+use Rattle.desk_terms.specs.Reading.{Calc}
 use Rattle.tool_run.specs.declared.status.MarketStatus.{MarketStatus}
 use Rattle.tool_run.specs.Market.{market_asks}
 use Rattle.tool_run.specs.Market as tool
 use Rattle.tool_run.specs.Tool.{Tool}
 use Rattle.bond_tool.specs.Lines.{market_text}
+use Rattle.bond_tool.specs.Named.{is_refused}
 use Rattle.bond_tool.specs.Wording.{Wording}
 use Rattle.bond_tool.specs.Words.{Request, request_of}
 
@@ -15,6 +17,10 @@ Wanted = tool.Wanted Request
 -- the bytes that are written
 abbrev pub output_in : Wording → Wanted → List ℕ
 output_in said wanted = market_text said wanted.market wanted.request.name wanted.request.settle wanted.request.clean
+
+-- the name stands for no flows
+abbrev pub refuses_in : Calc → Wanted → Bool
+refuses_in calc wanted = is_refused wanted.market wanted.request.name
 
 -- the tool that it is: it computes no price
 abbrev pub bond_tool : Wording → Tool Request Wanted MarketStatus

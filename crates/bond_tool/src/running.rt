@@ -8,13 +8,16 @@ ghost use Rattle.tool_run.specs.Tool.{IsRun, shelf_turn, sink_turn};
 ghost use Rattle.market_file.specs.Standing.{IsReady};
 ghost use Rattle.bond_tool.specs.Lines.{market_text};
 ghost use Rattle.bond_tool.specs.Named.{IsTaken};
-ghost use Rattle.bond_tool.specs.Verdict.{bond_tool};
+ghost use Rattle.bond_tool.specs.Verdict.{bond_tool, refuses_in};
+ghost use Rattle.named_run.specs.Run.{IsNamedRun};
 
 use crate::BondTool;
 use crate::lines::push_name;
+use crate::refusing::is_refused;
 use crate::words::Request;
 use desk_edge::{Shelf, Sink};
 use desk_terms::Bench;
+use named_run::{NamedStatus, NamedText, NamedTool, run_named};
 use std::alloc::{AllocError, Global};
 use std::marker::PhantomData;
 use tool_run::{Found, IdleBench, MarketStatus, OpenMarket, Tool, find, run_tool};
@@ -63,6 +66,50 @@ impl<'a, T: BondTool> Tool<'a> for Bonds<T> {
     }
 }
 
+// The same tool, which also tells a name that stands for no flows.
+impl<'a, T: BondTool> NamedTool<'a> for Bonds<T> {
+    ghost use Rattle.market_file.specs.Standing.{IsReady};
+    ghost use Rattle.tool_run.specs.Market.{wanted_in};
+    ghost use Rattle.bond_tool.specs.Named.{IsTaken};
+    ghost use Rattle.bond_tool.specs.Verdict.{Wanted, bond_tool, refuses_in};
+    ghost use Rattle.bond_tool.specs.Words.{Request, request_in};
+
+    type Wanted = Found<Request<'a>>;
+
+    type Status = MarketStatus;
+
+    ghost Request = { Request };
+
+    ghost Asked = { Wanted };
+
+    ghost asked_in = { wanted_in request_in };
+
+    ghost tool = { bond_tool T.wording };
+
+    ghost refuses = { refuses_in };
+
+    ghost CanRun = { λ found. IsReady found.market.names found.market.made.items × IsTaken found.market.made.items found.request.clean };
+
+    fn find<H: Shelf>(
+        alloc: Global,
+        words: &'a [String],
+        shelf: &mut H,
+    ) -> Result<Found<Request<'a>>, MarketStatus> {
+        find(alloc, words, shelf)
+    }
+
+    fn text<B: Bench>(
+        alloc: Global,
+        wanted: Found<Request<'a>>,
+        _bench: &mut B,
+    ) -> Result<NamedText, AllocError> {
+        let Found { market, request } = wanted;
+        let text = lines_in::<T>(alloc, &market, request)?;
+        let refuses = is_refused(&market, request.name.as_bytes());
+        Ok(NamedText { text, refuses })
+    }
+}
+
 /// Does what the words ask a program about a bond for over the files of the shelf, writes the lines to `out`, and answers how that went. The
 /// words are those behind the program's name: the path of a market, the name of a bond, a settlement day and a clean
 /// price.
@@ -80,6 +127,19 @@ pub fn run_bond<T: BondTool, H: Shelf, K: Sink>(
         (shelf_turn H.contents H.faults H.misses H.calls shelf.old shelf.new) (sink_turn K.bytes K.faults out.old out.new) no_bench }
 {
     run_tool::<Bonds<T>, H, K, IdleBench>(alloc, words, shelf, out, &mut IdleBench)
+}
+
+/// The same, and a name that stands for no flows is the result where all else went well.
+pub fn run_named_bond<T: BondTool, H: Shelf, K: Sink>(
+    alloc: Global,
+    words: &[String],
+    shelf: &mut H,
+    out: &mut K,
+) -> NamedStatus<MarketStatus>
+    ensures { IsNamedRun market_ends (bond_tool T.wording) refuses_in (map string_bytes words.now) result
+        (shelf_turn H.contents H.faults H.misses H.calls shelf.old shelf.new) (sink_turn K.bytes K.faults out.old out.new) no_bench }
+{
+    run_named::<Bonds<T>, H, K, IdleBench>(alloc, words, shelf, out, &mut IdleBench)
 }
 
 // The lines of what is wanted. Its market is lent: who owns one lets it go at each exit.

@@ -3,12 +3,15 @@ ghost use Rattle.std.specs.Prelude.{map};
 ghost use Rattle.std.specs.String.{string_bytes};
 ghost use Rattle.tool_run.specs.Idle.{no_bench};
 ghost use Rattle.tool_run.specs.Status.{market_ends};
-ghost use Rattle.tool_run.specs.Tool.{IsRun, shelf_turn, sink_turn};
+ghost use Rattle.tool_run.specs.Tool.{shelf_turn, sink_turn};
+ghost use Rattle.named_run.specs.Run.{IsNamedRun};
+ghost use Rattle.bond_tool.specs.Verdict.{refuses_in};
 ghost use Rattle.measure_run.specs.Verdict.{measure_tool};
 
 use crate::MeasureTool;
-use bond_tool::run_bond;
+use bond_tool::run_named_bond;
 use desk_edge::{Shelf, Sink};
+use named_run::NamedStatus;
 use std::alloc::Global;
 use tool_run::MarketStatus;
 
@@ -18,15 +21,16 @@ use tool_run::MarketStatus;
 ///
 /// The first failure in this order is the answer: the words; the market's file and the tables' names in it; the file of
 /// the quotes, and that of the fixings, where the market names them; the market. Then the lines are made whole, and
-/// written. A fault outside, or want of memory, may come at any time.
+/// written. A fault outside, or want of memory, may come at any time. A name that stands for no flows is the answer where all
+/// else went well.
 pub fn run_measure<H: Shelf, K: Sink>(
     alloc: Global,
     words: &[String],
     shelf: &mut H,
     out: &mut K,
-) -> MarketStatus
-    ensures { IsRun market_ends measure_tool (map string_bytes words.now) result
+) -> NamedStatus<MarketStatus>
+    ensures { IsNamedRun market_ends measure_tool refuses_in (map string_bytes words.now) result
         (shelf_turn H.contents H.faults H.misses H.calls shelf.old shelf.new) (sink_turn K.bytes K.faults out.old out.new) no_bench }
 {
-    run_bond::<MeasureTool, H, K>(alloc, words, shelf, out)
+    run_named_bond::<MeasureTool, H, K>(alloc, words, shelf, out)
 }

@@ -11,6 +11,7 @@ use Rattle.tool_run.specs.declared.status.MarketStatus.{MarketStatus}
 use Rattle.tool_run.specs.Idle.{no_bench}
 use Rattle.tool_run.specs.Status as market
 use Rattle.tool_run.specs.Tool.{Tool, ShelfTurn, SinkTurn, BenchTurn, IsRun}
+use Rattle.bond_tool.specs.Verdict as bond
 use Rattle.bump_run.specs.Verdict.{bump_tool}
 use Rattle.explain_run.specs.Tool.{explain_tool}
 use Rattle.graph_run.specs.Drawing.{graph_tool}
@@ -20,7 +21,8 @@ use Rattle.named_run.specs.declared.status.NamedStatus.{NamedStatus}
 use Rattle.named_run.specs.Run.{IsNamedRun}
 use Rattle.named_run.specs.Status as named
 use Rattle.risk_run.specs.Verdict.{risk_tool}
-use Rattle.why_run.specs.Answering.{refuses_in, why_tool}
+use Rattle.why_run.specs.Answering.{why_tool}
+use Rattle.why_run.specs.Answering as why
 use Rattle.yield_run.specs.Verdict.{yield_tool}
 use Rattle.tool_front.specs.declared.command.Command.{Command}
 use Rattle.tool_front.specs.declared.command.Command.TheVariants as command
@@ -81,13 +83,19 @@ module _ {K N B : Type 0} (whole : List (List ℕ)) (result : FrontStatus) (a : 
   EndsBond c tool = (status : MarketStatus) × IsRun market.market_ends tool words status a.shelf a.sink no_bench × (a.bench.new ≡ a.bench.old)
       × Ends c words (market.code_of status) (market.said_of status) result a.notes
 
+  -- the same of a run that tells a wrong name
+  abbrev pub EndsNamedBond : {Request Wanted : Type 0} → Command → Tool Request Wanted MarketStatus → (Calc → Wanted → Bool) → Type 0
+  EndsNamedBond c tool refuses = (status : NamedStatus MarketStatus) × IsNamedRun market.market_ends tool refuses words status a.shelf a.sink no_bench
+      × (a.bench.new ≡ a.bench.old)
+      × Ends c words (named.code_of market.code_of status) (named.said_of market.said_of status) result a.notes
+
   -- FROM A COMMAND TO ITS RUN
   abbrev pub IsCommand : Command → Type 0
   IsCommand command.Run = EndsDesk command.Run
   IsCommand command.Check = EndsDesk command.Check
   IsCommand command.Load = EndsDesk command.Load
   IsCommand command.Live = EndsLive
-  IsCommand command.Why = EndsNamed command.Why why_tool refuses_in
+  IsCommand command.Why = EndsNamed command.Why why_tool why.refuses_in
   IsCommand command.Explain = EndsBlocks command.Explain explain_tool
   IsCommand command.Grid = EndsBlocks command.Grid grid_tool
   IsCommand command.Bump = EndsMarket command.Bump bump_tool
@@ -95,7 +103,7 @@ module _ {K N B : Type 0} (whole : List (List ℕ)) (result : FrontStatus) (a : 
   IsCommand command.Curve = EndsCurve
   IsCommand command.Graph = EndsScript command.Graph graph_tool
   IsCommand command.Yield = EndsBond command.Yield yield_tool
-  IsCommand command.Measure = EndsBond command.Measure measure_tool
+  IsCommand command.Measure = EndsNamedBond command.Measure measure_tool bond.refuses_in
 
 -- a command that words ask for; of other words nothing is said here
 abbrev pub Commands : {K N B : Type 0} → List (List ℕ) → FrontStatus → Around K N B → Front → Type 0

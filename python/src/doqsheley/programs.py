@@ -35,5 +35,7 @@ def run(words: Sequence[str], doqs: "Optional[os.PathLike[str] | str]" = None, f
     except FileNotFoundError:
         raise ProgramFailed(127, f"there is no program {call[0]}: DOQS names one") from None
     if ran.returncode:
-        raise ProgramFailed(ran.returncode, ran.stderr.decode(errors="replace").strip())
+        # (of a wrong name the command has written more lines to standard output)
+        wrong = [it for it in ran.stdout.splitlines(True) if b"refused" in it] if ran.returncode == 10 else []
+        raise ProgramFailed(ran.returncode, b"".join([*wrong, ran.stderr]).decode(errors="replace").strip())
     return ran.stdout.decode()

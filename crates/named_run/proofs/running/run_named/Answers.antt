@@ -4,6 +4,7 @@ use Rattle.std.specs.String.{string_bytes}
 use Rattle.tool_run.specs.Tool.{shelf_turn, verdict_of}
 use Rattle.tool_run.specs.Stage.{Stage, IsOutside}
 use Rattle.tool_run.proofs.Runs.{run_lost, run_done, run_cut, run_halted}
+use Rattle.named_run.specs.declared.status.NamedStatus.TheVariants.{Of}
 use Rattle.named_run.specs.Run.{status_in}
 use Rattle.named_run.proofs.Ends.{written_is_done, written_is_told, outside_is_told, unread_is_told}
 use Rattle.named_run.proofs.running.run_named.Goals as goal
@@ -57,7 +58,7 @@ returns-in-Ok-text g c =
           (rw (c.deref.ensures.value, c.in-Ok-text.ensures.text) at c.in-Err-write_whole.ensures.front)
           c.in-Err-write_whole.ensures.failed c.in-Err-write_whole.ensures.once c.in-Ok-text.ensures.calls;
       named = outside_is_told ends.stage_of t.asked_in ends.done (t.refuses (g.B.Bench.calc c.args.bench.now)) shelf.old.files
-          (λ files. verdict_of ends t.tool.asks files words) _
+          (λ files. verdict_of ends t.tool.asks files words) (Of c.cut.result)
           (subst (λ (n : Stage). IsOutside n) (sym (ap ends.stage_of c.cut.ensures ∙ g.met.T.Status.ToolStatus.sound.cut)) tt);
     }
 
@@ -74,6 +75,6 @@ returns g c =
           c.text.ensures.unneeded c.text.ensures.same
           c.halted.ensures c.in-Err-text.ensures.calls;
       named = outside_is_told ends.stage_of t.asked_in ends.done (t.refuses (g.B.Bench.calc c.args.bench.now)) shelf.old.files
-          (λ files. verdict_of ends t.tool.asks files words) _
+          (λ files. verdict_of ends t.tool.asks files words) (Of c.halted.result)
           (subst (λ (n : Stage). IsOutside n) (sym (ap ends.stage_of c.halted.ensures ∙ g.met.T.Status.ToolStatus.sound.halted)) tt);
     }

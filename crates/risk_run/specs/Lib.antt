@@ -3,6 +3,7 @@ pub mod Curves
 pub mod Dues
 pub mod Given
 pub mod Lines
+pub mod Named
 pub mod Rows
 pub mod Theta
 pub mod Tomorrow

@@ -7,21 +7,25 @@ ghost use Rattle.desk_model.specs.Visit.{log_of};
 ghost use Rattle.market_desk.specs.Standing.{standing};
 ghost use Rattle.tool_run.specs.Calls.{Calls};
 ghost use Rattle.tool_run.specs.Status.{market_ends};
-ghost use Rattle.tool_run.specs.Tool.{IsRun, shelf_turn, sink_turn, bench_turn};
+ghost use Rattle.tool_run.specs.Tool.{shelf_turn, sink_turn, bench_turn};
+ghost use Rattle.named_run.specs.Run.{IsNamedRun};
 ghost use Rattle.risk_run.specs.Asking.{risk_calls};
 ghost use Rattle.risk_run.specs.Lines.{risk_text};
+ghost use Rattle.risk_run.specs.Named.{refuses_in};
 ghost use Rattle.risk_run.specs.Verdict.{risk_tool};
 
 use crate::names::names_rows;
+use crate::refusing::refuses_names;
 use crate::words::Request;
 use desk_edge::{Shelf, Sink};
 use desk_terms::Bench;
 use fixed_amount::Rate;
 use lazy_objects::Desk;
 use market_desk::{NamedDesk, named_desk};
+use named_run::{NamedStatus, NamedText, NamedTool, run_named};
 use price_report::Namer;
 use std::alloc::{AllocError, Global};
-use tool_run::{Found, MarketStatus, OpenMarket, Tool, find, run_tool};
+use tool_run::{Found, MarketStatus, OpenMarket, find};
 
 /// Does what the words ask for over the files of the shelf, writes the lines to `out`, and answers how that went. The
 /// words are those behind the program's name: the path of a market, how far quotes are moved, and the names of instruments.
@@ -29,27 +33,29 @@ use tool_run::{Found, MarketStatus, OpenMarket, Tool, find, run_tool};
 ///
 /// The first failure in this order is the answer: the words; the market's file and the tables' names in it; the file of
 /// the quotes, and that of the fixings, where the market names them; the market. Then the lines are made whole, and
-/// written. A fault outside, or want of memory, may come at any time.
+/// written. A fault outside, or want of memory, may come at any time. A name that stands for no instrument is the answer where
+/// all else went well.
 pub fn run_risk<H: Shelf, K: Sink, B: Bench>(
     alloc: Global,
     words: &[String],
     shelf: &mut H,
     out: &mut K,
     bench: &mut B,
-) -> MarketStatus
-    ensures { IsRun market_ends risk_tool (map string_bytes words.now) result
+) -> NamedStatus<MarketStatus>
+    ensures { IsNamedRun market_ends risk_tool refuses_in (map string_bytes words.now) result
         (shelf_turn H.contents H.faults H.misses H.calls shelf.old shelf.new)
         (sink_turn K.bytes K.faults out.old out.new) (bench_turn B.calc B.count B.log bench.old bench.new) }
 {
-    run_tool::<RiskTool, H, K, B>(alloc, words, shelf, out, bench)
+    run_named::<RiskTool, H, K, B>(alloc, words, shelf, out, bench)
 }
 
 // The rows of instruments over a market.
 struct RiskTool;
 
-impl<'a> Tool<'a> for RiskTool {
+impl<'a> NamedTool<'a> for RiskTool {
     ghost use Rattle.market_file.specs.Standing.{IsReady};
     ghost use Rattle.tool_run.specs.Market.{Wanted, wanted_in};
+    ghost use Rattle.risk_run.specs.Named.{refuses_in};
     ghost use Rattle.risk_run.specs.Verdict.{risk_tool};
     ghost use Rattle.risk_run.specs.Words.{Request, request_in};
 
@@ -65,6 +71,8 @@ impl<'a> Tool<'a> for RiskTool {
 
     ghost tool = { risk_tool };
 
+    ghost refuses = { refuses_in };
+
     ghost CanRun = { λ found. IsReady found.market.names found.market.made.items };
 
     fn find<H: Shelf>(
@@ -79,7 +87,7 @@ impl<'a> Tool<'a> for RiskTool {
         alloc: Global,
         wanted: Found<Request<'a>>,
         bench: &mut B,
-    ) -> Result<Vec<u8>, AllocError> {
+    ) -> Result<NamedText, AllocError> {
         let Found { market, request } = wanted;
         let OpenMarket { names, today, made } = market;
         let named = named_desk(alloc, today, made)?;
@@ -91,7 +99,9 @@ impl<'a> Tool<'a> for RiskTool {
             names: &names,
             of_object: &of_object,
         };
-        lines_on(alloc, &mut desk, request.size, request.names, &namer, bench)
+        let refuses = refuses_names(&desk, &names, request.names);
+        let text = lines_on(alloc, &mut desk, request.size, request.names, &namer, bench)?;
+        Ok(NamedText { text, refuses })
     }
 }
 

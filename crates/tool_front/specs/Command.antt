@@ -20,6 +20,7 @@ use Rattle.measure_run.specs.Verdict.{measure_tool}
 use Rattle.named_run.specs.declared.status.NamedStatus.{NamedStatus}
 use Rattle.named_run.specs.Run.{IsNamedRun}
 use Rattle.named_run.specs.Status as named
+use Rattle.risk_run.specs.Named as risk
 use Rattle.risk_run.specs.Verdict.{risk_tool}
 use Rattle.why_run.specs.Answering.{why_tool}
 use Rattle.why_run.specs.Answering as why
@@ -78,6 +79,11 @@ module _ {K N B : Type 0} (whole : List (List ℕ)) (result : FrontStatus) (a : 
   EndsMarket c tool = (status : MarketStatus) × IsRun market.market_ends tool words status a.shelf a.sink a.bench
       × Ends c words (market.code_of status) (market.said_of status) result a.notes
 
+  -- the same of a run that tells a wrong name
+  abbrev pub EndsNamedMarket : {Request Wanted : Type 0} → Command → Tool Request Wanted MarketStatus → (Calc → Wanted → Bool) → Type 0
+  EndsNamedMarket c tool refuses = (status : NamedStatus MarketStatus) × IsNamedRun market.market_ends tool refuses words status a.shelf a.sink a.bench
+      × Ends c words (named.code_of market.code_of status) (named.said_of market.said_of status) result a.notes
+
   -- what computes no price leaves the bench alone
   abbrev pub EndsBond : {Request Wanted : Type 0} → Command → Tool Request Wanted MarketStatus → Type 0
   EndsBond c tool = (status : MarketStatus) × IsRun market.market_ends tool words status a.shelf a.sink no_bench × (a.bench.new ≡ a.bench.old)
@@ -99,7 +105,7 @@ module _ {K N B : Type 0} (whole : List (List ℕ)) (result : FrontStatus) (a : 
   IsCommand command.Explain = EndsBlocks command.Explain explain_tool
   IsCommand command.Grid = EndsBlocks command.Grid grid_tool
   IsCommand command.Bump = EndsMarket command.Bump bump_tool
-  IsCommand command.Risk = EndsMarket command.Risk risk_tool
+  IsCommand command.Risk = EndsNamedMarket command.Risk risk_tool risk.refuses_in
   IsCommand command.Curve = EndsCurve
   IsCommand command.Graph = EndsScript command.Graph graph_tool
   IsCommand command.Yield = EndsBond command.Yield yield_tool

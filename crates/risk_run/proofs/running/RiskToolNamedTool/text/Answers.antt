@@ -1,6 +1,6 @@
 use Rattle.std.proofs.lemmas.Result.{err_from_is_err_and}
 use Rattle.tool_run.proofs.Calling.{begins_none}
-use Rattle.risk_run.proofs.running.RiskToolTool.text.Goals as goal
+use Rattle.risk_run.proofs.running.RiskToolNamedTool.text.Goals as goal
 
 pub returns-in_err-named-clause-calls : goal.returns-in_err-named-clause-calls
 returns-in_err-named-clause-calls g c =

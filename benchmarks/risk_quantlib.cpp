@@ -137,8 +137,8 @@ int main(int count, char** words) {
             };
             Real up = at(size), down = at(-size);
             at(0);
-            std::cout << of << ",delta," << label << "," << up - down << "\n" << of << ",gamma," << label << "," << up + down - 2 * base << "\n";
-            return up - down;
+            std::cout << of << ",delta," << label << "," << (up - down) / 2 << "\n" << of << ",gamma," << label << "," << up + down - 2 * base << "\n";
+            return (up - down) / 2;
         };
         for (auto& it : of_curve)
             total += moved({it}, it);

@@ -12,8 +12,9 @@ use Rattle.bump_model.specs.declared.ladder.Side.TheVariants as side
 use Rattle.bump_model.specs.Moves.{moved, value_at, quoted, quoted_in, with_values, is_limit}
 use Rattle.bump_model.specs.Sides.{worth, gain, side_of, rung_for, bump_rung}
 use Rattle.bump_model.specs.declared.ladder.Missing.TheVariants.{Limit}
+use Rattle.fixed_amount.specs.Rounding.{closest}
 use Rattle.risk_model.specs.declared.figures.Figure.TheVariants.{Is}
-use Rattle.risk_model.specs.Figures.{price_of, figure_of, figure_at, figure_for, bump_figure, difference, curvature, both_in, figure_in, total}
+use Rattle.risk_model.specs.Figures.{price_of, figure_of, figure_at, figure_for, bump_figure, half_difference, curvature, both_in, figure_in, total}
 
 module _ (f g : ℤ → ℤ → ℤ) (base : ℤ) (same : (u d : ℤ) → g (u -ℤ base) (d -ℤ base) ≡ f u d) where
   by_worths : (up down : Result ℤ Cause) → figure_in g (both_in (gain base up) (gain base down)) ≡ figure_of f (price_of up) (price_of down)
@@ -49,11 +50,15 @@ module _ (f g : ℤ → ℤ → ℤ) (base : ℤ) (same : (u d : ℤ) → g (u -
     rung_figure (One q) = quote_figure q (value_at m q)
     rung_figure (Together label quotes) = group_figure (quoted_in m quotes)
 
+-- two prices lie as far apart as what is gained over a base
+same_distance : (u d base : ℤ) → ((u -ℤ base) -ℤ (d -ℤ base)) ≡ (u -ℤ d)
+same_distance u d base = omega (arith, ints)
+
 pub rung_delta : (calc : Calc) (size : ℤ) (m : Market) (o : ℕ) (base : ℤ) (bump : Bump)
-    → figure_in difference (both_in (bump_rung calc size m o base bump).up (bump_rung calc size m o base bump).down)
-    ≡ bump_figure difference calc size m o bump
+    → figure_in half_difference (both_in (bump_rung calc size m o base bump).up (bump_rung calc size m o base bump).down)
+    ≡ bump_figure half_difference calc size m o bump
 rung_delta calc size m o base bump =
-    rung_figure difference difference base (λ u d. omega (arith, ints)) calc size m o bump
+    rung_figure half_difference half_difference base (λ u d. ap (λ (n : ℤ). closest n 2) (same_distance u d base)) calc size m o bump
 
 pub rung_gamma : (calc : Calc) (size : ℤ) (m : Market) (o : ℕ) (base : ℤ) (bump : Bump)
     → figure_in total (both_in (bump_rung calc size m o base bump).up (bump_rung calc size m o base bump).down)

@@ -1,6 +1,7 @@
--- DELTA AND GAMMA of an instrument where quotes are moved by a size up and down: differences of prices that are computed
--- afresh from the market alone (a desk's bucket risk, by central differences).
+-- DELTA AND GAMMA of an instrument where quotes are moved by a size up and down, by central differences of prices that are computed
+-- afresh from the market alone (a desk's bucket risk). A delta is the sensitivity to a move of the size, so half of a difference.
 use Rattle.std.specs.Prelude.{ℕ, ℤ, ◌+ℤ◌, ◌-ℤ◌, neg_ℤ, List, [], ◌∷◌, if◌then◌else◌, Option, None, Some, Result, Ok, Err}
+use Rattle.fixed_amount.specs.Rounding.{closest}
 use Rattle.desk_terms.specs.declared.cause.Cause.{Cause}
 use Rattle.desk_terms.specs.Reading.{Calc}
 use Rattle.desk_model.specs.Market.{Market}
@@ -22,7 +23,7 @@ abbrev pub price_of : Result ℤ Cause → Result ℤ Missing
 price_of (Ok amount) = Ok amount
 price_of (Err cause) = Err (Refused cause)
 
--- V: what o is worth where these quotes are moved by a shift, or why it is worth nothing then
+-- V: what o is worth where these quotes are moved by a shift, or why it has no price then
 abbrev pub price_at : Calc → Market → ℕ → ℤ → List Quoted → Result ℤ Missing
 price_at calc market o shift group =
     if is_limit shift group then Err Limit else price_of (worth calc (with_values (moved shift) group market) o)
@@ -48,17 +49,18 @@ abbrev pub bump_figure : (ℤ → ℤ → ℤ) → Calc → ℤ → Market → �
 bump_figure f calc size market o (One q) = figure_for f calc size market o q (value_at market q)
 bump_figure f calc size market o (Together label quotes) = figure_at f calc size market o (quoted_in market quotes)
 
-abbrev pub difference : ℤ → ℤ → ℤ
-difference up down = up -ℤ down
+-- half of what lies between two prices, rounded once to a unit, a half away from zero
+abbrev pub half_difference : ℤ → ℤ → ℤ
+half_difference up down = closest (up -ℤ down) 2
 
--- DELTA: V(q + h) - V(q - h)
+-- DELTA: (V(q + h) - V(q - h)) / 2
 abbrev pub delta_of : Calc → ℤ → Market → ℕ → Bump → Figure
-delta_of calc size market o bump = bump_figure difference calc size market o bump
+delta_of calc size market o bump = bump_figure half_difference calc size market o bump
 
 abbrev pub curvature : ℤ → ℤ → ℤ → ℤ
 curvature base up down = (up +ℤ down) -ℤ (base +ℤ base)
 
--- GAMMA: V(q + h) + V(q - h) - 2 V
+-- GAMMA: V(q + h) + V(q - h) - 2 V, the change of the delta over a move of h
 abbrev pub gamma_of : Calc → ℤ → Market → ℕ → ℤ → Bump → Figure
 gamma_of calc size market o base bump = bump_figure (curvature base) calc size market o bump
 
@@ -79,7 +81,7 @@ figure_in f (Ok gains) = Is (f gains.up gains.down)
 figure_in f (Err figure) = figure
 
 abbrev pub delta_in : Rung → Figure
-delta_in rung = figure_in difference (both_in rung.up rung.down)
+delta_in rung = figure_in half_difference (both_in rung.up rung.down)
 
 abbrev pub total : ℤ → ℤ → ℤ
 total up down = up +ℤ down

@@ -1,5 +1,5 @@
 // The definitions on small markets: each gives what a hand works out.
-ghost use Rattle.risk_model.specs.Rows.{IsBent, IsMissing};
+ghost use Rattle.risk_model.specs.Rows.{IsBent, IsMissing, IsHalved};
 
 // A stock that is worth the square of its quote.
 fn a_bent_price_is_worked_through()
@@ -9,4 +9,9 @@ fn a_bent_price_is_worked_through()
 // Sides without a price, and a quote without a value.
 fn missing_sides_are_worked_through()
     ensures { IsMissing }
+{}
+
+// Halves of differences, and a sum of them.
+fn halves_are_worked_through()
+    ensures { IsHalved }
 {}

@@ -50,13 +50,13 @@ sloped = record {
 
 pub record IsWorked : Type 0 where
   pub stock : shown (codes "s" ∷ []) ≡
-      codes "name,measure,quote,value\ns,value,,1500.000000\ns,delta,a,0.200000\ns,gamma,a,0.000000\ns,theta,1970-01-02,0.000000\n"
+      codes "name,measure,quote,value\ns,value,,1500.000000\ns,delta,a,0.100000\ns,gamma,a,0.000000\ns,theta,1970-01-02,0.000000\n"
   pub refused : shown (codes "t" ∷ []) ≡ codes "name,measure,quote,value\nt,value,,refused unset z\n"
   pub others : shown (codes "a" ∷ codes "b" ∷ []) ≡
       codes "name,measure,quote,value\na,value,,refused kind\nb,value,,refused unknown\n"
   pub shift : risk_text plain (standing_of sloped) (pos 100_000) (codes "b" ∷ []) ≡
-      codes "name,measure,quote,value\nb,value,,1500.000000\nb,delta,a,0.200000\nb,gamma,a,0.000000\nb,delta,y,0.000000\nb,gamma,y,0.000000\n"
-      ++ codes "b,delta,c,0.200000\nb,gamma,c,0.000000\nb,sum,c,0.200000\nb,cross,c,0.000000\n"
+      codes "name,measure,quote,value\nb,value,,1500.000000\nb,delta,a,0.100000\nb,gamma,a,0.000000\nb,delta,y,0.000000\nb,gamma,y,0.000000\n"
+      ++ codes "b,delta,c,0.100000\nb,gamma,c,0.000000\nb,sum,c,0.100000\nb,cross,c,0.000000\n"
       ++ codes "b,theta,1970-01-02,paid refused unpriced b\n"
   pub calls : log_of (risk_calls plain (standing_of small) (pos 100_000) (codes "s" ∷ codes "s" ∷ [])) ≡
       (3, true) ∷ (3, true) ∷ (3, true) ∷ (3, true) ∷ (3, true) ∷ (3, true) ∷ (3, true) ∷ []

@@ -26,7 +26,7 @@ pub(crate) fn unnamed_row(name: &[u8], why: Unnamed, lines: &mut Vec<u8>) -> Res
     lines.extend_from_slice(b"\n")
 }
 
-// Appends the row of an instrument that is worth nothing.
+// Appends the row of an instrument that has no price.
 #[tactic(auto, unfolding(crate::specs::Lines::refused_row))]
 pub(crate) fn refused_row(
     alloc: Global,

@@ -26,7 +26,7 @@ use std::alloc::{AllocError, Global};
 pub(crate) enum Gain {
     // So many units of an amount.
     Is(i128),
-    // It is worth nothing on that day, for this cause.
+    // It has no price on that day, for this cause.
     Tomorrow(Cause),
     // What it pays until then has no amount.
     Paid(Cause),

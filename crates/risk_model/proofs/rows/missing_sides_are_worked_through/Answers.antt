@@ -17,4 +17,10 @@ returns c = record {
   nothing_added = refl;
   no_sum = refl;
   none_beyond = refl;
+  no_sum_below = refl;
+  both_limits = refl;
+  both = refl;
+  both_gammas = refl;
+  both_sides = refl;
+  unset_sides = refl;
 }

@@ -45,12 +45,13 @@ for n in (500, 1000):
     open(f"{work}/held{n}", "w").write(chain + "defer\nset z 2\n")
 MAKE
 
-# What an answer over a market and a script takes.
+# What an answer over a market and a script takes. Of a name that nothing has the exit code is 10.
 measure() {
     local used counted=-
-    used=$( { /usr/bin/time -f '%U s, %M KB' "$doqs" why "$work/$1" "$work/$2" "$3" > "$work/$3"; } 2>&1)
+    /usr/bin/time -q -o "$work/used" -f '%U s, %M KB' "$doqs" why "$work/$1" "$work/$2" "$3" > "$work/$3" 2> "$work/said" || [ $? = 10 ]
+    used=$(cat "$work/used")
     if [ -z "${ANSWERS_UNCOUNTED:-}" ]; then
-        valgrind --tool=callgrind --callgrind-out-file="$work/calls" "$doqs" why "$work/$1" "$work/$2" "$3" 2> "$work/log" > "$work/out"
+        valgrind --tool=callgrind --callgrind-out-file="$work/calls" "$doqs" why "$work/$1" "$work/$2" "$3" 2> "$work/log" > "$work/out" || [ $? = 10 ]
         counted=$(sed -n 's/.*Collected : \([0-9]*\).*/\1/p' "$work/log" | awk '{ printf "%.1f", $1 / 1e6 }')
     fi
     echo "$2, $3: $counted million instructions, $used, $(wc -l < "$work/$3") lines, $(wc -c < "$work/$3") bytes"

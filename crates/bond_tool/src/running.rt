@@ -104,8 +104,9 @@ impl<'a, T: BondTool> NamedTool<'a> for Bonds<T> {
         _bench: &mut B,
     ) -> Result<NamedText, AllocError> {
         let Found { market, request } = wanted;
+        let name = request.name.as_bytes();
         let text = lines_in::<T>(alloc, &market, request)?;
-        let refuses = is_refused(&market, request.name.as_bytes());
+        let refuses = is_refused(&market, name);
         Ok(NamedText { text, refuses })
     }
 }

@@ -1,14 +1,12 @@
 -- What a bench was called for while an answer was made, as the calls of a run tell it.
-use Rattle.std.proofs.Common.{◌≡◌, ◌≢◌, inl, inr, ℕ, ◌+◌, ◌≤◌, Bool, List, [], ◌∷◌, ◌++◌, length, take, Option, Result, Ok, Err, refl, sym, ◌∙◌, ap, arith}
+use Rattle.std.proofs.Common.{◌≡◌, ◌≢◌, inl, inr, ℕ, ◌+◌, ◌≤◌, Bool, List, [], ◌∷◌, ◌++◌, length, take, Option, refl, sym, ◌∙◌, ap, arith}
 use Rattle.std.proofs.lemmas.List.{length-append}
 use Rattle.desk_terms.specs.Bench.{counted, logged}
 use Rattle.desk_terms.specs.Reading.{Outcome}
-use Rattle.desk_model.specs.State.{State}
 use Rattle.desk_model.specs.Visit.{log_of}
-use Rattle.bump_model.specs.Asking.{Asking, Asks, Made, MadeFront}
+use Rattle.bump_model.specs.Asking.{Made, MadeFront}
 use Rattle.session_core.proofs.Turns.{log_length}
-use Rattle.tool_run.specs.Calls.{Makes, Begins, Calls}
-use Rattle.script_steps.proofs.Calling.{makes_both, begins_second}
+use Rattle.tool_run.specs.Calls.{Makes, Begins}
 
 abbrev Log : Type 0
 Log = Option (List (ℕ × Bool))
@@ -56,14 +54,3 @@ begins_front calls count now log log_now m = elim m.count [
     front_log =
         m.log ∙ ap (logged log) (sym (ap (λ (l : List (ℕ × Outcome)). take (length m.front) (log_of l)) m.whole
         ∙ take_front m.front m.rest))
-
--- behind what was called for before them
-pub calls_behind : {A E : Type 0} (first : List (ℕ × Bool)) (asking : Asking) (result : Result A E) (new : State) (count mid now : ℕ)
-    (log log_mid log_now : Log) → Makes first count mid log log_mid → Asks asking result new mid now log_mid log_now
-    → Calls (first ++ log_of asking.calls) result count now log log_now
-calls_behind first asking (Ok x) new count mid now log log_mid log_now makes asks =
-    makes_both first (log_of asking.calls) count mid now log log_mid log_now makes
-    (makes_made asking.calls mid now log_mid log_now asks.1)
-calls_behind first asking (Err e) new count mid now log log_mid log_now makes asks =
-    begins_second first (log_of asking.calls) count mid now log log_mid log_now makes
-    (begins_front asking.calls mid now log_mid log_now asks)

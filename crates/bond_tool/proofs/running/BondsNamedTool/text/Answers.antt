@@ -10,4 +10,4 @@ calls_none (Ok lines) count log = makes_none count log
 calls_none (Err fault) count log = begins_none [] count log
 
 pub returns-clause-calls : goal.returns-clause-calls
-returns-clause-calls g c = calls_none c.text.result (g.B.Bench.count c.args._bench.now) (g.B.Bench.log c.args._bench.now)
+returns-clause-calls g c = calls_none c.lines_in.result (g.B.Bench.count c.args._bench.now) (g.B.Bench.log c.args._bench.now)

@@ -37,6 +37,17 @@ def marked(path, source, work):
     return Path(path).read_bytes()
 
 
+def parts_of(kit):
+    """The parts in C that each program is linked with."""
+    return [kit / "c" / "libos_c.a", kit / "c" / "liblibc_c.a"]
+
+
+def linked(kit, made, object_file):
+    """Links a program as CI does."""
+    words = ["--target", "x86_64-unknown-linux-gnu", "--toolchain", kit / "toolchain", "-o", made]
+    call(kit / "bin" / "rattle-link", *words, object_file, *parts_of(kit))
+
+
 def static(made, object_file, parts):
     """Links a program that needs no library and no fixed place in memory."""
     call("gcc", "-static-pie", "-o", made, object_file, *parts)
@@ -53,15 +64,13 @@ def programs(source, work):
             made.chmod(0o755)
             of_debian[name] = of_any[name] = marked(made, source, work)
             continue
-        parts = [source.kit / "c" / "libos_c.a", source.kit / "c" / "liblibc_c.a"]
         for end in ("", ".by-rattle"):
-            words = ["--target", "x86_64-unknown-linux-gnu", "--toolchain", source.kit / "toolchain", "-o", made]
-            call(source.kit / "bin" / "rattle-link", *words, out / f"{name}{end}.o", *parts)
+            linked(source.kit, made, out / f"{name}{end}.o")
             if made.read_bytes() != (out / f"{name}{end}").read_bytes():
                 raise Stop(f"crates/{name}/out/{name}{end} is not what its object links to: .ci/run --anew builds both")
         shutil.copyfile(out / name, made)
         of_debian[name] = marked(made, source, work)
-        static(made, out / f"{name}.o", parts)
+        static(made, out / f"{name}.o", parts_of(source.kit))
         of_any[name] = marked(made, source, work)
     return of_debian, of_any
 

@@ -12,8 +12,8 @@ import building
 import elf
 import libraries
 import packing
-from common import PROGRAMS, Source, machine
-from making import faults_of_log, first_heading
+from common import PROGRAMS, Source, kit_folder, machine
+from making import faults_of_log, first_heading, stated_sums
 from packing import sum_of
 
 
@@ -131,18 +131,28 @@ def run_version(tree):
     return ran.stdout.decode(errors="replace").splitlines() or ["nothing"]
 
 
-def relinked(files, packages, told):
+def relinked(log, packages, told):
     """Programs that are not what their objects link to, where this machine has the same linker and C library."""
     inside = next((it for name, it in packages.items() if "-objects" in name), None)
     if inside is None:
         yield "there are no objects of the programs"
         return
     top = next(iter(inside)).split("/")[0]
+    stated, kit = stated_sums(log), kit_folder()
     for name in PROGRAMS:
-        entry = inside.get(f"{top}/{name}.o")
-        if entry is None or sum_of(entry.data) != told["built"].get(f"crates/{name}/out/{name}.o"):
+        entry, path = inside.get(f"{top}/{name}.o"), f"crates/{name}/out/{name}"
+        if entry is None or sum_of(entry.data) != told["built"].get(f"{path}.o"):
             yield f"the object {name}.o is not the one that CI built"
             return
+        if f"{path}.o" not in stated and not kit:
+            yield f"the log has no sum of {path}.o, and there is no kit here that links it to {path}, of which it has one"
+        elif f"{path}.o" not in stated:
+            with tempfile.TemporaryDirectory() as folder:
+                made, given = Path(folder) / name, Path(folder) / f"{name}.o"
+                given.write_bytes(entry.data)
+                building.linked(kit, made, given)
+                if sum_of(made.read_bytes()) != stated.get(path):
+                    yield f"the object {name}.o does not link to the program of which the log has the sum"
     if not all(map(shutil.which, ("gcc", "ld", "strip", "objcopy"))) or machine() != told["tools"]:
         return
     source = Source(None, told["commit"], None, told["version"], 0, "", "", None, [], None)
@@ -180,4 +190,4 @@ def faults(folder):
     yield from notices(files, packages, version)
     yield from versions(files, packages, version)
     if not told.get("trial"):
-        yield from relinked(files, packages, told)
+        yield from relinked(log, packages, told)

@@ -68,7 +68,7 @@ class Soak(unittest.TestCase):
         self.addCleanup(page.close)
         page.open(board.page)
         board.do("action look", "ask book", "end", "watch limit look", "register limit book")
-        for number in range(500):
+        for number in range(1100):
             board.do(f"set acme {40 + number / 100:.2f}")
         ticks = [0]
 

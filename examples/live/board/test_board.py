@@ -25,6 +25,7 @@ import time
 import unittest
 import urllib.parse
 import zlib
+from collections import Counter
 from decimal import Decimal
 from pathlib import Path
 
@@ -417,12 +418,11 @@ def small_picture(png):
             line[x] = (line[x] + (0, left, up, (left + up) // 2, near)[how]) & 255
         above = bytes(line)
         lines.append([above[x : x + 3] for x in range(0, width * size, size)])
-    for bits in (255, 252, 248, 240, 224):
-        colours = sorted({bytes(it & bits | (it >> 5 if bits != 255 else 0) for it in pixel) for pixel in set().union(*lines)})
-        if len(colours) <= 256:
-            break
-    number = {it: place for place, it in enumerate(colours)}
-    of = {pixel: number[bytes(it & bits | (it >> 5 if bits != 255 else 0) for it in pixel)] for pixel in set().union(*lines)}
+    often = Counter(pixel for line in lines for pixel in line).most_common()
+    colours = [it for it, _ in often[:256]]
+    of = {it: place for place, it in enumerate(colours)}
+    for it, _ in often[256:]:
+        of[it] = min(range(256), key=lambda place: sum((one - other) ** 2 for one, other in zip(it, colours[place])))
     body = b"".join(b"\0" + bytes(map(of.__getitem__, line)) for line in lines)
 
     def chunk(name, inside):
@@ -445,14 +445,15 @@ class Browser:
         options["args"] += ["--no-sandbox"] if os.geteuid() == 0 else []
         if phone:
             options["mobileEmulation"] = {"deviceMetrics": {"width": width, "height": height, "pixelRatio": 1}}
-        wanted = {"capabilities": {"alwaysMatch": {"goog:chromeOptions": options, "goog:loggingPrefs": {"browser": "ALL"}}}}
+        wanted = {"goog:chromeOptions": options, "goog:loggingPrefs": {"browser": "ALL"}, "timeouts": {"script": 100000}}
+        wanted = {"capabilities": {"alwaysMatch": wanted}}
         self.at += "/" + self.call("POST", "", wanted)["sessionId"]
         if not phone:
             self.cdp("Emulation.setDeviceMetricsOverride", {"width": width, "height": height, "deviceScaleFactor": 1, "mobile": False})
 
     def call(self, method, path, body=None):
         line = urllib.parse.urlsplit(self.at)
-        to = http.client.HTTPConnection(line.hostname, line.port, timeout=60)
+        to = http.client.HTTPConnection(line.hostname, line.port, timeout=120)
         to.request(method, line.path + path, None if body is None else json.dumps(body), {"Content-Type": "application/json"})
         answer = to.getresponse()
         value = json.load(answer)["value"]

@@ -67,7 +67,7 @@ def programs(source, work):
         for end in ("", ".by-rattle"):
             linked(source.kit, made, out / f"{name}{end}.o")
             if made.read_bytes() != (out / f"{name}{end}").read_bytes():
-                raise Stop(f"crates/{name}/out/{name}{end} is not what its object links to: .ci/run --anew builds both")
+                raise Stop(f"crates/{name}/out/{name}{end} is not what its object links to: tools/release_parts/ci_from_scratch builds both")
         shutil.copyfile(out / name, made)
         of_debian[name] = marked(made, source, work)
         static(made, out / f"{name}.o", parts_of(source.kit))

@@ -75,7 +75,7 @@ def faults_of_clone(clone, version, log):
     there = built(clone)
     lacking = [it for it in to_build() if it not in there]
     if lacking:
-        yield f"{lacking[0]} is not there: .ci/run --anew builds it"
+        yield f"{lacking[0]} is not there: tools/release_parts/ci_from_scratch builds it"
     yield from faults_of_log(log, commit, there)
 
 

@@ -183,7 +183,10 @@ def rows_of(model, shelf, words):
     except model.cli.Status as status:
         help = f"desk_fault {words[0]} says in which line, and what would be taken\n" if status.code == 3 else ""
         return f"{status.line}\n{help}exit {status.code}\n"
-    return Risk(model, market, size).text(words[2:])
+    risk = Risk(model, market, size)
+    # a name that stands for no instrument has its row, and its exit code
+    wrong = any(risk.block(name)[0][2] in ("refused unknown", "refused kind") for name in words[2:])
+    return risk.text(words[2:]) + ("doqs risk: refused\nexit 10\n" if wrong else "")
 
 
 def case_of(model, given):

@@ -34,7 +34,7 @@ typedef struct {
 static char *steps[MOST_STEPS];
 static answer known[MOST_STEPS];
 static int count;
-static char out[MOST_TEXT];
+static char out[MOST_TEXT], earlier[MOST_TEXT];
 
 static void check(bool holds, const char *what, int step) {
     if (holds)
@@ -59,9 +59,15 @@ static answer take(desk *d, char *step) {
         char *day = strchr(step, ' ');
         desk_bytes name = {step + 1, day ? (size_t)(day - step - 1) : strlen(step + 1)};
         desk_factor factor = {0, 9, 0};
+        size_t before = desk_text(d, 0, (desk_room){earlier, MOST_TEXT / 2});
         it.ended = day ? desk_df(d, name, (uint32_t)strtoul(day, NULL, 10), &factor) : desk_ask(d, name, &price);
         size_t size = desk_text(d, 0, (desk_room){out, MOST_TEXT / 2});
         check(it.ended != DESK_NO_MEMORY || size == 0, "an ask found no memory, and its text is not empty", 0);
+        /* The text of an earlier ask, which has other counts where that was refused memory, stays. */
+        if (it.ended == DESK_NO_NAME || it.ended == DESK_RANGE || it.ended == DESK_CLOSED) {
+            check(size == before && !memcmp(out, earlier, size), "the text is not as it was", 0);
+            size = 0;
+        }
         it.size = size + (size_t)snprintf(out + size, MOST_TEXT / 2, "%lld %lld %u %llu %lld %u %llu", (long long)price.high,
                                           (long long)price.low, price.mark, (unsigned long long)price.runs, (long long)factor.units,
                                           factor.mark, (unsigned long long)factor.runs);

@@ -1,13 +1,14 @@
-use Rattle.std.proofs.Common.{ℕ, [], Result, Ok, Err}
-use Rattle.tool_run.specs.Calls.{Calls}
-use Rattle.tool_run.specs.Stage.{Log}
+use Rattle.std.proofs.Common.{[]}
+use Rattle.std.proofs.lemmas.Result.{err_from_is_err_and}
 use Rattle.tool_run.proofs.Calling.{begins_none, makes_none}
 use Rattle.bond_tool.proofs.running.BondsNamedTool.text.Goals as goal
 
 -- no bench is called
-calls_none : {A E : Type 0} → (result : Result A E) (count : ℕ) (log : Log) → Calls [] result count count log log
-calls_none (Ok lines) count log = makes_none count log
-calls_none (Err fault) count log = begins_none [] count log
+pub returns-in_err-text-clause-calls : goal.returns-in_err-text-clause-calls
+returns-in_err-text-clause-calls g c =
+    let from = c.from_residual in
+    let p = err_from_is_err_and from.result from.ensures.1 in
+    rw p.1 (begins_none [] (g.B.Bench.count c.args._bench.now) (g.B.Bench.log c.args._bench.now))
 
 pub returns-clause-calls : goal.returns-clause-calls
-returns-clause-calls g c = calls_none c.lines_in.result (g.B.Bench.count c.args._bench.now) (g.B.Bench.log c.args._bench.now)
+returns-clause-calls g c = makes_none (g.B.Bench.count c.args._bench.now) (g.B.Bench.log c.args._bench.now)

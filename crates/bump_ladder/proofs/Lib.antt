@@ -1,6 +1,8 @@
 pub mod Answered
-pub mod Siding
+pub mod Calling
 pub mod Climbing
-pub mod Laddering
-pub mod Quoting
 pub mod Giving
+pub mod Laddering
+pub mod Logging
+pub mod Quoting
+pub mod Siding

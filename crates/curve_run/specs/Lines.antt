@@ -1,13 +1,13 @@
 -- What is shown of curves, and what is computed for it.
 use Rattle.std.specs.Prelude.{ℕ, ℤ, Bool, if◌then◌else◌, List, [], ◌∷◌, Result, Ok, Err}
 use Rattle.curve_points.specs.Curve.{Curve}
-use Rattle.curve_lines.specs.declared.lines.Plot.{Plot}
-use Rattle.curve_lines.specs.Lines.{Line}
+use Rattle.curve_drawing.specs.declared.lines.Plot.{Plot}
+use Rattle.curve_drawing.specs.Lines.{Line}
 use Rattle.desk_terms.specs.Reading.{Outcome, Calc}
 use Rattle.desk_model.specs.Market.{Market}
 use Rattle.market_desk.specs.Standing.{Standing}
-use Rattle.curve_picture.specs.Svg.{picture_text}
-use Rattle.curve_picture.specs.Table.{table_text}
+use Rattle.curve_drawing.specs.Svg.{picture_text}
+use Rattle.curve_drawing.specs.Table.{table_text}
 use Rattle.curve_run.specs.Named.{named_of}
 use Rattle.curve_run.specs.Plotting.{plotted_lines, unplotted}
 use Rattle.curve_run.specs.Pricing.{curves_of, refused_lines, curves_asking}

@@ -2,8 +2,8 @@
 use Rattle.std.specs.Prelude.{ℕ, List, [], ◌∷◌, ◌++◌, Result, Ok, Err}
 use Rattle.curve_points.specs.Curve.{Curve}
 use Rattle.desk_terms.specs.declared.cause.Cause.{Cause}
-use Rattle.curve_lines.specs.declared.lines.Plot.{Plot}
-use Rattle.curve_lines.specs.Lines.{Line, line_of}
+use Rattle.curve_drawing.specs.declared.lines.Plot.{Plot}
+use Rattle.curve_drawing.specs.Lines.{Line, line_of}
 use Rattle.desk_model.specs.Market.{Market}
 use Rattle.curve_run.specs.Pricing.{refused_in}
 use Rattle.curve_run.specs.Quoted.{quotes_at}

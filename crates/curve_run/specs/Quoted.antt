@@ -10,7 +10,7 @@ use Rattle.desk_model.specs.declared.entry.Entry.{Entry}
 use Rattle.desk_model.specs.declared.entry.Entry.TheVariants.{Gives, Needs, Refuses}
 use Rattle.desk_model.specs.Market.{Market, terms_at}
 use Rattle.desk_model.specs.Uses.{input_at}
-use Rattle.curve_lines.specs.Pars.{Quotes}
+use Rattle.curve_drawing.specs.Pars.{Quotes}
 
 abbrev pub helper_quotes : List Helper → List ℕ
 helper_quotes [] = []

@@ -1,7 +1,7 @@
 -- Small markets, statuses and words that are worked through by hand.
 use Rattle.std.specs.Prelude.{◌≡◌, ℕ, List, [], ◌∷◌, codes, true, false, pos, None, Some, Ok, Err}
-use Rattle.curve_lines.specs.declared.lines.Plot.{Plot}
-use Rattle.curve_lines.specs.declared.lines.Plot.TheVariants.{Factors, Zeros, Forwards, Pars}
+use Rattle.curve_drawing.specs.declared.lines.Plot.{Plot}
+use Rattle.curve_drawing.specs.declared.lines.Plot.TheVariants.{Factors, Zeros, Forwards, Pars}
 use Rattle.desk_terms.specs.declared.cause.Cause.TheVariants.{TooLarge}
 use Rattle.desk_terms.specs.declared.terms.Terms.{Terms}
 use Rattle.desk_terms.specs.declared.terms.Terms.TheVariants.{Quote, Derived, Handle, Curve, Implied, Index, Engine, Stock, Composite, Flows}
@@ -11,7 +11,7 @@ use Rattle.desk_model.specs.Examples.{curve_of}
 use Rattle.desk_model.specs.Visit.{log_of}
 use Rattle.market_file.specs.Market.{Market}
 use Rattle.market_desk.specs.Standing.{standing_of}
-use Rattle.tool_run.specs.declared.status.MarketStatus.TheVariants as ended
+use Rattle.tool_frame.specs.declared.status.MarketStatus.TheVariants as ended
 use Rattle.curve_run.specs.declared.status.CurveStatus.{CurveStatus}
 use Rattle.curve_run.specs.declared.status.CurveStatus.TheVariants.{Of, Refused}
 use Rattle.curve_run.specs.Lines.{Shown, curve_text, curve_calls}

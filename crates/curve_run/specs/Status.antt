@@ -2,9 +2,9 @@
 use Rattle.std.specs.Prelude.{◌≡◌, ◌⊎◌, ◌<◌, ℕ, List, length, take, codes, Option, Some, Result, Ok, Err}
 use Rattle.desk_edge.specs.Count.{Rose}
 use Rattle.desk_edge.specs.Sink.{appended}
-use Rattle.tool_run.specs.declared.status.MarketStatus.TheVariants as ended
-use Rattle.tool_run.specs.Stage.{Stage, Done}
-use Rattle.tool_run.specs.Status as market
+use Rattle.tool_frame.specs.declared.status.MarketStatus.TheVariants as ended
+use Rattle.tool_frame.specs.Stage.{Stage, Done}
+use Rattle.tool_frame.specs.Status as market
 use Rattle.curve_run.specs.declared.status.CurveStatus.{CurveStatus}
 use Rattle.curve_run.specs.declared.status.CurveStatus.TheVariants.{Of, Refused}
 

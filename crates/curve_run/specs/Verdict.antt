@@ -3,11 +3,11 @@ use Rattle.std.specs.Prelude.{ℕ, List, [], Result, Ok, Err}
 use Rattle.desk_terms.specs.Reading.{Outcome, Calc}
 use Rattle.market_desk.specs.Standing.{standing_of}
 use Rattle.market_loader.specs.Files.{Files}
-use Rattle.tool_run.specs.declared.status.MarketStatus.{MarketStatus}
-use Rattle.tool_run.specs.declared.status.MarketStatus.TheVariants.{Usage}
-use Rattle.tool_run.specs.Market.{wanted_from, calls_from}
-use Rattle.tool_run.specs.Market as tool
-use Rattle.tool_run.specs.Run.{asked, calls_for}
+use Rattle.tool_frame.specs.declared.status.MarketStatus.{MarketStatus}
+use Rattle.tool_frame.specs.declared.status.MarketStatus.TheVariants.{Usage}
+use Rattle.tool_frame.specs.Market.{wanted_from, calls_from}
+use Rattle.tool_frame.specs.Market as tool
+use Rattle.tool_frame.specs.Run.{asked, calls_for}
 use Rattle.curve_run.specs.declared.status.CurveStatus.{CurveStatus}
 use Rattle.curve_run.specs.declared.status.CurveStatus.TheVariants.{Of}
 use Rattle.curve_run.specs.Lines.{Sheet, Shown, curve_text, curve_calls, AreNamed}

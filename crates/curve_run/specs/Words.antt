@@ -3,9 +3,9 @@ use Rattle.std.specs.Prelude.{ℕ, Bool, true, false, ◌&&◌, nat_le, if◌the
 use Rattle.std.specs.List.{list_all}
 use Rattle.std.specs.Str.{bytes_eq}
 use Rattle.std.specs.String.{string_bytes}
-use Rattle.curve_lines.specs.declared.lines.Plot.{Plot}
-use Rattle.curve_lines.specs.declared.lines.Plot.TheVariants.{Factors, Zeros, Forwards, Pars}
-use Rattle.tool_run.specs.Words.{is_word}
+use Rattle.curve_drawing.specs.declared.lines.Plot.{Plot}
+use Rattle.curve_drawing.specs.declared.lines.Plot.TheVariants.{Factors, Zeros, Forwards, Pars}
+use Rattle.tool_frame.specs.Words.{is_word}
 use Rattle.curve_run.specs.declared.words.Request as given
 use Rattle.curve_run.specs.declared.words.TheConstants.{MOST_CURVES}
 

@@ -5,7 +5,7 @@ ghost use Rattle.curve_run.specs.Pricing.{refused_in};
 
 use crate::pricing::refused_line;
 use crate::quoted::line_at;
-use curve_lines::{Plot, PlotLine};
+use curve_drawing::{Plot, PlotLine};
 use curve_points::CurveValue;
 use desk_names::ObjId;
 use desk_terms::Cause;

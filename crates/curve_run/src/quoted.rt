@@ -5,9 +5,9 @@ ghost use Rattle.desk_model.specs.Market.{terms_at};
 ghost use Rattle.desk_model.specs.Uses.{input_at};
 ghost use Rattle.curve_run.specs.Plotting.{line_at};
 ghost use Rattle.curve_run.specs.Quoted.{built_in, helper_quotes, quotes_by, quotes_named, rate_in, rates_by, unquoted};
-ghost use Rattle.curve_lines.specs.Lines.{line_of};
+ghost use Rattle.curve_drawing.specs.Lines.{line_of};
 
-use curve_lines::{Plot, PlotLine, Quoted, line_of};
+use curve_drawing::{Plot, PlotLine, Quoted, line_of};
 use curve_points::CurveValue;
 use curve_terms::{CurveTerms, Helper};
 use desk_model::Entry;

@@ -5,11 +5,11 @@ ghost use Rattle.desk_edge.specs.Count.{Rose};
 ghost use Rattle.desk_edge.specs.Shelf.{files_of};
 ghost use Rattle.market_file.specs.Standing.{IsReady};
 ghost use Rattle.bump_model.specs.Asking.{Calls, Made, MadeFront};
-ghost use Rattle.tool_run.specs.Market.{wanted_in};
-ghost use Rattle.tool_run.specs.Run.{given_for, IsAccepted, IsAcceptedAs, IsThere, Tells, faults_after};
-ghost use Rattle.tool_run.specs.Stage.{Failed, Missing, Cut, IsOutside, IsEarly, IsBefore, IsQuiet, Writes, Computes, faults_then, puts_then};
-ghost use Rattle.tool_run.specs.Status as market;
-ghost use Rattle.tool_run.specs.Tool.{IsReached};
+ghost use Rattle.tool_frame.specs.Market.{wanted_in};
+ghost use Rattle.tool_frame.specs.Run.{given_for, IsAccepted, IsAcceptedAs, IsThere, Tells, faults_after};
+ghost use Rattle.tool_frame.specs.Stage.{Failed, Missing, Cut, IsOutside, IsEarly, IsBefore, IsQuiet, Writes, Computes, faults_then, puts_then};
+ghost use Rattle.tool_frame.specs.Status as market;
+ghost use Rattle.tool_frame.specs.Tool.{IsReached};
 ghost use Rattle.curve_run.specs.Named.{ItemsAre};
 ghost use Rattle.curve_run.specs.Status.{stage_of, IsOf, Notes};
 ghost use Rattle.curve_run.specs.Verdict.{Wanted as Asked, verdict_of, ending_of, shown_in, output_in, notes_in, computed_in, reading_calls, HasCurves};
@@ -23,7 +23,7 @@ use desk_terms::Bench;
 use market_desk::{NamedDesk, named_desk};
 use price_report::Namer;
 use std::alloc::{AllocError, Global};
-use tool_run::{Found, MarketStatus, OpenMarket, find};
+use tool_frame::{Found, MarketStatus, OpenMarket, find};
 
 /// Does what the words ask for over the files of the shelf, writes the picture or the table to `out`, or the lines of what stands against it
 /// to `notes`, and answers how that went. The words are those behind the program's name: `--csv` or nothing, `--zero`, `--forward`, `--par`

@@ -1,7 +1,6 @@
 // How a run of the program ended.
 use std::fmt;
-use tool_process::Ending;
-use tool_run::MarketStatus;
+use tool_frame::{Ending, MarketStatus};
 
 /// How a run of the program ended.
 #[derive(Clone, Copy, PartialEq, Eq)]

@@ -3,11 +3,11 @@ ghost use Rattle.std.specs.Prelude.{◌≡◌, map, option_map, codes};
 ghost use Rattle.std.specs.String.{string_bytes};
 ghost use Rattle.std.specs.Str.{bytes_eq};
 ghost use Rattle.std.specs.List.{list_all};
-ghost use Rattle.tool_run.specs.Words.{is_word};
+ghost use Rattle.tool_frame.specs.Words.{is_word};
 ghost use Rattle.curve_run.specs.Words.{is_flag, plot_flag, request_in, request_drawn, request_with};
 
-use curve_lines::Plot;
-use tool_run::{MarketRequest, is_word};
+use curve_drawing::Plot;
+use tool_frame::{MarketRequest, is_word};
 
 /// How many curves are drawn at most: as many as there are colours.
 pub(crate) const MOST_CURVES: usize = 8;

@@ -8,7 +8,7 @@ use desk_bench::DeskBench;
 use desk_edge::{Feed, Shelf, Sink};
 use desk_top::{Status, run};
 use std::alloc::Global;
-use tool_process::{Ended, Program, run_process};
+use tool_frame::{Ended, Program, run_process};
 
 // The run of the program.
 struct Desk;

@@ -1,14 +1,14 @@
 //! The program `desk_bump`: it prices an instrument of a market file, moves each quote of the market by 0.0001 up and down,
 //! and then all together, and writes what the instrument gains.
 //!
-//! `desk_bump MARKET NAME`. What it does is `bump_run::run_bump`.
+//! `desk_bump MARKET NAME`. What it does is `bump_ladder::run_bump`.
 #![tactic(auto)]
 
-use bump_run::{BumpStatus, NAME, run_bump};
+use bump_ladder::{BumpStatus, NAME, run_bump};
 use desk_bench::DeskBench;
 use desk_edge::{Feed, Shelf, Sink};
 use std::alloc::Global;
-use tool_process::{Ended, Program, run_process};
+use tool_frame::{Ended, Program, run_process};
 
 // The run of the program.
 struct DeskBump;

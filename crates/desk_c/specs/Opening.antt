@@ -8,9 +8,9 @@ use Rattle.session_model.specs.Rounds.{transcript}
 use Rattle.live_model.specs.Live.{Live}
 use Rattle.live_model.specs.Log.{done}
 use Rattle.pricing_session.specs.Speaking.{as_live, live_opened}
-use Rattle.desk_plan.specs.declared.status.Status.{Status}
-use Rattle.desk_plan.specs.declared.status.Status.TheVariants as status
-use Rattle.desk_plan.specs.Status.{code_of, words_of}
+use Rattle.tool_script.specs.declared.status.Status.{Status}
+use Rattle.tool_script.specs.declared.status.Status.TheVariants as status
+use Rattle.tool_script.specs.Status.{code_of, words_of}
 use Rattle.desk_c.specs.declared.kept.Kept.{Kept}
 use Rattle.desk_c.specs.Calls.{ordered}
 use Rattle.desk_c.specs.Tables.{fault_numbers}

@@ -1,8 +1,8 @@
 -- The files that a market names, and the numbers of a fault.
 use Rattle.std.specs.Prelude.{◌≡◌, ◌+◌, ℕ, if◌then◌else◌, List, [], length, Option, Some, None, is_some, Ok, Err}
-use Rattle.desk_plan.specs.Status.{words_of}
-use Rattle.desk_plan.specs.declared.status.Status.{Status}
-use Rattle.desk_plan.specs.declared.status.Status.TheVariants as status
+use Rattle.tool_script.specs.Status.{words_of}
+use Rattle.tool_script.specs.declared.status.Status.{Status}
+use Rattle.tool_script.specs.declared.status.Status.TheVariants as status
 use Rattle.market_file.specs.Fault.{Fault}
 use Rattle.market_file.specs.Paths.{market_paths}
 use Rattle.market_file.specs.declared.paths.Paths.{Paths}

@@ -6,8 +6,8 @@
 ghost use Rattle.std.specs.Prelude.{◌≡◌, ◌≢◌, ◌⊎◌, ◌↔◌, ◌^◌, ◌-◌, ◌<◌, ◌≤◌, [], None, true, false, drop, length, unsigned_abs, IsErr};
 ghost use Rattle.desk_model.specs.Market.{kind_at};
 ghost use Rattle.desk_names.specs.Names.{has_text};
-ghost use Rattle.desk_plan.specs.Status.{words_of};
-ghost use Rattle.desk_plan.specs.declared.status.Status.TheVariants as status;
+ghost use Rattle.tool_script.specs.Status.{words_of};
+ghost use Rattle.tool_script.specs.declared.status.Status.TheVariants as status;
 ghost use Rattle.session_model.specs.declared.place.Place.TheVariants.{Priced};
 ghost use Rattle.session_model.specs.Resolve.{find};
 ghost use Rattle.desk_c.specs.Calls.{standing_of, number_of, text_of, Both, Holds, Says, IsCutOff, Sets, IsNotSet, Asks, IsPriced, IsUnpriced, IsCurve, IsNotAsked, IsAskCut, IsHalted};

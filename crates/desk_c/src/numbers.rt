@@ -4,8 +4,8 @@ ghost use Rattle.session_model.specs.Place.{kind_number};
 ghost use Rattle.desk_c.specs.Numbers.{mark_number, section_number, market_number, script_number, day_code, day_of, IsDay};
 
 use day_number::Day;
-use desk_plan::{MarketKind, ScriptKind, Section};
 use desk_terms::{Kind, Mark};
+use tool_script::{MarketKind, ScriptKind, Section};
 
 // The number of a mark.
 pub(crate) fn mark_number(mark: Mark) -> u32

@@ -1,7 +1,7 @@
 // A session is opened from texts.
 ghost use Rattle.std.specs.Prelude.{◌≡◌, false, All, IfOk, IfErr};
-ghost use Rattle.desk_plan.specs.Refusals.{script_status};
-ghost use Rattle.desk_plan.specs.declared.status.Status.TheVariants.{NoMemory};
+ghost use Rattle.tool_script.specs.Refusals.{script_status};
+ghost use Rattle.tool_script.specs.declared.status.Status.TheVariants.{NoMemory};
 ghost use Rattle.live_model.specs.Log.{done};
 ghost use Rattle.pricing_session.specs.Speaking.{as_live};
 ghost use Rattle.session_model.specs.Rounds.{transcript};
@@ -15,12 +15,12 @@ use crate::playing::play_all;
 use crate::tables::market_status;
 use desk_bench::DeskBench;
 use desk_names::Names;
-use desk_plan::Status;
 use market_file::{Market, read_market};
 use pricing_session::{LiveSession, NamedMarket};
 use session_commands::Command;
 use session_lang::ScriptFault;
 use std::alloc::Global;
+use tool_script::Status;
 use watch_rounds::Order;
 
 // The order that a number and a seed name.

@@ -1,8 +1,8 @@
 // The files that a market names, and how a fault is told.
 ghost use Rattle.std.specs.Prelude.{◌≡◌, ◌⊎◌, length};
-ghost use Rattle.desk_plan.specs.Refusals.{market_status};
-ghost use Rattle.desk_plan.specs.Status.{code_of, words_of};
-ghost use Rattle.desk_plan.specs.declared.status.Status.TheVariants as status;
+ghost use Rattle.tool_script.specs.Refusals.{market_status};
+ghost use Rattle.tool_script.specs.Status.{code_of, words_of};
+ghost use Rattle.tool_script.specs.declared.status.Status.TheVariants as status;
 ghost use Rattle.market_file.specs.declared.paths.Paths.{Paths};
 ghost use Rattle.desk_c.specs.Tables.{NamesTables, NamesNone, fault_numbers, numbers_after, named_number, path_text};
 ghost use Rattle.desk_c.specs.Texts.{laid};
@@ -12,9 +12,9 @@ use crate::numbers::{market_number, script_number, section_number};
 use crate::status::{DONE, NO_MEMORY};
 use crate::texts::lay;
 use desk_names::PathText;
-use desk_plan::{Status, StatusWords};
 use market_file::{MarketFault, Paths, market_paths};
 use std::alloc::Global;
+use tool_script::{Status, StatusWords};
 
 // The files that a market names, their paths laid into two rooms, or its first fault.
 pub(crate) fn tables(

@@ -1,15 +1,15 @@
 //! The program `desk_grid`: it prices what a script asks for under several sets of moves of a market, each beside the others,
 //! and names for each ask the scenario in which it shows the least money.
 //!
-//! `desk_grid MARKET SCRIPT`. What it does is `grid_run::run_grid`.
+//! `desk_grid MARKET SCRIPT`. What it does is `scenario_grid::run_grid`.
 #![tactic(auto)]
 
 use desk_bench::DeskBench;
 use desk_edge::{Feed, Shelf, Sink};
-use grid_run::{NAME, run_grid};
-use script_steps::BlocksStatus;
+use scenario_grid::{NAME, run_grid};
 use std::alloc::Global;
-use tool_process::{Ended, Program, run_process};
+use tool_frame::{Ended, Program, run_process};
+use tool_script::BlocksStatus;
 
 // The run of the program.
 struct DeskGrid;

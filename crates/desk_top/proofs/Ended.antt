@@ -4,12 +4,12 @@ use Rattle.std.specs.Prelude.{IfSome}
 use Rattle.desk_terms.specs.Reading.{Calc}
 use Rattle.market_loader.specs.Files.{Files}
 use Rattle.market_loader.proofs.Steps.{told_map}
-use Rattle.desk_plan.specs.declared.status.Status.{Status}
-use Rattle.desk_plan.specs.declared.status.Status.TheVariants as status
-use Rattle.desk_plan.specs.Verdict.{Plan, verdict_of}
-use Rattle.session_play.specs.Early.{Outside}
-use Rattle.session_play.specs.Output.{output_in, output_of, IsToldIn, IsToldOf}
-use Rattle.session_play.specs.Written.{Writes}
+use Rattle.tool_script.specs.declared.status.Status.{Status}
+use Rattle.tool_script.specs.declared.status.Status.TheVariants as status
+use Rattle.tool_script.specs.Verdict.{Plan, verdict_of}
+use Rattle.desk_top.specs.Early.{Outside}
+use Rattle.desk_top.specs.Output.{output_in, output_of, IsToldIn, IsToldOf}
+use Rattle.desk_top.specs.Written.{Writes}
 
 -- what was written of a plan was written of the verdict
 pub told_written : (told : Option Files) (words : List (List ℕ)) (calc : Calc) (plan : Plan) (old new : Option (List ℕ)) (s : Status)

@@ -10,15 +10,15 @@ use Rattle.session_model.proofs.Shown.{every_session}
 use Rattle.watch_rounds.specs.Order.{order_below}
 use Rattle.watch_rounds.specs.declared.picker.Order.{Order}
 use Rattle.watch_rounds.specs.declared.picker.Order.TheVariants.{First}
-use Rattle.desk_plan.specs.declared.plan.Plan as planned
-use Rattle.desk_plan.specs.declared.status.Status.{Status}
-use Rattle.desk_plan.specs.declared.status.Status.TheVariants as status
-use Rattle.desk_plan.specs.Found.{CanDo, plan_in, run_in}
-use Rattle.desk_plan.specs.Status.{stage_of}
-use Rattle.desk_plan.specs.Verdict.{ScriptRun, verdict_of}
-use Rattle.session_play.specs.Output.{ordered, output_in}
-use Rattle.session_play.specs.Written.{IsLate}
-use Rattle.tool_run.specs.Stage.{IsBefore}
+use Rattle.tool_script.specs.declared.plan.Plan as planned
+use Rattle.tool_script.specs.declared.status.Status.{Status}
+use Rattle.tool_script.specs.declared.status.Status.TheVariants as status
+use Rattle.tool_script.specs.Found.{CanDo, plan_in, run_in}
+use Rattle.tool_script.specs.Status.{stage_of}
+use Rattle.tool_script.specs.Verdict.{ScriptRun, verdict_of}
+use Rattle.desk_top.specs.Output.{ordered, output_in}
+use Rattle.desk_top.specs.Written.{IsLate}
+use Rattle.tool_frame.specs.Stage.{IsBefore}
 use Rattle.desk_top.specs.Headline.{Headline, IsHeadline}
 
 shows : (calc : Calc) (order : Order) (run : ScriptRun) (bytes : List ℕ) (old new : Option (List ℕ)) → IsScript run.names run.script

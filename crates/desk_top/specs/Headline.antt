@@ -7,10 +7,10 @@ use Rattle.session_model.specs.Ends.{names_of_watchers}
 use Rattle.session_model.specs.Shows.{Shows}
 use Rattle.watch_rounds.specs.declared.picker.Order.{Order}
 use Rattle.watch_rounds.specs.declared.picker.Order.TheVariants.{First}
-use Rattle.session_play.specs.Summary.{tally_of, summary}
-use Rattle.desk_plan.specs.declared.status.Status.{Status}
-use Rattle.desk_plan.specs.Verdict.{ScriptRun, Plan, Run, Load, Check}
-use Rattle.session_play.specs.Output.{first_standing, ordered, written_by}
+use Rattle.desk_top.specs.Summary.{tally_of, summary}
+use Rattle.tool_script.specs.declared.status.Status.{Status}
+use Rattle.tool_script.specs.Verdict.{ScriptRun, Plan, Run, Load, Check}
+use Rattle.desk_top.specs.Output.{first_standing, ordered, written_by}
 
 -- THE HEADLINE, of a script over a market, whose due watchers run in an order: these bytes are written, and the session shows
 -- what `Shows` says

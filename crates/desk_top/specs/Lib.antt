@@ -1,2 +1,9 @@
+pub mod Early
 pub mod Headline
+pub mod Output
+pub mod Report
+pub mod Round
+pub mod Rows
 pub mod Run
+pub mod Summary
+pub mod Written

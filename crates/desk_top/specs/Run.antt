@@ -1,8 +1,8 @@
 -- What a run leaves outside, by its status.
 use Rattle.std.specs.Prelude.{ℕ}
-use Rattle.tool_run.specs.Stage as stage
-use Rattle.desk_plan.specs.declared.status.Status.{Status}
-use Rattle.desk_plan.specs.Status.{stage_of}
+use Rattle.tool_frame.specs.Stage as stage
+use Rattle.tool_script.specs.declared.status.Status.{Status}
+use Rattle.tool_script.specs.Status.{stage_of}
 
 -- a status that the words and files do not decide: a fault outside, or want of memory
 abbrev pub IsOutside : Status → Type 0

@@ -5,22 +5,22 @@ ghost use Rattle.desk_edge.specs.Count.{Rose, raised};
 ghost use Rattle.desk_edge.specs.Shelf.{files_of};
 ghost use Rattle.desk_terms.specs.Bench.{counted, logged};
 ghost use Rattle.desk_words.specs.Words.{request_of};
-ghost use Rattle.desk_plan.specs.declared.status.FileRole.{FileRole};
-ghost use Rattle.desk_plan.specs.declared.status.Status.{Status};
-ghost use Rattle.desk_plan.specs.Found.{faults_then};
-ghost use Rattle.desk_plan.specs.Verdict.{Plan as Wanted, IsAccepted, IsCheck, reading_calls, status_of, verdict_of};
-ghost use Rattle.session_play.specs.Early.{outside, IsCut, IsHalted};
-ghost use Rattle.session_play.specs.Output.{computed_by, output_of, rounds_of, IsToldOf};
-ghost use Rattle.session_play.specs.Written.{Writes};
+ghost use Rattle.tool_script.specs.declared.status.FileRole.{FileRole};
+ghost use Rattle.tool_script.specs.declared.status.Status.{Status};
+ghost use Rattle.tool_script.specs.Found.{faults_then};
+ghost use Rattle.tool_script.specs.Verdict.{Plan as Wanted, IsAccepted, IsCheck, reading_calls, status_of, verdict_of};
+ghost use Rattle.desk_top.specs.Early.{outside, IsCut, IsHalted};
+ghost use Rattle.desk_top.specs.Output.{computed_by, output_of, rounds_of, IsToldOf};
+ghost use Rattle.desk_top.specs.Written.{Writes};
 ghost use Rattle.desk_top.specs.Headline.{IsHeadline};
 ghost use Rattle.desk_top.specs.Run.{IsOutside, IsEarly, IsQuiet};
 
 use crate::Status;
+use crate::carrying::carry_out;
 use desk_edge::{Shelf, Sink};
-use desk_plan::plan_of;
 use desk_terms::Bench;
-use session_play::carry_out;
 use std::alloc::Global;
+use tool_script::plan_of;
 
 /// Does what the words ask for over the files of the shelf, writes the transcript to `out`, and answers how that went.
 /// The words are those behind the program's name. The prices are those of the bench.

@@ -1,13 +1,13 @@
 //! The program `desk_yield`: of a bond of a market file, the interest that has accrued on a settlement day, the full price
 //! at a clean price, and the yield at it.
 //!
-//! `desk_yield MARKET NAME DAY PRICE`. What it does is `yield_run::run_yield`.
+//! `desk_yield MARKET NAME DAY PRICE`. What it does is `tool_bond::run_yield`.
 #![tactic(auto)]
 
 use desk_edge::{Feed, Shelf, Sink};
 use std::alloc::Global;
-use tool_process::{Ended, Program, run_process};
-use yield_run::{NAME, YieldStatus, run_yield};
+use tool_bond::{NAME, YieldStatus, run_yield};
+use tool_frame::{Ended, Program, run_process};
 
 // The run of the program.
 struct DeskYield;

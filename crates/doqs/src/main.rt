@@ -5,8 +5,8 @@
 use desk_bench::DeskBench;
 use desk_edge::{Feed, Shelf, Sink};
 use std::alloc::Global;
+use tool_frame::{Ended, Program, run_process};
 use tool_front::{FrontStatus, NAME, run_doqs};
-use tool_process::{Ended, Program, run_process};
 
 // The run of the program.
 struct Doqs;

@@ -5,14 +5,14 @@ use Rattle.std.proofs.lemmas.List.{append_assoc}
 use Rattle.desk_terms.specs.Reading.{Calc}
 use Rattle.session_commands.specs.declared.command.Command.{Command}
 use Rattle.session_commands.specs.declared.script.Script.{Script}
-use Rattle.grid_model.specs.Scenario.{Basis, Scenario, scenario_calls}
-use Rattle.grid_model.specs.Grid.{Row, scenarios_of, scenario_text, scenario_texts, scenarios_calls, rows_of, worst_lines, grid}
-use Rattle.grid_report.specs.Shown.{rows_in}
-use Rattle.grid_report.specs.declared.shown.Shown.{Shown}
-use Rattle.script_steps.specs.Block.{block_of}
-use Rattle.tool_run.specs.Calls.{Makes, Begins}
-use Rattle.script_steps.proofs.Blocks.{blocks_from, blocks_next, blocks_end}
-use Rattle.script_steps.proofs.Past.{Past, past_none, past_more, past_begins}
+use Rattle.tool_script.specs.Scenario.{Basis, Scenario, scenario_calls}
+use Rattle.tool_script.specs.Grid.{Row, scenarios_of, scenario_text, scenario_texts, scenarios_calls, rows_of, worst_lines, grid}
+use Rattle.tool_script.specs.Shown.{rows_in}
+use Rattle.tool_script.specs.declared.shown.Shown.{Shown}
+use Rattle.tool_script.specs.Block.{block_of}
+use Rattle.tool_frame.specs.Calls.{Makes, Begins}
+use Rattle.tool_script.proofs.BlocksFrom.{blocks_from, blocks_next, blocks_end}
+use Rattle.tool_script.proofs.Past.{Past, past_none, past_more, past_begins}
 use Rattle.scenario_grid.specs.Scenario.{row_of}
 
 abbrev Log : Type 0

@@ -8,8 +8,8 @@ use Rattle.watch_rounds.specs.declared.picker.Order.{Order}
 use Rattle.session_model.specs.Course.{Running}
 use Rattle.session_rounds.specs.Goes.{Output, Halts}
 use Rattle.session_rounds.proofs.Going.{halts_at_once}
-use Rattle.script_steps.specs.Course.{course_of, output}
-use Rattle.script_steps.specs.Going.{Extends}
+use Rattle.tool_script.specs.Course.{course_of, output}
+use Rattle.tool_script.specs.Going.{Extends}
 
 -- the first of what was appended to
 front_cut : {A : Type 0} (old more new : List A) → new ≡ old ++ more → take (length old) new ≡ old

@@ -1,1 +1,2 @@
 pub mod Scenario
+pub mod Verdict

@@ -2,9 +2,9 @@
 use Rattle.std.specs.Prelude.{List, None}
 use Rattle.desk_terms.specs.Reading.{Calc}
 use Rattle.session_commands.specs.declared.command.Command.{Command}
-use Rattle.grid_model.specs.Scenario.{Basis, Scenario, scenario_values}
-use Rattle.grid_model.specs.Grid.{Row}
-use Rattle.script_steps.specs.Block.{block_of}
+use Rattle.tool_script.specs.Scenario.{Basis, Scenario, scenario_values}
+use Rattle.tool_script.specs.Grid.{Row}
+use Rattle.tool_script.specs.Block.{block_of}
 
 -- its lines, its values and its computations are those of any name
 abbrev pub scenario_of : List Command → Scenario

@@ -2,25 +2,24 @@
 ghost use Rattle.std.specs.Prelude.{◌≡◌, ◌++◌, ◌∷◌, [], true, length, All, IfOk, OnOk};
 ghost use Rattle.market_file.specs.Standing.{IsReady};
 ghost use Rattle.session_commands.specs.Whole.{IsCommand, IsScript};
-ghost use Rattle.grid_shape.specs.Kinds.{is_move, is_ask};
-ghost use Rattle.grid_shape.specs.Laws.{IsTaken};
-ghost use Rattle.grid_model.specs.Grid.{grid, grid_calls, scenarios_of, scenario_texts, rows_of, scenario_text};
-ghost use Rattle.grid_model.specs.Scenario.{scenario_lines, scenario_calls, scenario_values};
-ghost use Rattle.grid_report.specs.Shown.{rows_in};
-ghost use Rattle.script_steps.specs.Basis.{basis_in};
-ghost use Rattle.script_steps.specs.Block.{block_of};
-ghost use Rattle.tool_run.specs.Calls.{Calls};
+ghost use Rattle.tool_script.specs.Kinds.{is_move, is_ask};
+ghost use Rattle.tool_script.specs.ShapeLaws.{IsTaken};
+ghost use Rattle.tool_script.specs.Grid.{grid, grid_calls, scenarios_of, scenario_texts, rows_of, scenario_text};
+ghost use Rattle.tool_script.specs.Scenario.{scenario_lines, scenario_calls, scenario_values};
+ghost use Rattle.tool_script.specs.Shown.{rows_in};
+ghost use Rattle.tool_script.specs.Basis.{basis_in};
+ghost use Rattle.tool_script.specs.Block.{block_of};
+ghost use Rattle.tool_frame.specs.Calls.{Calls};
 ghost use Rattle.scenario_grid.specs.Scenario.{row_of, scenario_of};
 
 use crate::one_scenario;
 use desk_names::{NameId, Names};
 use desk_terms::Bench;
-use grid_report::{Shown, heading, worst_lines};
 use item_lists::Items;
 use market_file::Market;
-use script_steps::MoneyList;
 use session_commands::{CommandList, Script};
 use std::alloc::{AllocError, Global};
+use tool_script::{MoneyList, Shown, heading, worst_lines};
 
 /// The lines of a grid: those of the scenario without moves and of each block of the script, and then for each ask of the
 /// script the line of its worst. Each scenario has a session of its own, of a copy of the market's objects; one stands at a

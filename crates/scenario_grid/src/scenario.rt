@@ -5,20 +5,20 @@ ghost use Rattle.market_file.specs.Standing.{IsReady};
 ghost use Rattle.session_commands.specs.Whole.{IsCommand};
 ghost use Rattle.session_rounds.specs.Goes.{Halts, with_more};
 ghost use Rattle.watch_rounds.specs.declared.picker.Order.{Order as OfOrder};
-ghost use Rattle.grid_shape.specs.Kinds.{is_move, is_ask};
-ghost use Rattle.grid_model.specs.Scenario.{first_of, scenario_lines, scenario_calls, scenario_values};
-ghost use Rattle.script_steps.specs.Basis.{basis_in};
-ghost use Rattle.tool_run.specs.Calls.{Begins};
-ghost use Rattle.script_steps.specs.Course.{course_of, output};
-ghost use Rattle.script_steps.specs.Going.{Extends};
+ghost use Rattle.tool_script.specs.Kinds.{is_move, is_ask};
+ghost use Rattle.tool_script.specs.Scenario.{first_of, scenario_lines, scenario_calls, scenario_values};
+ghost use Rattle.tool_script.specs.Basis.{basis_in};
+ghost use Rattle.tool_frame.specs.Calls.{Begins};
+ghost use Rattle.tool_script.specs.Course.{course_of, output};
+ghost use Rattle.tool_script.specs.Going.{Extends};
 ghost use Rattle.scenario_grid.specs.Scenario.{scenario_of};
 
 use desk_names::Names;
 use desk_terms::Bench;
 use market_file::Market;
-use script_steps::{MoneyList, begun, move_and_ask};
 use session_commands::{Command, CommandList};
 use std::alloc::{AllocError, Global};
+use tool_script::{MoneyList, begun, move_and_ask};
 
 /// Does a scenario in a session of its own, of a copy of the market's objects under these names: the moves, and then the
 /// asks. The lines are appended to `lines`, and to `values` for each ask the money that it shows. The market, the names and

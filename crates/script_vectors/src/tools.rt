@@ -7,8 +7,8 @@ use desk_bench::DeskBench;
 use desk_edge::{CallList, MemoryFeed, MemoryShelf, MemorySink, SizeList};
 use std::alloc::{AllocError, Global};
 use std::io;
+use tool_frame::Ending;
 use tool_front::run_doqs;
-use tool_process::Ending;
 
 // The most bytes that a case may write.
 const ROOM: usize = 250_000;

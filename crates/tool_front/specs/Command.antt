@@ -1,30 +1,30 @@
 -- WHAT A COMMAND DOES: what its run does on the words after it, and its lines on standard error (this project's profile).
 use Rattle.std.specs.Prelude.{◌≡◌, ◌⊎◌, ℕ, Bool, List, Option}
-use Rattle.desk_plan.specs.declared.status.Status.{Status}
-use Rattle.desk_plan.specs.Status as script
+use Rattle.tool_script.specs.declared.status.Status.{Status}
+use Rattle.tool_script.specs.Status as script
 use Rattle.desk_terms.specs.Reading.{Calc}
-use Rattle.script_steps.specs.declared.status.BlocksStatus.{BlocksStatus}
-use Rattle.script_steps.specs.Status as blocks
+use Rattle.tool_script.specs.declared.blocks_status.BlocksStatus.{BlocksStatus}
+use Rattle.tool_script.specs.BlocksStatus as blocks
 use Rattle.curve_run.specs.declared.status.CurveStatus.{CurveStatus}
 use Rattle.curve_run.specs.Status as curve
-use Rattle.tool_run.specs.declared.status.MarketStatus.{MarketStatus}
-use Rattle.tool_run.specs.Idle.{no_bench}
-use Rattle.tool_run.specs.Status as market
-use Rattle.tool_run.specs.Tool.{Tool, ShelfTurn, SinkTurn, BenchTurn, IsRun}
-use Rattle.bond_tool.specs.Verdict as bond
-use Rattle.bump_run.specs.Verdict.{bump_tool}
-use Rattle.explain_run.specs.Tool.{explain_tool}
-use Rattle.graph_run.specs.Drawing.{graph_tool}
-use Rattle.grid_run.specs.Verdict.{grid_tool}
-use Rattle.measure_run.specs.Verdict.{measure_tool}
-use Rattle.named_run.specs.declared.status.NamedStatus.{NamedStatus}
-use Rattle.named_run.specs.Run.{IsNamedRun}
-use Rattle.named_run.specs.Status as named
-use Rattle.risk_run.specs.Named as risk
-use Rattle.risk_run.specs.Verdict.{risk_tool}
+use Rattle.tool_frame.specs.declared.status.MarketStatus.{MarketStatus}
+use Rattle.tool_frame.specs.Idle.{no_bench}
+use Rattle.tool_frame.specs.Status as market
+use Rattle.tool_frame.specs.Tool.{Tool, ShelfTurn, SinkTurn, BenchTurn, IsRun}
+use Rattle.tool_bond.specs.Verdict as bond
+use Rattle.bump_ladder.specs.Verdict.{bump_tool}
+use Rattle.tool_runs.specs.ExplainTool.{explain_tool}
+use Rattle.tool_runs.specs.Drawing.{graph_tool}
+use Rattle.scenario_grid.specs.Verdict.{grid_tool}
+use Rattle.tool_bond.specs.MeasureVerdict.{measure_tool}
+use Rattle.tool_frame.specs.declared.named_run_status.NamedStatus.{NamedStatus}
+use Rattle.tool_frame.specs.Named_runRun.{IsNamedRun}
+use Rattle.tool_frame.specs.Named_runStatus as named
+use Rattle.tool_risk.specs.Named as risk
+use Rattle.tool_risk.specs.Verdict.{risk_tool}
 use Rattle.why_run.specs.Answering.{why_tool}
 use Rattle.why_run.specs.Answering as why
-use Rattle.yield_run.specs.Verdict.{yield_tool}
+use Rattle.tool_bond.specs.YieldVerdict.{yield_tool}
 use Rattle.tool_front.specs.declared.command.Command.{Command}
 use Rattle.tool_front.specs.declared.command.Command.TheVariants as command
 use Rattle.tool_front.specs.declared.status.FrontStatus.{FrontStatus}

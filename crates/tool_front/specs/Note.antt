@@ -3,7 +3,7 @@ use Rattle.std.specs.Prelude.{◌≡◌, ◌⊎◌, ◌<◌, ◌-◌, ℕ, Bool,
 use Rattle.std.specs.Str.{bytes_eq}
 use Rattle.desk_edge.specs.Count.{Rose}
 use Rattle.desk_edge.specs.Sink.{appended}
-use Rattle.tool_run.specs.Words.{is_word}
+use Rattle.tool_frame.specs.Words.{is_word}
 use Rattle.tool_front.specs.declared.command.Command.{Command}
 use Rattle.tool_front.specs.declared.command.Command.TheVariants as command
 use Rattle.tool_front.specs.Help.{usage_line}

@@ -3,28 +3,28 @@ use Rattle.std.specs.Prelude.{◌≡◌, ◌⊎◌, ◌↔◌, ◌≤◌, ◌+�
 use Rattle.desk_edge.specs.Count.{raised}
 use Rattle.desk_terms.specs.Bench.{counted, logged}
 use Rattle.desk_words.specs.Words as desk
-use Rattle.desk_plan.specs.declared.status.Status.{Status}
-use Rattle.desk_plan.specs.declared.status.Status.TheVariants as ended
-use Rattle.desk_plan.specs.Found.{faults_then}
-use Rattle.desk_plan.specs.Verdict as plan
+use Rattle.tool_script.specs.declared.status.Status.{Status}
+use Rattle.tool_script.specs.declared.status.Status.TheVariants as ended
+use Rattle.tool_script.specs.Found.{faults_then}
+use Rattle.tool_script.specs.Verdict as plan
 use Rattle.desk_top.specs.Headline.{IsHeadline}
 use Rattle.desk_top.specs.Run.{IsOutside, IsEarly, IsQuiet}
-use Rattle.session_play.specs.Output.{computed_by, output_of}
-use Rattle.session_play.specs.Written as desk_written
-use Rattle.tool_run.specs.Run.{status_of, given_for}
-use Rattle.tool_run.specs.Tool.{ShelfTurn, SinkTurn, BenchTurn}
-use Rattle.tool_run.specs.Stage as stage
-use Rattle.tool_run.specs.declared.status.MarketStatus.TheVariants as refused
+use Rattle.desk_top.specs.Output.{computed_by, output_of}
+use Rattle.desk_top.specs.Written as desk_written
+use Rattle.tool_frame.specs.Run.{status_of, given_for}
+use Rattle.tool_frame.specs.Tool.{ShelfTurn, SinkTurn, BenchTurn}
+use Rattle.tool_frame.specs.Stage as stage
+use Rattle.tool_frame.specs.declared.status.MarketStatus.TheVariants as refused
 use Rattle.bump_model.specs.Asking.{Made, MadeFront}
 use Rattle.curve_run.specs.declared.status.CurveStatus.{CurveStatus}
 use Rattle.curve_run.specs.declared.status.CurveStatus.TheVariants as shown
 use Rattle.curve_run.specs.Status as curve
 use Rattle.curve_run.specs.Verdict as curves
 use Rattle.curve_run.specs.Words as curve_words
-use Rattle.live_run.specs.Ends as live_ends
-use Rattle.live_run.specs.Replies as live
-use Rattle.live_run.specs.Verdict as lines
-use Rattle.live_run.specs.Words as live_words
+use Rattle.tool_live.specs.Ends as live_ends
+use Rattle.tool_live.specs.Replies as live
+use Rattle.tool_live.specs.Verdict as lines
+use Rattle.tool_live.specs.Words as live_words
 
 -- A RUN, A CHECK OR A LOAD of these words: its headline, its status, its bytes and its computations, as `run` of desk_top has them
 pub record IsDesk {K B : Type 0} (words : List (List ℕ)) (result : Status) (shelf : ShelfTurn) (sink : SinkTurn K) (bench : BenchTurn B) : Type 0 where

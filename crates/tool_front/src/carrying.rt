@@ -1,28 +1,26 @@
 // From a command to its run.
 ghost use Rattle.std.specs.Prelude.{map};
 ghost use Rattle.std.specs.String.{string_bytes};
-ghost use Rattle.tool_run.specs.Tool.{shelf_turn, sink_turn, bench_turn};
-ghost use Rattle.desk_plan.specs.declared.status.Status.{Status};
-ghost use Rattle.desk_plan.specs.Status.{code_of, said_of};
+ghost use Rattle.tool_frame.specs.Tool.{shelf_turn, sink_turn, bench_turn};
+ghost use Rattle.tool_script.specs.declared.status.Status.{Status};
+ghost use Rattle.tool_script.specs.Status.{code_of, said_of};
 ghost use Rattle.tool_front.specs.Command.{Ends, IsCommand};
 ghost use Rattle.tool_front.specs.Session.{IsDesk};
 
 use crate::noting::ended;
 use crate::{Command, FrontStatus};
-use bump_run::run_bump;
+use bump_ladder::run_bump;
 use curve_run::run_curve;
 use desk_edge::{Feed, Shelf, Sink};
 use desk_terms::Bench;
 use desk_top::run;
-use explain_run::run_explain;
-use graph_run::run_graph;
-use grid_run::run_grid;
-use live_run::run_live;
-use measure_run::run_measure;
-use risk_run::run_risk;
+use scenario_grid::run_grid;
 use std::alloc::Global;
+use tool_bond::{run_measure, run_yield};
+use tool_live::run_live;
+use tool_risk::run_risk;
+use tool_runs::{run_explain, run_graph};
 use why_run::run_why;
-use yield_run::run_yield;
 
 // Does a command. `words` are those after it, and `whole` are these with it before them.
 pub(crate) fn carry_out<H: Shelf, F: Feed, K: Sink, N: Sink, B: Bench>(

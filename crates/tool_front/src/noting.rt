@@ -1,7 +1,7 @@
 // The lines on standard error of a command that is not done.
 ghost use Rattle.std.specs.Prelude.{◌≡◌, ◌++◌, map, Some, IfOk, OnOk};
 ghost use Rattle.std.specs.String.{string_bytes};
-ghost use Rattle.tool_run.specs.Tool.{sink_turn};
+ghost use Rattle.tool_frame.specs.Tool.{sink_turn};
 ghost use Rattle.tool_front.specs.Command.{Ends};
 ghost use Rattle.tool_front.specs.Note.{Notes, advice, fault_line, fault_tail, note_text, said_line};
 ghost use Rattle.tool_front.specs.Table.{row_in};
@@ -11,7 +11,7 @@ use crate::paths::{paths_of, push_paths};
 use crate::{Command, FrontStatus, Row};
 use desk_edge::{Sink, write_whole};
 use std::alloc::{AllocError, Global};
-use tool_process::Ending;
+use tool_frame::Ending;
 
 // Notes the lines of a run of a command on these words, and returns how the program ends.
 pub(crate) fn ended<S: Ending, N: Sink>(

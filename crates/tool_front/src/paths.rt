@@ -5,7 +5,7 @@ ghost use Rattle.tool_front.specs.Note.{path_words, paths_of};
 
 use crate::Command;
 use std::alloc::AllocError;
-use tool_run::is_word;
+use tool_frame::is_word;
 
 // The most paths that the reader of faults takes of a command's words: a market, and a script where the command reads one.
 pub(crate) fn paths_of(command: Command) -> u8

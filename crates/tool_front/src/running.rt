@@ -1,7 +1,7 @@
 // The call of the program.
 ghost use Rattle.std.specs.Prelude.{◌≡◌, ℕ, List, map, IfOk, IfSome};
 ghost use Rattle.std.specs.String.{string_bytes};
-ghost use Rattle.tool_run.specs.Tool.{shelf_turn, sink_turn, bench_turn};
+ghost use Rattle.tool_frame.specs.Tool.{shelf_turn, sink_turn, bench_turn};
 ghost use Rattle.tool_front.specs.Command.{Commands};
 ghost use Rattle.tool_front.specs.Front.{front_of};
 ghost use Rattle.tool_front.specs.Help.{help_text, list_text, unknown_text, version_text};

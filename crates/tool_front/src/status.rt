@@ -1,6 +1,6 @@
 // How a run of the program ends.
 use std::fmt;
-use tool_process::Ending;
+use tool_frame::Ending;
 
 /// How a run of the program ended.
 #[derive(Clone, Copy, PartialEq, Eq)]

@@ -6,7 +6,7 @@ use Rattle.desk_terms.specs.Reading.{Outcome}
 use Rattle.desk_model.specs.Visit.{log_of}
 use Rattle.bump_model.specs.Asking.{Made, MadeFront}
 use Rattle.session_core.proofs.Turns.{log_length}
-use Rattle.tool_run.specs.Calls.{Makes, Begins}
+use Rattle.tool_frame.specs.Calls.{Makes, Begins}
 
 abbrev Log : Type 0
 Log = Option (List (ℕ × Bool))

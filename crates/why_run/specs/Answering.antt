@@ -2,13 +2,13 @@
 use Rattle.std.specs.Prelude.{ℕ, Bool, true, false, List, ◌++◌, Result, Ok, Err}
 use Rattle.desk_terms.specs.Reading.{Calc}
 use Rattle.desk_model.specs.Visit.{log_of}
-use Rattle.desk_plan.specs.Asking.{Wanted, script_asks}
-use Rattle.desk_plan.specs.declared.status.Status.{Status}
-use Rattle.script_steps.specs.Played.{script_end, script_calls}
+use Rattle.tool_script.specs.Asking.{Wanted, script_asks}
+use Rattle.tool_script.specs.declared.status.Status.{Status}
+use Rattle.tool_script.specs.Played.{script_end, script_calls}
 use Rattle.session_commands.specs.declared.refusal.Refusal.{Refusal}
 use Rattle.session_model.specs.Standing.{Standing}
 use Rattle.session_why.specs.Computed.{why_asking}
-use Rattle.tool_run.specs.Tool.{Tool}
+use Rattle.tool_frame.specs.Tool.{Tool}
 use Rattle.why_model.specs.Answer.{priced_object, why_text}
 use Rattle.why_run.specs.Words.{Triple, triple_of}
 

@@ -1,7 +1,7 @@
 -- The words of the command line (this project's profile).
 use Rattle.std.specs.Prelude.{ℕ, ◌&&◌, if◌then◌else◌, List, [], ◌∷◌, Option, None, Some}
 use Rattle.desk_names.specs.Name.{is_name}
-use Rattle.tool_run.specs.Words.{is_word}
+use Rattle.tool_frame.specs.Words.{is_word}
 use Rattle.why_run.specs.declared.words.Triple as given
 
 -- the path of a market, that of a script, and a name

@@ -4,25 +4,24 @@ ghost use Rattle.desk_model.specs.Sound.{IsSound};
 ghost use Rattle.desk_model.specs.Visit.{log_of};
 ghost use Rattle.session_model.specs.Rounds.{calls_of};
 ghost use Rattle.session_model.specs.Standing.{IsKnown};
-ghost use Rattle.grid_model.specs.Scenario.{ordered, after};
+ghost use Rattle.tool_script.specs.Scenario.{ordered, after};
 ghost use Rattle.why_model.specs.Answer.{why_text};
 ghost use Rattle.session_why.specs.Computed.{why_asking};
-ghost use Rattle.desk_plan.specs.Asking.{found_in};
-ghost use Rattle.desk_plan.specs.Found.{CanRun};
-ghost use Rattle.tool_run.specs.Calls.{Calls};
+ghost use Rattle.tool_script.specs.Asking.{found_in};
+ghost use Rattle.tool_script.specs.Found.{CanRun};
+ghost use Rattle.tool_frame.specs.Calls.{Calls};
 ghost use Rattle.why_run.specs.Answering.{output_in, computed_in, refuses_in, refuses_name};
 ghost use Rattle.why_run.specs.Words.{triple_in};
 
 use crate::words::Triple;
-use desk_plan::FoundRun;
 use desk_terms::Bench;
 use market_session::begun;
-use named_run::NamedText;
-use script_steps::play_all;
 use session_commands::Command;
 use session_rounds::WatchedSession;
 use session_why::why;
 use std::alloc::{AllocError, Global};
+use tool_frame::NamedText;
+use tool_script::{FoundRun, play_all};
 use watch_rounds::Order;
 
 // The answer for a name over the session of a script behind its last command.

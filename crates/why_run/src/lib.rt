@@ -10,6 +10,6 @@ mod rows;
 mod running;
 mod words;
 
-pub use desk_plan::Status;
-pub use named_run::NamedStatus;
 pub use running::run_why;
+pub use tool_frame::NamedStatus;
+pub use tool_script::Status;

@@ -1,18 +1,18 @@
 // The call of the program.
 ghost use Rattle.std.specs.Prelude.{map};
 ghost use Rattle.std.specs.String.{string_bytes};
-ghost use Rattle.desk_plan.specs.Status.{script_ends};
-ghost use Rattle.named_run.specs.Run.{IsNamedRun};
-ghost use Rattle.tool_run.specs.Tool.{shelf_turn, sink_turn, bench_turn};
+ghost use Rattle.tool_script.specs.Status.{script_ends};
+ghost use Rattle.tool_frame.specs.Named_runRun.{IsNamedRun};
+ghost use Rattle.tool_frame.specs.Tool.{shelf_turn, sink_turn, bench_turn};
 ghost use Rattle.why_run.specs.Answering.{refuses_in, why_tool};
 
 use crate::answering::text_of;
 use crate::words::Triple;
 use desk_edge::{Shelf, Sink};
-use desk_plan::{FoundRun, Status, find_run};
 use desk_terms::Bench;
-use named_run::{NamedStatus, NamedText, NamedTool, run_named};
 use std::alloc::{AllocError, Global};
+use tool_frame::{NamedStatus, NamedText, NamedTool, run_named};
+use tool_script::{FoundRun, Status, find_run};
 
 /// Runs a script over a market as `desk run` does, with its due watchers in the order `first`, writes nothing of its
 /// transcript, and then writes to `out` from what the price of an object of the session was computed, and answers how that
@@ -41,8 +41,8 @@ pub fn run_why<H: Shelf, K: Sink, B: Bench>(
 struct Why;
 
 impl<'a> NamedTool<'a> for Why {
-    ghost use Rattle.desk_plan.specs.Asking.{Wanted, found_in};
-    ghost use Rattle.desk_plan.specs.Found.{CanRun};
+    ghost use Rattle.tool_script.specs.Asking.{Wanted, found_in};
+    ghost use Rattle.tool_script.specs.Found.{CanRun};
     ghost use Rattle.why_run.specs.Answering.{refuses_in, why_tool};
     ghost use Rattle.why_run.specs.Words.{Triple, triple_in};
 

@@ -3,8 +3,8 @@ ghost use Rattle.std.specs.Prelude.{◌≡◌, ◌∷◌, [], option_map};
 ghost use Rattle.why_run.specs.Words.{triple_in, triple_of};
 
 use desk_names::is_name;
-use desk_plan::ScriptRequest;
-use tool_run::is_word;
+use tool_frame::is_word;
+use tool_script::ScriptRequest;
 
 // The path of a market, that of a script, and a name.
 #[derive(Clone, Copy)]

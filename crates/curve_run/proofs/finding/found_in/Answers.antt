@@ -5,7 +5,7 @@ use Rattle.desk_model.specs.Market.{Market}
 use Rattle.desk_terms.specs.declared.kind.Wanted.TheVariants.{CurveTarget}
 use Rattle.market_desk.specs.Standing.{object_named}
 use Rattle.curve_run.specs.Named.{object_in, line_in, objects_named, lines_named}
-use Rattle.curve_lines.proofs.Appending.{parts_more, parts_end}
+use Rattle.curve_drawing.proofs.Appending.{parts_more, parts_end}
 use Rattle.curve_run.proofs.finding.found_in.Goals as goal
 
 module _ (market : Market) (names : List (List ℕ)) where

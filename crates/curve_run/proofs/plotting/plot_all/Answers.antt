@@ -1,9 +1,9 @@
 use Rattle.std.proofs.Common.{◌≡◌, ℕ, ◌++◌, List, Result, refl, ◌∙◌, ap}
 use Rattle.curve_points.specs.Curve.{Curve}
 use Rattle.desk_terms.specs.declared.cause.Cause.{Cause}
-use Rattle.curve_lines.specs.declared.lines.Plot.{Plot}
-use Rattle.curve_lines.specs.Lines.{Line}
-use Rattle.curve_lines.proofs.Appending.{parts_more, parts_end}
+use Rattle.curve_drawing.specs.declared.lines.Plot.{Plot}
+use Rattle.curve_drawing.specs.Lines.{Line}
+use Rattle.curve_drawing.proofs.Appending.{parts_more, parts_end}
 use Rattle.desk_model.specs.Market.{Market}
 use Rattle.desk_model.specs.State.{State}
 use Rattle.curve_run.specs.Plotting.{line_at, line_in, plotted_lines, unplotted}

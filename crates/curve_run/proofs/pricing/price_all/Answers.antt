@@ -10,7 +10,7 @@ use Rattle.bump_model.proofs.Each.{far_none, far_more, far_stops, far_front, far
 use Rattle.bump_ladder.specs.Curves.{curve_at}
 use Rattle.bump_ladder.proofs.Answered.{front_asks}
 use Rattle.curve_run.specs.Pricing.{curve_in, refused_in, curves_of, refused_lines}
-use Rattle.curve_lines.proofs.Appending.{parts_more, parts_end}
+use Rattle.curve_drawing.proofs.Appending.{parts_more, parts_end}
 use Rattle.curve_run.proofs.Asked.{next_object, first_lazy, rest_curves, value_then, curves_first, curves_last, lines_first, lines_last}
 use Rattle.curve_run.proofs.pricing.price_all.Goals as goal
 

@@ -1,6 +1,6 @@
 use Rattle.std.proofs.Common.{List, [], ◌∷◌, ℕ, refl}
 use Rattle.curve_terms.specs.declared.terms.Helper.{Helper}
-use Rattle.curve_lines.proofs.Appending.{parts_more, parts_end}
+use Rattle.curve_drawing.proofs.Appending.{parts_more, parts_end}
 use Rattle.curve_run.specs.Quoted.{helper_quotes}
 use Rattle.curve_run.proofs.quoted.push_quotes.Goals as goal
 

@@ -16,10 +16,10 @@ use Rattle.day_number.specs.Day.{civil_number}
 use Rattle.day_shift.specs.Advanced.{advanced}
 use Rattle.day_shift.specs.Adjusted.{adjusted}
 use Rattle.curve_points.specs.Point.{beyond, discount_at}
-use Rattle.curve_lines.specs.Days.{days_on}
-use Rattle.curve_lines.specs.Lines.{rate_points}
-use Rattle.curve_picture.specs.Points.{dated_text}
-use Rattle.curve_picture.specs.Table.{table_heading, row_text, rows_text, lines_rows, table_text}
+use Rattle.curve_drawing.specs.Days.{days_on}
+use Rattle.curve_drawing.specs.Lines.{rate_points}
+use Rattle.curve_drawing.specs.Points.{dated_text}
+use Rattle.curve_drawing.specs.Table.{table_heading, row_text, rows_text, lines_rows, table_text}
 use Rattle.curve_run.specs.Lines.{curve_text, curve_calls}
 use Rattle.market_desk.specs.Standing.{unnamed_line}
 use Rattle.curve_run.specs.Named.{curve_below, objects_named, lines_named, named_of}

@@ -1,18 +1,18 @@
 use Rattle.std.proofs.Common.{◌≡◌, ◌⊎◌, inl, inr, refl, sym, ap, subst, ℕ, List, [], Option, Some, None, Result, pos, true}
 use Rattle.std.proofs.lemmas.List.{append-nil}
-use Rattle.curve_lines.specs.declared.lines.Plot.TheVariants.{Factors}
+use Rattle.curve_drawing.specs.declared.lines.Plot.TheVariants.{Factors}
 use Rattle.desk_edge.specs.Shelf.{files_of}
 use Rattle.desk_edge.specs.Sink.{appended}
 use Rattle.market_loader.proofs.Steps.{told_map}
 use Rattle.bump_model.specs.Asking.{Made, MadeFront}
 use Rattle.bump_model.proofs.Calls.{front_none}
-use Rattle.tool_run.specs.Market.{wanted_in}
-use Rattle.tool_run.specs.Stage as stage
+use Rattle.tool_frame.specs.Market.{wanted_in}
+use Rattle.tool_frame.specs.Stage as stage
 use Rattle.desk_terms.specs.Reading.{Calc}
-use Rattle.tool_run.specs.declared.status.MarketStatus.{MarketStatus}
-use Rattle.tool_run.specs.Run.{given_for}
-use Rattle.tool_run.specs.Stage.{Stage, Done, Missing, Failed, Cut, Halted, IsEarly, IsBefore, Writes, Computes, Log, puts_then}
-use Rattle.tool_run.proofs.Early.{early_or_none}
+use Rattle.tool_frame.specs.declared.status.MarketStatus.{MarketStatus}
+use Rattle.tool_frame.specs.Run.{given_for}
+use Rattle.tool_frame.specs.Stage.{Stage, Done, Missing, Failed, Cut, Halted, IsEarly, IsBefore, Writes, Computes, Log, puts_then}
+use Rattle.tool_frame.proofs.Early.{early_or_none}
 use Rattle.curve_run.specs.declared.status.CurveStatus.TheVariants.{Of, Refused}
 use Rattle.curve_run.specs.Status.{stage_of, Notes}
 use Rattle.curve_run.specs.Verdict.{Wanted, text_of, lines_of, output_in, notes_in, computed_in}

@@ -2,7 +2,7 @@ use Rattle.std.proofs.Common.{◌≡◌, drop}
 use Rattle.std.specs.Prelude.{map}
 use Rattle.std.specs.String.{string_bytes}
 use Rattle.std.specs.List.{list_all}
-use Rattle.tool_run.specs.Words.{is_word}
+use Rattle.tool_frame.specs.Words.{is_word}
 use Rattle.curve_run.proofs.words.are_words.Given as goal
 
 -- the words before the one at hand are taken

@@ -4,12 +4,12 @@ use Rattle.std.specs.String.{string_bytes}
 use Rattle.desk_edge.specs.Count.{raised}
 use Rattle.desk_edge.specs.Shelf.{files_of}
 use Rattle.market_loader.proofs.Steps.{told_any}
-use Rattle.desk_plan.specs.Found.{plan_in}
-use Rattle.desk_plan.specs.declared.status.Status.{Status}
-use Rattle.desk_plan.specs.Verdict.{Check, verdict_of}
-use Rattle.session_play.specs.Early.{outside}
-use Rattle.session_play.proofs.Ahead.{told_before}
-use Rattle.session_play.proofs.Progress.{halted_before}
+use Rattle.tool_script.specs.Found.{plan_in}
+use Rattle.tool_script.specs.declared.status.Status.{Status}
+use Rattle.tool_script.specs.Verdict.{Check, verdict_of}
+use Rattle.desk_top.specs.Early.{outside}
+use Rattle.desk_top.proofs.Ahead.{told_before}
+use Rattle.desk_top.proofs.Progress.{halted_before}
 use Rattle.desk_top.proofs.Ended.{told_written, told_so_far}
 use Rattle.desk_top.proofs.Headlines.{told_headline, no_headline, late_headline}
 use Rattle.desk_top.proofs.running.run.Goals as goal

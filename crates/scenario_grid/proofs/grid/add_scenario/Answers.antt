@@ -1,13 +1,13 @@
 use Rattle.std.proofs.Common.{◌++◌, ◌∷◌, [], ℕ, ℤ, List, Option, ◌∙◌, ap}
 use Rattle.std.proofs.lemmas.Result.{err_from_is_err_and}
-use Rattle.grid_model.specs.Grid.{Row, label_text}
-use Rattle.grid_report.specs.Shown.{row_in, rows_in}
-use Rattle.grid_report.specs.declared.shown.Shown.{Shown}
-use Rattle.script_steps.proofs.Calling.{calls_any}
-use Rattle.tool_run.proofs.Calling.{begins_none}
-use Rattle.grid_report.proofs.Rows.{rows_push}
+use Rattle.tool_script.specs.Grid.{Row, label_text}
+use Rattle.tool_script.specs.Shown.{row_in, rows_in}
+use Rattle.tool_script.specs.declared.shown.Shown.{Shown}
+use Rattle.tool_script.proofs.Calling.{calls_any}
+use Rattle.tool_frame.proofs.Calling.{begins_none}
+use Rattle.tool_script.proofs.GridRows.{rows_push}
 use Rattle.scenario_grid.proofs.Grids.{heading_text}
-use Rattle.script_steps.proofs.Steps.{on_ok, ok_more}
+use Rattle.tool_script.proofs.Steps.{on_ok, ok_more}
 use Rattle.scenario_grid.proofs.grid.add_scenario.Goals as goal
 
 pub returns-in_err-heading-clause-calls : goal.returns-in_err-heading-clause-calls

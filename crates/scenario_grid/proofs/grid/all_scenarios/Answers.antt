@@ -3,12 +3,12 @@ use Rattle.std.proofs.lemmas.Result.{err_from_is_err_and}
 use Rattle.std.proofs.lemmas.List.Elements.{All-nil}
 use Rattle.session_commands.specs.declared.command.Command.{Command}
 use Rattle.session_commands.specs.Whole.{IsCommand}
-use Rattle.grid_shape.specs.Kinds.{is_move}
-use Rattle.grid_report.specs.Shown.{rows_in}
-use Rattle.script_steps.specs.Basis.{basis_in}
-use Rattle.script_steps.proofs.Named.{all_moves_named, all_asks_named}
-use Rattle.script_steps.proofs.Past.{past_lines, past_rows, past_makes}
-use Rattle.script_steps.proofs.Steps.{item_of}
+use Rattle.tool_script.specs.Kinds.{is_move}
+use Rattle.tool_script.specs.Shown.{rows_in}
+use Rattle.tool_script.specs.Basis.{basis_in}
+use Rattle.tool_script.proofs.Named.{all_moves_named, all_asks_named}
+use Rattle.tool_script.proofs.Past.{past_lines, past_rows, past_makes}
+use Rattle.tool_script.proofs.Steps.{item_of}
 use Rattle.scenario_grid.proofs.Grids.{first_past, first_begins, next_past, next_begins, last_past}
 use Rattle.scenario_grid.proofs.grid.all_scenarios.Goals as goal
 

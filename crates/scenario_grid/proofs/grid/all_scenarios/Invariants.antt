@@ -1,7 +1,7 @@
 use Rattle.std.proofs.Common.{◌≡◌, length, ◌-◌}
-use Rattle.grid_report.specs.Shown.{rows_in}
-use Rattle.script_steps.specs.Basis.{basis_in}
-use Rattle.script_steps.proofs.Blocks.{blocks_from}
+use Rattle.tool_script.specs.Shown.{rows_in}
+use Rattle.tool_script.specs.Basis.{basis_in}
+use Rattle.tool_script.proofs.BlocksFrom.{blocks_from}
 use Rattle.scenario_grid.proofs.Grids.{PastOf}
 use Rattle.scenario_grid.proofs.grid.all_scenarios.Given as goal
 

@@ -1,7 +1,7 @@
 use Rattle.std.proofs.lemmas.Result.{err_from_is_err_and}
-use Rattle.grid_report.specs.Shown.{rows_in}
-use Rattle.script_steps.specs.Basis.{basis_in}
-use Rattle.script_steps.proofs.Calling.{makes_begins}
+use Rattle.tool_script.specs.Shown.{rows_in}
+use Rattle.tool_script.specs.Basis.{basis_in}
+use Rattle.tool_script.proofs.Calling.{makes_begins}
 use Rattle.scenario_grid.proofs.Grids.{lines_whole}
 use Rattle.scenario_grid.proofs.grid.grid_lines.Goals as goal
 

@@ -1,7 +1,7 @@
 use Rattle.std.proofs.Common.{◌++◌, ℤ, List, Option, ◌∙◌, ap}
 use Rattle.std.proofs.lemmas.Result.{err_from_is_err_and}
-use Rattle.grid_model.specs.Scenario.{scenario_values}
-use Rattle.script_steps.specs.Basis.{basis_in}
+use Rattle.tool_script.specs.Scenario.{scenario_values}
+use Rattle.tool_script.specs.Basis.{basis_in}
 use Rattle.scenario_grid.specs.Scenario.{scenario_of}
 use Rattle.scenario_grid.proofs.grid.values_of.Goals as goal
 

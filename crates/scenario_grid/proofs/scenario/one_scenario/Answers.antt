@@ -1,8 +1,8 @@
 use Rattle.std.proofs.Common.{◌≡◌, ◌++◌, ℕ, length, take, ◌∙◌, ap, arith}
 use Rattle.session_rounds.specs.Goes.{Output}
-use Rattle.grid_model.specs.Scenario.{first_of}
-use Rattle.script_steps.specs.Basis.{basis_in}
-use Rattle.script_steps.proofs.Courses.{course_begins}
+use Rattle.tool_script.specs.Scenario.{first_of}
+use Rattle.tool_script.specs.Basis.{basis_in}
+use Rattle.tool_script.proofs.Courses.{course_begins}
 use Rattle.scenario_grid.proofs.Scenarios.{halts_cut, extends_cut}
 use Rattle.scenario_grid.proofs.scenario.one_scenario.Goals as goal
 

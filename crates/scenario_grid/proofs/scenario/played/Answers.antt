@@ -1,8 +1,8 @@
 use Rattle.std.proofs.lemmas.Result.{err_from_is_err_and}
-use Rattle.grid_model.specs.Scenario.{first_of}
-use Rattle.script_steps.specs.Basis.{basis_in}
-use Rattle.script_steps.specs.Course.{output}
-use Rattle.script_steps.proofs.Plays.{first_known}
+use Rattle.tool_script.specs.Scenario.{first_of}
+use Rattle.tool_script.specs.Basis.{basis_in}
+use Rattle.tool_script.specs.Course.{output}
+use Rattle.tool_script.proofs.Plays.{first_known}
 use Rattle.scenario_grid.proofs.Scenarios.{halts_begun}
 use Rattle.scenario_grid.proofs.scenario.played.Goals as goal
 

@@ -2,7 +2,7 @@ use Rattle.std.proofs.Common.{sym, subst}
 use Rattle.std.proofs.lemmas.Result.{err_from_is_err_and}
 use Rattle.desk_terms.specs.Reading.{Calc}
 use Rattle.desk_model.specs.Sound.{IsSound}
-use Rattle.script_steps.proofs.Calling.{begins_first, begins_second, makes_both}
+use Rattle.tool_script.proofs.Calling.{begins_first, begins_second, makes_both}
 use Rattle.why_run.proofs.Calling.{begins_front, makes_made}
 use Rattle.why_run.proofs.answering.answer_behind.Goals as goal
 

@@ -1,5 +1,5 @@
 use Rattle.std.proofs.lemmas.Result.{err_from_is_err_and}
-use Rattle.tool_run.proofs.Calling.{begins_none}
+use Rattle.tool_frame.proofs.Calling.{begins_none}
 use Rattle.why_run.proofs.answering.text_of.Goals as goal
 
 pub returns-in_err-session-clause-calls : goal.returns-in_err-session-clause-calls

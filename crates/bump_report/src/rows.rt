@@ -1,7 +1,0 @@
-// Lines that are written out by hand.
-ghost use Rattle.bump_report.specs.Rows.{AreWorked};
-
-// The definitions give the lines that a hand writes.
-fn lines_are_worked_through()
-    ensures { AreWorked }
-{}

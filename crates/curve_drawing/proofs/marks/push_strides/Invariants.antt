@@ -1,0 +1,7 @@
+use Rattle.std.proofs.Common.{◌≡◌, ◌++◌}
+use Rattle.curve_drawing.specs.Svg.{strides_below}
+use Rattle.curve_drawing.proofs.marks.push_strides.Given as goal
+
+-- the marks before the one at hand are written
+abbrev pub invariant-loop-mark : goal.invariant-loop-mark
+invariant-loop-mark l = l.out.items ≡ l.initial.out.items ++ strides_below l.scale l.mark

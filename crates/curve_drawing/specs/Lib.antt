@@ -1,0 +1,12 @@
+pub mod Days
+pub mod LineRows
+pub mod Lines
+pub mod Pars
+pub mod PictureRows
+pub mod Places
+pub mod PlotPoints
+pub mod Points
+pub mod Rates
+pub mod Scale
+pub mod Svg
+pub mod Table

@@ -1,4 +1,0 @@
-pub mod Appending
-pub mod Daily
-pub mod Parred
-pub mod Rated

@@ -1,4 +1,0 @@
-pub mod Refused
-pub mod Steps
-pub mod There
-pub mod Told

@@ -1,9 +1,0 @@
-use Rattle.std.proofs.Common.{◌≡◌, ◌*◌, ◌^◌, ◌≤◌, take}
-use Rattle.desk_plan.specs.Fixings.{fixings_in}
-use Rattle.desk_plan.proofs.counting.fixings_in.Given as goal
-
-abbrev pub invariant-loop-terms : goal.invariant-loop-terms
-invariant-loop-terms l = record {
-  sum : l.count ≡ fixings_in (take l.terms-index l.made.items);
-  bound : l.count ≤ l.terms-index * 2 ^ 64;
-}

@@ -1,5 +1,0 @@
-use Rattle.desk_plan.proofs.Steps.{market_err}
-use Rattle.desk_plan.proofs.loading.opened.Goals as goal
-
-pub returns-in-Err-clause-says : goal.returns-in-Err-clause-says
-returns-in-Err-clause-says c = rw c.market_status.ensures (market_err c.in-Err.fault _ c.in-Err.ensures.market)

@@ -1,5 +1,0 @@
-use Rattle.desk_plan.proofs.Steps.{script_err}
-use Rattle.desk_plan.proofs.reading.scripted.Goals as goal
-
-pub returns-in-Err-clause-says : goal.returns-in-Err-clause-says
-returns-in-Err-clause-says c = rw c.script_status.ensures (script_err c.in-Err.fault _ _ c.in-Err.ensures.gives)

@@ -1,6 +1,0 @@
-mod Alike
-mod Fronts
-mod Moving
-mod Renumbered
-mod SoFar
-pub mod Sums

@@ -1,9 +1,0 @@
-use Rattle.explain_model.proofs.Fronts.{stand_alone}
-use Rattle.explain_model.proofs.Renumbered.{leave_numbers}
-use Rattle.explain_model.proofs.laws.fronts_stand_alone.Goals as goal
-
-pub returns-clause-alone : goal.returns-clause-alone
-returns-clause-alone c = stand_alone
-
-pub returns-clause-numbers : goal.returns-clause-numbers
-returns-clause-numbers c = leave_numbers

@@ -1,5 +1,0 @@
-use Rattle.explain_model.proofs.SoFar.{are_steps}
-use Rattle.explain_model.proofs.laws.steps_are_priced_afresh.Goals as goal
-
-pub returns : goal.returns
-returns c = λ calc basis asks steps are_moves are_asks. are_steps calc basis asks are_asks steps are_moves

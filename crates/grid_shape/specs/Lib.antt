@@ -1,4 +1,0 @@
-pub mod Kinds
-pub mod Laws
-pub mod Rows
-pub mod Shape

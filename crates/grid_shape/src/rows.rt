@@ -1,7 +1,0 @@
-// Scripts that are worked through by hand.
-ghost use Rattle.grid_shape.specs.Rows.{AreShaped};
-
-// Each fault of a shape comes in its order.
-fn shapes_are_worked_through()
-    ensures { AreShaped }
-{}

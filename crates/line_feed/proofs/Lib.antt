@@ -1,5 +1,0 @@
-mod Lines
-pub mod Fronts
-mod Heard
-mod Pieces
-mod Ended

@@ -1,4 +1,0 @@
-mod Asked
-mod Ended
-mod Played
-mod Replied

@@ -1,5 +1,0 @@
-pub mod Lines
-pub mod Rows
-pub mod Says
-pub mod Spreads
-pub mod Verdict

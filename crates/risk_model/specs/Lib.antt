@@ -1,4 +1,0 @@
-pub mod Figures
-pub mod Laws
-pub mod Rows
-pub mod Sums

@@ -1,9 +1,0 @@
-pub mod Basis
-pub mod Block
-pub mod Course
-pub mod Going
-pub mod Kept
-pub mod Played
-pub mod Rows
-pub mod Status
-pub mod Verdict

@@ -1,7 +1,0 @@
-// Rows that are worked through by hand.
-ghost use Rattle.script_steps.specs.Rows.{AreTold};
-
-// Each status has its code and its words.
-fn statuses_are_worked_through()
-    ensures { AreTold }
-{}

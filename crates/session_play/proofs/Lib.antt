@@ -1,7 +1,0 @@
-pub mod Ahead
-pub mod Loaded
-pub mod Played
-pub mod Progress
-pub mod Reported
-pub mod Summed
-pub mod Tallies

@@ -1,9 +1,0 @@
-use Rattle.std.proofs.Common.{◌≡◌, ◌+◌, take}
-use Rattle.session_play.specs.Summary.{with_bytes}
-use Rattle.session_play.proofs.tally.Tally.add.Given as goal
-
-abbrev pub invariant-loop-byte : goal.invariant-loop-byte
-invariant-loop-byte l = record {
-  tally : l.self ≡ with_bytes l.initial.self (take l.byte-index l.piece);
-  bytes : l.self.bytes ≡ l.initial.self.bytes + l.byte-index;
-}

@@ -1,0 +1,14 @@
+pub mod Asked
+pub mod Lines
+pub mod MeasureLines
+pub mod MeasureRows
+pub mod MeasureSays
+pub mod MeasureVerdict
+pub mod Named
+pub mod Rows
+pub mod Spreads
+pub mod Verdict
+pub mod Wording
+pub mod Words
+pub mod YieldSays
+pub mod YieldVerdict

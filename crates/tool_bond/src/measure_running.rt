@@ -1,0 +1,34 @@
+// The call of the program.
+ghost use Rattle.std.specs.Prelude.{map};
+ghost use Rattle.std.specs.String.{string_bytes};
+ghost use Rattle.tool_frame.specs.Idle.{no_bench};
+ghost use Rattle.tool_frame.specs.Status.{market_ends};
+ghost use Rattle.tool_frame.specs.Tool.{shelf_turn, sink_turn};
+ghost use Rattle.tool_frame.specs.Named_runRun.{IsNamedRun};
+ghost use Rattle.tool_bond.specs.Verdict.{refuses_in};
+ghost use Rattle.tool_bond.specs.MeasureVerdict.{measure_tool};
+
+use crate::{MeasureTool, run_named_bond};
+use desk_edge::{Shelf, Sink};
+use std::alloc::Global;
+use tool_frame::{MarketStatus, NamedStatus};
+
+/// Does what the words ask for over the files of the shelf, writes the lines to `out`, and answers how that went. The
+/// words are those behind the program's name: the path of a market, the name of a bond, a settlement day and a clean
+/// price.
+///
+/// The first failure in this order is the answer: the words; the market's file and the tables' names in it; the file of
+/// the quotes, and that of the fixings, where the market names them; the market. Then the lines are made whole, and
+/// written. A fault outside, or want of memory, may come at any time. A name that stands for no flows is the answer where all
+/// else went well.
+pub fn run_measure<H: Shelf, K: Sink>(
+    alloc: Global,
+    words: &[String],
+    shelf: &mut H,
+    out: &mut K,
+) -> NamedStatus<MarketStatus>
+    ensures { IsNamedRun market_ends measure_tool refuses_in (map string_bytes words.now) result
+        (shelf_turn H.contents H.faults H.misses H.calls shelf.old shelf.new) (sink_turn K.bytes K.faults out.old out.new) no_bench }
+{
+    run_named_bond::<MeasureTool, H, K>(alloc, words, shelf, out)
+}

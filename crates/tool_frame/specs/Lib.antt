@@ -1,0 +1,13 @@
+pub mod Calls
+pub mod Endings
+pub mod Idle
+pub mod Market
+pub mod Named_runRows
+pub mod Named_runRun
+pub mod Named_runStatus
+pub mod Rows
+pub mod Run
+pub mod Stage
+pub mod Status
+pub mod Tool
+pub mod Words

@@ -1,0 +1,12 @@
+pub mod Chaining
+pub mod Curving
+pub mod Days
+pub mod FigureSumming
+pub mod Giving
+pub mod Naming
+pub mod Paying
+pub mod Prices
+pub mod Rungs
+pub mod Shifts
+pub mod Summing
+pub mod Telling

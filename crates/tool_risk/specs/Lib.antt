@@ -1,0 +1,15 @@
+pub mod Asking
+pub mod Curves
+pub mod Dues
+pub mod FigureRows
+pub mod FigureSums
+pub mod Figures
+pub mod Given
+pub mod Laws
+pub mod Lines
+pub mod Named
+pub mod Rows
+pub mod Theta
+pub mod Tomorrow
+pub mod Verdict
+pub mod Words

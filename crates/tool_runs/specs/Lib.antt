@@ -1,0 +1,9 @@
+pub mod Drawing
+pub mod ExplainLaws
+pub mod ExplainRows
+pub mod ExplainTool
+pub mod Explanation
+pub mod Gains
+pub mod GraphRows
+pub mod GraphWords
+pub mod Steps

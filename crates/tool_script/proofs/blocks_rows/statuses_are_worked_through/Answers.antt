@@ -1,0 +1,16 @@
+use Rattle.std.proofs.Common.{refl}
+use Rattle.std.specs.Fmt.{digits}
+use Rattle.tool_script.proofs.blocks_rows.statuses_are_worked_through.Goals as goal
+
+pub returns : goal.returns
+unfolding digits
+returns c = record {
+  done = (refl, refl);
+  usage = (refl, refl);
+  script = (refl, refl);
+  read_fault = (refl, refl);
+  write_fault = (refl, refl);
+  no_memory = (refl, refl);
+  absent = (refl, refl);
+  shape = (refl, refl);
+}

@@ -1,0 +1,7 @@
+// Rows that are worked through by hand.
+ghost use Rattle.tool_script.specs.BlocksRows.{AreTold};
+
+// Each status has its code and its words.
+fn statuses_are_worked_through()
+    ensures { AreTold }
+{}

@@ -1,5 +1,4 @@
-// The calls of the objects of a session by `&mut self`: what is made, set, linked, taken out, watched, told, frozen, held back and
-// computed.
+// The calls of a desk that take `&mut self`: they make, change, link, remove, watch, freeze, defer and compute objects.
 ghost use Rattle.std.specs.Prelude.{◌≡◌, ◌≢◌, ◌↔◌, ℕ, ℤ, List, Option, Err, ◌⊎◌, ◌<◌, ◌^◌, ◌==◌, not, if◌then◌else◌, true, false, pos, Some, None, length, IsOk, IfOk, OnOk, OnErr, ◌≤◌, unsigned_abs, slice_index_or, ◌||◌, [], ◌∷◌, is_some, IfSome, IfNone};
 ghost use Rattle.desk_terms.specs.Reading.{Calc, AreInRange, IsFitting};
 ghost use Rattle.desk_model.specs.Market.{kind_at, terms_at, slot_at, is_given, is_watcher, is_observable, least_user};
@@ -47,9 +46,12 @@ use observer_graph::Flags;
 use std::alloc::AllocError;
 
 impl Desk {
-    /// Makes an object with these terms, and answers its number: how many were given before. Its inputs are live and of
-    /// the kinds that are wanted, and the terms of a curve, an index or flows are within their limits. Where memory is
-    /// wanting, nothing is changed.
+    /// Makes an object with these terms and returns its number, which is the count of numbers given before. Its inputs must be
+    /// live and of the kinds that the terms require, and the terms of a curve, an index or flows within their limits.
+    ///
+    /// # Errors
+    ///
+    /// `AllocError` where memory runs out. Then nothing has changed.
     pub fn add(&mut self, terms: Terms) -> Result<ObjId, AllocError>
         requires ranged { AreInRange terms }
         requires kinds { AreOfKind self.old.market (Some terms) }
@@ -71,7 +73,7 @@ impl Desk {
         Ok(object)
     }
 
-    /// Sets or unsets a quote. Where its value changes, its observers are told.
+    /// Sets the value of a quote, or unsets it with `None`. A changed value notifies the observers of the quote.
     pub fn set_quote(&mut self, quote: ObjId, value: Option<Rate>)
         requires { kind_at self.old.market quote ≡ Some Quote }
         ensures set { self.new ≡ quote_set quote value self.old }
@@ -83,9 +85,9 @@ impl Desk {
         }
     }
 
-    /// A handle stands for another target, or for none (QuantLib's `RelinkableHandle::linkTo`). The target is live, is what
-    /// the handle stands for, and does not lie above the handle. Where it is the one held, nothing is told. It takes no
-    /// memory, and costs what it tells.
+    /// Links a handle to another target, or to none (QuantLib's `RelinkableHandle::linkTo`). The target must be live, of the
+    /// handle's kind, and must not depend on the handle. Linking the current target again notifies nobody. Takes no memory. The
+    /// cost grows with the number of notified objects.
     pub fn relink(&mut self, handle: ObjId, target: Option<ObjId>)
         requires handle { is_handle (terms_at self.old.market handle) ≡ true }
         requires kinds { (kind : HandleKind) (held : Option ℕ) → terms_at self.old.market handle ≡ Some (Handle kind held) → AreOfKind self.old.market (Some (Handle kind target)) }
@@ -110,8 +112,9 @@ impl Desk {
         );
     }
 
-    /// An instrument is priced by another engine, or by none (QuantLib's `Instrument::setPricingEngine`). It is not current
-    /// and its observers are told, also where the engine is the one held. It takes no memory, and costs what it tells.
+    /// Sets or removes the pricing engine of an instrument (QuantLib's `Instrument::setPricingEngine`). The instrument becomes
+    /// out of date and its observers are notified, even if the engine is the current one. Takes no memory. The cost grows with
+    /// the number of notified objects.
     pub fn set_engine(&mut self, instrument: ObjId, engine: Option<ObjId>)
         requires instrument { kind_at self.old.market instrument ≡ Some Flows }
         requires engine { Serve self.old.market (optional_reference Engine engine) }
@@ -125,9 +128,13 @@ impl Desk {
         tell_changed(&self.market, &mut self.books.store, instrument);
     }
 
-    /// Stores the rate of an index for a day that has none, and tells its observers (QuantLib's `Index::addFixing`). The
-    /// rate is at most 10 either way. Where the day has a rate, the refusal names it, and where memory is wanting or the
-    /// day has a rate nothing is changed.
+    /// Stores a fixing of an index for a day without one, and notifies the observers of the index (QuantLib's
+    /// `Index::addFixing`). The rate is at most 10 (1,000 per cent) in size.
+    ///
+    /// # Errors
+    ///
+    /// `FixFault::Exists` with the stored rate where the day has a fixing, and `NoMemory` where memory runs out. Then
+    /// nothing has changed.
     pub fn add_fixing(&mut self, index: ObjId, day: Day, rate: Rate) -> Result<(), FixFault>
         requires index { kind_at self.old.market index ≡ Some Index }
         requires rate { IsRate rate }
@@ -142,7 +149,7 @@ impl Desk {
         Ok(())
     }
 
-    /// Another evaluation date. Where it is another day, all that observes it is told.
+    /// Sets the evaluation date. If the day differs, all its observers are notified.
     pub fn set_today(&mut self, day: Day)
         ensures set { self.new ≡ today_set day self.old }
         ensures keeps { KeepsCurrent self.old self.new }
@@ -155,10 +162,13 @@ impl Desk {
         self.books.store.changed(TODAY);
     }
 
-    /// Gives an instrument a weight in a composite: one that is no member joins at the end, a member keeps its place,
-    /// and weight 0 takes a member out (QuantLib's `CompositeInstrument::add`). What joins must not lie above the
-    /// composite. The weight is at most 1,000,000 either way, and the composite has at most 4,096 parts then. Where the
-    /// weight is the one held, nothing is told. Where memory is wanting, nothing is changed.
+    /// Sets the weight of a member of a composite (QuantLib's `CompositeInstrument::add`). A new member is appended, an existing
+    /// one keeps its place, and weight 0 removes it. A new member must not depend on the composite. The weight is at most
+    /// 1,000,000 in size, and the composite has at most 4,096 members. Setting the current weight again notifies nobody.
+    ///
+    /// # Errors
+    ///
+    /// `AllocError` where memory runs out. Then nothing has changed. `ready` says when it cannot.
     pub fn set_member(
         &mut self,
         composite: ObjId,
@@ -172,7 +182,7 @@ impl Desk {
         requires count { (parts : List Part) → terms_at self.old.market composite ≡ Some (terms_of.Composite parts) → length (with_member parts member weight) ≤ 4096 }
         ensures set { OnOk result (self.new ≡ member_set composite member weight self.old) }
         ensures same { OnErr result (self.new ≡ self.old) }
-        // No memory is wanted for the weight held, nor for another one of a member that stays.
+        // The current weight, and another one of a member that stays, take no memory.
         ensures ready { weight_of (parts_in (slot_at self.old.market composite)) member ≡ weight → IsOk result }
         ensures stays { has_member (parts_in (slot_at self.old.market composite)) member ≡ true → weight ≢ pos 0 → IsOk result }
         ensures keeps { KeepsCurrent self.old self.new }
@@ -197,8 +207,8 @@ impl Desk {
         Ok(())
     }
 
-    /// Takes out an object that no object observes, or a watcher, and what is stored of it. Its registrations go with it,
-    /// as a watcher and as what is watched, and it is told no more. Its number is not given again.
+    /// Removes an object that no object observes, or a watcher, with its value and its registrations. Its number is not used
+    /// again.
     pub fn remove(&mut self, object: ObjId)
         requires live { is_given (slot_at self.old.market object) ≡ true }
         requires apart { object ≢ 0 }
@@ -211,8 +221,11 @@ impl Desk {
         self.books.store.forget(object);
     }
 
-    /// Makes a watcher, which is registered with nothing, and answers its number: how many were given before. Where
-    /// memory is wanting, nothing is changed.
+    /// Makes a watcher without registrations and returns its number, which is the count of numbers given before.
+    ///
+    /// # Errors
+    ///
+    /// `AllocError` where memory runs out. Then nothing has changed.
     pub fn add_watcher(&mut self) -> Result<ObjId, AllocError>
         requires room { length self.old.market.objects < 2 ^ 16 }
         ensures number { IfOk result (λ watcher. watcher ≡ length self.old.market.objects) }
@@ -228,9 +241,13 @@ impl Desk {
         Ok(watcher)
     }
 
-    /// Registers a watcher with an object that is no watcher (QuantLib's `Observer::registerWith`). False exactly where it
-    /// was registered with it before: then, and where memory is wanting, nothing is changed. A registration counts neither
-    /// as a use nor as an edge of a cycle. It costs what the watcher is registered with.
+    /// Registers a watcher with an object that is no watcher (QuantLib's `Observer::registerWith`). Returns false, and changes
+    /// nothing, exactly if it was registered already. A registration is no dependency: it keeps no object from being removed, and
+    /// is part of no cycle. The cost grows with the number of the watcher's registrations.
+    ///
+    /// # Errors
+    ///
+    /// `AllocError` where memory runs out. Then nothing has changed.
     pub fn register(&mut self, watcher: ObjId, object: ObjId) -> Result<bool, AllocError>
         requires watcher { is_watcher (slot_at self.old.market watcher) ≡ true }
         requires subject { is_observable (slot_at self.old.market object) ≡ true }
@@ -248,8 +265,8 @@ impl Desk {
         Ok(true)
     }
 
-    /// A watcher is registered with an object no more; whether it was (QuantLib's `Observer::unregisterWith`). No notice
-    /// that is held back is lost. It takes no memory.
+    /// Removes a registration and returns whether there was one (QuantLib's `Observer::unregisterWith`). Deferred notifications
+    /// stay. Takes no memory.
     pub fn unregister(&mut self, watcher: ObjId, object: ObjId) -> bool
         requires watcher { is_watcher (slot_at self.old.market watcher) ≡ true }
         requires subject { is_observable (slot_at self.old.market object) ≡ true }
@@ -262,8 +279,8 @@ impl Desk {
         store.deferral.graph.unwatch(object, watcher)
     }
 
-    /// Freezes a lazy object: it answers its last value until it is thawed, and takes notices without passing them on
-    /// (QuantLib's `LazyObject::freeze`). Nobody is told. It takes no memory.
+    /// Freezes a lazy object (QuantLib's `LazyObject::freeze`): until it is thawed it returns its last value and passes on no
+    /// notification. Notifies nobody and takes no memory.
     pub fn freeze(&mut self, object: ObjId)
         requires lazy { is_lazy_at self.old.market object ≡ true }
         ensures set { self.new ≡ frozen_set object self.old }
@@ -279,8 +296,8 @@ impl Desk {
         store.deferral.graph.set_flags(object, frozen);
     }
 
-    /// A lazy object is frozen no more, and its observers are told, or it holds its notice back (QuantLib's
-    /// `LazyObject::unfreeze`). Nothing where it is not frozen. It takes no memory, and costs what it tells.
+    /// Thaws a lazy object and notifies its observers, at once or deferred (QuantLib's `LazyObject::unfreeze`). Does nothing if
+    /// it is not frozen. Takes no memory. The cost grows with the number of notified objects.
     pub fn thaw(&mut self, object: ObjId)
         requires lazy { is_lazy_at self.old.market object ≡ true }
         ensures set { self.new ≡ thawed object self.old }
@@ -292,8 +309,8 @@ impl Desk {
         }
     }
 
-    /// A lazy object passes each notice on, also while it is not current, or does so no more (QuantLib's
-    /// `LazyObject::alwaysForwardNotifications`). Nobody is told. It takes no memory.
+    /// Sets whether a lazy object passes on each notification, even while it is out of date (QuantLib's
+    /// `LazyObject::alwaysForwardNotifications`). Notifies nobody and takes no memory.
     pub fn forward(&mut self, object: ObjId, on: bool)
         requires lazy { is_lazy_at self.old.market object ≡ true }
         ensures set { self.new ≡ forward_set object on self.old }
@@ -309,8 +326,8 @@ impl Desk {
         store.deferral.graph.set_flags(object, forwarding);
     }
 
-    /// From now on what changes holds its notice back and is a deferred source (QuantLib's
-    /// `ObservableSettings::disableUpdates`, deferred). It takes no memory.
+    /// Turns deferral on (QuantLib's `ObservableSettings::disableUpdates`, deferred): each object that changes from now on
+    /// becomes a deferred source, which notifies its observers on `resume`. Takes no memory.
     pub fn defer(&mut self)
         ensures set { self.new ≡ deferred self.old }
         ensures keeps { KeepsCurrent self.old self.new }
@@ -320,8 +337,8 @@ impl Desk {
         store.deferral.defer();
     }
 
-    /// Notices are held back no more: all deferred sources tell together (QuantLib's
-    /// `ObservableSettings::enableUpdates`). Nothing where deferral is off. It takes no memory, and costs what it tells.
+    /// Turns deferral off (QuantLib's `ObservableSettings::enableUpdates`): all deferred sources notify together. Does nothing if
+    /// deferral is off. Takes no memory. The cost grows with the number of notified objects.
     pub fn resume(&mut self)
         ensures set { self.new ≡ resumed self.old }
         ensures keeps { KeepsCurrent self.old self.new }
@@ -331,9 +348,12 @@ impl Desk {
         store.deferral.resume();
     }
 
-    /// Recalculates a lazy object: it is priced over its inputs, whatever its flags say, and its observers are told, or it
-    /// holds its notice back. It is refused where a deferred source makes it late. Where memory is wanting, what was
-    /// computed of its inputs stays, and the object is as it was.
+    /// Recomputes a lazy object from its inputs, whatever its flags are, and notifies its observers, at once or deferred. Returns
+    /// a refusal if a deferred source makes the object late.
+    ///
+    /// # Errors
+    ///
+    /// `AllocError` where memory runs out. Then inputs that were recomputed keep their values, and the object is as before.
     pub fn recalc<B: Bench>(&mut self, object: ObjId, bench: &mut B) -> Result<Recalced, AllocError>
         requires lazy { is_lazy_at self.old.market object ≡ true }
         requires sound { IsSound (B.calc bench.old) self.old }
@@ -342,7 +362,7 @@ impl Desk {
             (B.count bench.old) (B.count bench.new) (B.log bench.old) (B.log bench.new)) }
         ensures stops { OnErr result (RecalcStops (B.calc bench.old) object self.old self.new
             (B.count bench.old) (B.count bench.new) (B.log bench.old) (B.log bench.new)) }
-        // Where memory was wanting, its flags and its last value are as before, and nobody was told.
+        // Out of memory, its flags and its last value are as before, and nobody was notified.
         ensures kept { OnErr result (kept_at self.new object ≡ kept_at self.old object) }
         ensures untold { OnErr result (TellsNobody self.old self.new) }
         ensures sound { IsSound (B.calc bench.old) self.new }
@@ -350,8 +370,8 @@ impl Desk {
         self.books.recalc(&self.market, object, bench)
     }
 
-    /// The first by creation of the watchers that were told and not handed out since, each once however often it was
-    /// told; it is forgotten, so that only a later change tells it again. None where there is none. It takes no memory.
+    /// Takes the first notified watcher, by creation, and forgets its notification. A watcher that was notified several times is
+    /// returned once. `None` if there is none. Takes no memory.
     pub fn next_told(&mut self) -> Option<ObjId>
         ensures none { IfNone result ((self.old.noticed ≡ []) × (self.new ≡ self.old)) }
         ensures some { IfSome result (λ watcher. (self.old.noticed ≡ watcher ∷ self.new.noticed)
@@ -365,8 +385,11 @@ impl Desk {
         store.deferral.graph.next_told()
     }
 
-    /// Asks a lazy object. It computes only what it uses and has no current value. Where memory is wanting, what was
-    /// computed before stays.
+    /// Asks for the value of a lazy object. Recomputes only what the object uses and is out of date.
+    ///
+    /// # Errors
+    ///
+    /// `AllocError` where memory runs out. Then objects that were recomputed keep their values.
     pub fn ask<B: Bench>(&mut self, object: ObjId, bench: &mut B) -> Result<Asked, AllocError>
         requires lazy { is_lazy_at self.old.market object ≡ true }
         requires sound { IsSound (B.calc bench.old) self.old }
@@ -375,23 +398,23 @@ impl Desk {
             (B.count bench.old) (B.count bench.new) (B.log bench.old) (B.log bench.new)) }
         ensures stops { OnErr result (Stops (B.calc bench.old) object self.old self.new
             (B.count bench.old) (B.count bench.new) (B.log bench.old) (B.log bench.new)) }
-        // No memory is wanted for an object that is frozen, late or current.
+        // An ask of a frozen, late or current object takes no memory.
         ensures ready { (held_outcome self.old object ≢ None) ⊎ ((kept_at self.old object).current ≡ true) → IsOk result }
         ensures few { IfOk result (λ answer. answer.runs < 2 ^ 17) }
-        // The last value is one that the object may have.
+        // The last value is one of the object's kind.
         ensures valued { (value : priced.Value) → (kept_at self.new object).last ≡ Some value → IsValued (terms_at self.new.market object) object value }
         ensures sound { IsSound (B.calc bench.old) self.new }
     {
         self.books.ask(&self.market, object, bench)
     }
 
-    /// What an ask answers of an object that is frozen, late or current: its last value, or that it has none. None exactly
-    /// where the object is none of these. Nothing is computed, and it takes no memory.
+    /// Returns the result of an ask of a frozen, late or current object: its last value, or that it has none. `None` exactly if
+    /// the object is none of these. Computes nothing and takes no memory.
     pub fn ask_held(&mut self, object: ObjId) -> Option<Asked>
         requires lazy { is_lazy_at self.old.market object ≡ true }
         ensures answer { result ≡ held_answer self.old object }
         ensures none { is_some result ≡ (is_frozen self.old object || (is_late self.old object || (kept_at self.old object).current)) }
-        // It is what an ask answers, of every bench for which the desk is sound.
+        // An ask returns the same, for every bench for which the desk is sound.
         ensures asks { (calc : Calc) → IsFitting calc → IsSound calc self.old → IfSome result (AnswersIdly calc object self.old) }
         ensures same { self.new ≡ self.old }
     {
@@ -401,7 +424,7 @@ impl Desk {
         }
     }
 
-    /// The least deferred source that makes an object late, if any does. It takes no memory.
+    /// Returns the least deferred source that makes an object late, if there is one. Takes no memory.
     pub fn late(&mut self, object: ObjId) -> Option<ObjId>
         requires lazy { is_lazy_at self.old.market object ≡ true }
         ensures answer { result ≡ least_source self.old object }
@@ -411,7 +434,7 @@ impl Desk {
         store.deferral.late(object)
     }
 
-    /// Whether an object is another, or lies above it: it names it, or an object above it.
+    /// Returns whether `from` is `to` or depends on it, by any number of steps.
     pub fn reaches(&mut self, from: ObjId, to: ObjId) -> bool
         ensures answer { result ≡ ((from == to) || reaches self.old.market from to) }
         ensures same { self.new ≡ self.old }
@@ -426,7 +449,11 @@ impl Desk {
         store.deferral.graph.reaches(from, to)
     }
 
-    /// What an object gives where another names it: a quote its rate, a handle what its target gives, a lazy object itself.
+    /// Returns what an object gives to those that name it: a quote its rate, a handle what its target gives, a lazy object itself.
+    ///
+    /// # Errors
+    ///
+    /// `AllocError` where memory runs out.
     pub fn given(&mut self, object: ObjId) -> Result<Entry, AllocError>
         requires within { object < length self.old.market.objects }
         ensures entry { IfOk result (λ entry. entry ≡ input_at self.old.market object) }
@@ -436,8 +463,8 @@ impl Desk {
     }
 }
 
-// An object that is no quote has other terms and is not current. Its observers are told, or it holds its notice back.
-// The graph is that of the new terms. It takes no memory, and costs what it tells.
+// Replaces the terms of an object that is no quote. It becomes out of date, and its observers are notified, at once or
+// deferred. The graph is that of the new terms. Takes no memory. The cost grows with the number of notified objects.
 fn revise(market: &mut Market, store: &mut Store, object: ObjId, terms: Terms)
     requires within { object < length market.old.objects }
     requires plain { has_quote (slice_index_or market.old.objects object Free) ≡ false }
@@ -454,8 +481,8 @@ fn revise(market: &mut Market, store: &mut Store, object: ObjId, terms: Terms)
     tell_changed(market, store, object);
 }
 
-// An object whose terms have changed is not current. Its observers are told, or it holds its notice back. The graph is
-// that of the new terms. It takes no memory, and costs what it tells.
+// Marks an object with changed terms as out of date and notifies its observers, at once or deferred. The graph is that of the
+// new terms. Takes no memory. The cost grows with the number of notified objects.
 fn tell_changed(market: &Market, store: &mut Store, object: ObjId)
     requires within { object < length market.now.objects }
     requires live { is_given (slice_index_or market.now.objects object Free) ≡ true }

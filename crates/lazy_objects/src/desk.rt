@@ -1,4 +1,4 @@
-// The objects of a session, and what is looked at of them. A clause sees the desk as its state.
+// The objects of a session, and the calls that read them. In clauses a desk is its state.
 ghost use Rattle.std.specs.Prelude.{◌≡◌, Option, ◌<◌, ◌^◌, [], true, Some, None, length, IfOk, ◌≤◌};
 ghost use Rattle.std.specs.Option.{option_copied};
 ghost use Rattle.desk_terms.specs.Reading.{Calc};
@@ -25,15 +25,15 @@ use std::alloc::{AllocError, Global};
 use std::marker::Model;
 use std::ops::Deref;
 
-/// The objects of a session by number, and what is stored of each. It takes memory from the allocator that it was made
-/// with. While deferral is on, a change tells nobody: what was changed holds its notice back until `resume`. A watcher
-/// that was told is remembered until `next_told` hands it out.
+/// The objects of a session by number, with their values and their observers. It allocates from the allocator that it was
+/// made with. While deferral is on, a change notifies nobody until `resume`. A notified watcher is remembered until
+/// `next_told` returns it.
 pub struct Desk {
     pub(crate) market: Market,
     pub(crate) books: Books,
 }
 
-// Who lets a desk go calls this at each exit, and does not let its parts go one by one.
+// Each exit of an owner of a desk calls this once, instead of dropping each field.
 impl Drop for Desk {
     fn drop(self) {
         let Desk {
@@ -43,14 +43,14 @@ impl Drop for Desk {
     }
 }
 
-/// How the value of an object stands (QuantLib's `LazyObject`).
+/// The state of an object's value (QuantLib's `LazyObject`).
 #[derive(Clone, Copy)]
 pub struct Marks {
-    /// Nothing that it was computed from has changed since (`calculated_`).
+    /// No dependency has changed since the value was computed (`calculated_`).
     pub current: bool,
-    /// The object answers it until it is thawed (`freeze`).
+    /// The object returns its last value until it is thawed (`frozen_`).
     pub frozen: bool,
-    /// The object changed while notices are held back, and has told nobody yet: it is a deferred source.
+    /// The object changed while notifications are deferred, and has notified nobody yet: it is a deferred source.
     pub source: bool,
 }
 
@@ -67,7 +67,7 @@ impl Model for Desk {
     ghost invariant = { λ d. Stands (state_in d.market d.books.store) d.books.scratch × IsJoined (market_in d.market) d.books.store.shape };
 }
 
-// What is read of the objects by their numbers (`kind`, `terms`, `quote`, `len`) is read of them.
+// The calls that read objects by number: `kind`, `terms`, `quote`, `len`.
 impl Deref for Desk {
     type Target = Objects;
 
@@ -80,7 +80,11 @@ impl Deref for Desk {
 }
 
 impl Desk {
-    /// A desk of `today` alone.
+    /// Makes a desk of `today` alone.
+    ///
+    /// # Errors
+    ///
+    /// `AllocError` where memory runs out.
     pub fn new(alloc: Global, today: Day) -> Result<Desk, AllocError>
         ensures start { IfOk result (λ desk. desk ≡ start today) }
         ensures sound { IfOk result (λ desk. (calc : Calc) → IsSound calc desk) }
@@ -102,8 +106,8 @@ impl Desk {
         })
     }
 
-    /// Whether an object is a watcher that is registered with another. It takes no memory, and costs what the watcher is
-    /// registered with.
+    /// Returns whether an object is a watcher that is registered with another. Takes no memory. The cost grows with the number of
+    /// the watcher's registrations.
     pub fn is_registered(&self, watcher: ObjId, object: ObjId) -> bool
         ensures { result ≡ is_registered self.now watcher object }
     {
@@ -116,7 +120,7 @@ impl Desk {
         self.books.store.has_pair(object, watcher)
     }
 
-    /// Whether an object is a watcher that is registered with any object.
+    /// Returns whether an object is a watcher with at least one registration.
     pub fn watching(&self, object: ObjId) -> bool
         ensures { result ≡ is_watching self.now object }
     {
@@ -124,7 +128,7 @@ impl Desk {
         self.is_watcher(object) && books.store.has_subject(object)
     }
 
-    // Whether an object is a watcher.
+    // Returns whether an object is a watcher.
     fn is_watcher(&self, object: ObjId) -> bool
         ensures { result ≡ is_watcher (slot_at self.now.market object) }
     {
@@ -132,7 +136,7 @@ impl Desk {
         matches!(self.market.objects.kind(object), Some(Kind::Watcher))
     }
 
-    /// The least object that observes another, if any does: a watcher observes nothing.
+    /// Returns the least object that depends on another, if there is one. Watchers do not count.
     pub fn user_of(&self, object: ObjId) -> Option<ObjId>
         ensures { result ≡ least_user self.now.market object }
     {
@@ -142,14 +146,14 @@ impl Desk {
         self.books.store.least_observer(object)
     }
 
-    /// The last value of an object, if it has one.
+    /// Returns the last value of an object, if it has one.
     pub fn last(&self, object: ObjId) -> Option<&Value>
         ensures { option_copied result ≡ (kept_at self.now object).last }
     {
         self.books.store.last(object)
     }
 
-    /// How the value of an object stands: nothing of it holds where no object lives at the number.
+    /// Returns the state of an object's value. All fields are false if no object has the number.
     pub fn marks(&self, object: ObjId) -> Marks
         ensures current { result.current ≡ (kept_at self.now object).current }
         ensures frozen { result.frozen ≡ (kept_at self.now object).frozen }
@@ -162,8 +166,7 @@ impl Desk {
         }
     }
 
-    /// Does nothing: what is known of the shape of every desk: each object names others of the right kinds, and its terms
-    /// are in range.
+    /// A law, which does nothing: in every desk each object names others of the right kinds, and its terms are in range.
     pub fn shape(&self)
         ensures whole { IsWhole self.now }
         ensures kinds { IsKinded self.now.market }
@@ -172,7 +175,7 @@ impl Desk {
         let _ = &self.books;
     }
 
-    /// The evaluation date.
+    /// Returns the evaluation date.
     pub fn today(&self) -> Day
         ensures { result ≡ self.now.market.today }
     {
@@ -180,7 +183,7 @@ impl Desk {
         self.market.today
     }
 
-    /// The rate that an index has stored for a day; none where it has none, and where the object is no index.
+    /// Returns the fixing that an index has for a day. `None` if it has none, or the object is no index.
     pub fn fixing(&self, index: ObjId, day: Day) -> Option<Rate>
         ensures { result ≡ fixing_on (fixings_in (index_at self.now.market (Some index))) day }
     {
@@ -190,7 +193,7 @@ impl Desk {
         }
     }
 
-    /// How many numbers were given, that of `today` among them.
+    /// Returns how many numbers were given, with that of `today`.
     pub fn numbers(&self) -> u32
         ensures number { result ≡ length self.now.market.objects }
         ensures limit { result ≤ 2 ^ 16 }

@@ -1,7 +1,16 @@
-//! The objects of a session: what is stored of each, who observes whom, and what is computed when one is asked for
+//! The objects of a session: their terms, values and observers, and the lazy recomputation of a value that is asked for
 //! (QuantLib's `LazyObject`).
 //!
-//! `Desk`, which a clause sees as its `State`, and `Marks`; `Recalced`.
+//! `Desk` owns them, `Marks` has the state of a value, `Recalced` the result of a recalculation. In clauses a desk is its
+//! `State` (desk_model). A program with names and watchers uses a session (session_core, pricing_session) instead:
+//!
+//! ```text
+//! let mut desk = Desk::new(alloc, today)?;
+//! let quote = desk.add(Terms::Quote(Some(rate)))?;
+//! let stock = desk.add(Terms::Stock { quote })?;
+//! desk.set_quote(quote, Some(other));
+//! let asked = desk.ask(stock, &mut bench)?;
+//! ```
 #![tactic(auto)]
 
 mod changes;

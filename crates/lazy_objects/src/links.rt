@@ -1,4 +1,4 @@
-// What a handle stands for, and the pair that goes with it or with an engine.
+// The target of a handle, and the pair in the graph that belongs to a target or an engine.
 ghost use Rattle.std.specs.Prelude.{◌≡◌, ◌<◌, ◌+◌, ℕ, true, Some, None, IfSome, is_some, slice_index_or};
 ghost use Rattle.walks.specs.Walk.{Among};
 ghost use Rattle.desk_terms.specs.declared.terms.Terms.TheVariants.{Handle};
@@ -12,14 +12,14 @@ use desk_names::ObjId;
 use desk_terms::{HandleKind, Terms};
 use object_store::{Objects, Store};
 
-/// What a handle stands for.
+/// The target of a handle and its kind.
 #[derive(Clone, Copy)]
 pub struct Link {
     pub kind: HandleKind,
     pub target: Option<ObjId>,
 }
 
-/// What a handle stands for now.
+/// Returns the current target of a handle.
 pub fn link_of(objects: &Objects, handle: ObjId) -> Link
     requires { is_handle (terms_in (slice_index_or objects.now handle Free)) ≡ true }
     ensures { terms_in (slice_index_or objects.now handle Free) ≡ Some (Handle result.kind result.target) }
@@ -44,7 +44,7 @@ pub fn link_of(objects: &Objects, handle: ObjId) -> Link
     }
 }
 
-/// An object observes this one too, if there is one, by a spare place. It takes no memory.
+/// Makes `observer` observe `subject`, if there is one, in a spare place. Takes no memory.
 pub fn watch_any(store: &mut Store, subject: Option<ObjId>, observer: ObjId)
     requires room { IfSome subject (λ _. 0 < store.old.shape.spare) }
     requires subject { IfSome subject (λ x. is_some (role_at store.old.shape x) ≡ true) }
@@ -59,7 +59,7 @@ pub fn watch_any(store: &mut Store, subject: Option<ObjId>, observer: ObjId)
     }
 }
 
-/// An object does not observe this one, if there is one, which leaves a spare place. It takes no memory.
+/// Ends the observation of `subject`, if there is one, which leaves a spare place. Takes no memory.
 pub fn unwatch_any(store: &mut Store, subject: Option<ObjId>, observer: ObjId)
     requires subject { IfSome subject (λ x. is_some (role_at store.old.shape x) ≡ true) }
     requires observer { is_some (role_at store.old.shape observer) ≡ true }
@@ -73,8 +73,8 @@ pub fn unwatch_any(store: &mut Store, subject: Option<ObjId>, observer: ObjId)
     };
 }
 
-/// An object observes another target or engine, or none, in place of the one held, if it holds one: the pair that goes leaves
-/// its place to the one that comes. An object that holds none has a spare place. It takes no memory.
+/// Replaces the target or engine that `observer` observes: the pair that goes leaves its place to the new one. Where `held` is
+/// none, there is a spare place. Takes no memory.
 pub fn watch_instead(
     store: &mut Store,
     held: &Option<ObjId>,

@@ -1,4 +1,4 @@
-// Room for what a holder may come to hold.
+// Spare places in the graph for targets and engines that are set later.
 ghost use Rattle.std.specs.Prelude.{◌≡◌, ◌≤◌, ◌<◌, ◌+◌, ◌^◌, ℕ, OnOk, OnErr, if◌then◌else◌};
 ghost use Rattle.object_store.specs.Shape.{vacancy_of};
 
@@ -6,9 +6,12 @@ use desk_terms::Terms;
 use object_store::Store;
 use std::alloc::AllocError;
 
-/// Finds room for the pair of an object with these terms, where it holds nothing yet, beside the pairs that the objects
-/// before it may come to hold, of which each has one at most. No memory is wanted for any other object. After want of
-/// memory nothing is changed.
+/// Reserves a place for the pair of an object with these terms that has no target or engine yet, beside the places of the
+/// `numbers` objects before it, at most one each. Other objects need no place.
+///
+/// # Errors
+///
+/// `AllocError` where memory runs out. Then nothing has changed.
 pub fn make_room(store: &mut Store, terms: &Terms, numbers: usize) -> Result<(), AllocError>
     requires few { numbers < 2 ^ 16 }
     ensures spares { OnOk result (store.new ≡ record store.old { shape = record store.old.shape { spare = store.new.shape.spare } }) }
@@ -22,7 +25,7 @@ pub fn make_room(store: &mut Store, terms: &Terms, numbers: usize) -> Result<(),
     Ok(())
 }
 
-// Whether an object with these terms holds nothing and may come to hold something.
+// Returns whether an object with these terms has no target or engine and may get one.
 fn is_vacant(terms: &Terms) -> bool
     ensures { vacancy_of terms.now ≡ (if result then 1 else 0) }
 {

@@ -1,4 +1,4 @@
-// The weights of a composite's members.
+// The weights of the members of a composite.
 ghost use Rattle.std.specs.Prelude.{◌≡◌, ◌≢◌, ◌↔◌, ◌≤◌, ◌++◌, ◌∷◌, [], ℕ, pos, true, false, is_some, Some, IsOk, IfOk, OnOk, OnErr, slice_index_or, slice_set};
 ghost use Rattle.walks.specs.Walk.{Among};
 ghost use Rattle.desk_terms.specs.Parts.{AreEachInRange};
@@ -19,7 +19,7 @@ use desk_terms::{Part, PartList, Terms};
 use object_store::{Objects, Store, parts_of};
 use std::alloc::{AllocError, Global};
 
-/// The place of an object among parts, counted from 0; none where it is no member.
+/// Returns the place of a member among the parts, from 0. `None` if it is no member.
 pub fn place_of(parts: &[Part], is_member: bool, member: ObjId) -> Option<usize>
     requires { is_member ≡ has_member parts.now member }
     ensures { result ≡ place_of parts.now member }
@@ -30,7 +30,7 @@ pub fn place_of(parts: &[Part], is_member: bool, member: ObjId) -> Option<usize>
     parts.iter().position(|part| part.member == member)
 }
 
-/// Whether an object that stands at a place has this weight in a composite: 0 where it is no member.
+/// Returns whether the member at a place has this weight. A member without a place has weight 0.
 pub fn has_weight(parts: &[Part], member: ObjId, place: Option<usize>, weight: i64) -> bool
     requires { place ≡ place_of parts.now member }
     ensures { result ≡ int_eq (weight_of parts.now member) weight }
@@ -38,14 +38,14 @@ pub fn has_weight(parts: &[Part], member: ObjId, place: Option<usize>, weight: i
     weight_at(parts, member, place) == weight
 }
 
-// The weight of a part.
+// Returns the weight of a part.
 fn weight_in(part: &Part) -> i64
     ensures { result ≡ part.now.weight }
 {
     part.weight
 }
 
-// The weight of an object that stands at a place; 0 where it is no member.
+// Returns the weight of the member at a place, and 0 without a place.
 fn weight_at(parts: &[Part], member: ObjId, place: Option<usize>) -> i64
     requires { place ≡ place_of parts.now member }
     ensures { result ≡ weight_of parts.now member }
@@ -56,9 +56,12 @@ fn weight_at(parts: &[Part], member: ObjId, place: Option<usize>) -> i64
     }
 }
 
-/// An object that stands at a place has another weight in a composite: one that is no member joins at the end, a member
-/// keeps its place, and weight 0 takes a member out. The composite observes its members. After want of memory nothing is
-/// changed, and a member that keeps its place wants none.
+/// Sets the weight of a member: a new one is appended, an existing one keeps its place, and weight 0 removes it. The composite
+/// observes its members.
+///
+/// # Errors
+///
+/// `AllocError` where memory runs out. Then nothing has changed. A member that keeps its place takes no memory.
 pub fn weigh(
     alloc: Global,
     objects: &mut Objects,
@@ -91,7 +94,7 @@ pub fn weigh(
     }
 }
 
-// An object joins a composite at the end, and is observed. After want of memory nothing is changed.
+// Appends a member to a composite, which observes it. Out of memory, nothing has changed.
 fn join(
     objects: &mut Objects,
     store: &mut Store,
@@ -118,7 +121,7 @@ fn join(
     Ok(())
 }
 
-// A member is taken out of a composite, and is observed no more. After want of memory nothing is changed.
+// Removes a member from a composite, which observes it no more. Out of memory, nothing has changed.
 fn take_out(
     alloc: Global,
     objects: &mut Objects,

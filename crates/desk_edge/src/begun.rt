@@ -1,4 +1,4 @@
-// The file that is begun.
+// The open file of a shelf.
 ghost use Rattle.std.specs.Prelude.{◌≡◌, ◌≤◌, length, is_some, None, Some, Ok, IfOk, IfSome, option_map};
 ghost use Rattle.std.specs.Io.KnownBytes.{ReadConsumes};
 
@@ -6,7 +6,7 @@ use std::io;
 use std::io::Read;
 use std::marker::Model;
 
-// The reader of the file begun, where one is. Contracts see what it has left, where it tells that.
+// The reader of the open file, if there is one. Clauses see the bytes that it has left, where the reader specifies them.
 #[derive(Drop)]
 pub(crate) struct Begun<F: Read + Drop> {
     reader: Option<F>,
@@ -22,14 +22,14 @@ impl<F: Read + Drop> Model for Begun<F> {
 }
 
 impl<F: Read + Drop> Begun<F> {
-    // No file is begun.
+    // No open file.
     pub(crate) fn none() -> Begun<F>
         ensures { result ≡ None }
     {
         Begun { reader: None }
     }
 
-    // The file of this reader is begun.
+    // The open file is the one of this reader.
     pub(crate) fn of(reader: F) -> Begun<F>
         ensures { result ≡ Some (F.remaining reader) }
     {
@@ -38,7 +38,7 @@ impl<F: Read + Drop> Begun<F> {
         }
     }
 
-    // The next bytes of the file begun: none where none is.
+    // Reads the next bytes of the open file. Returns 0 if no file is open.
     pub(crate) fn read(&mut self, buf: &mut [u8]) -> io::Result<usize>
         ensures within { IfOk result (λ count. count ≤ length buf.old) }
         ensures kept { is_some self.new ≡ is_some self.old }

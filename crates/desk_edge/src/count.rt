@@ -2,7 +2,7 @@
 ghost use Rattle.std.specs.Prelude.{◌≡◌};
 ghost use Rattle.desk_edge.specs.Count.{raised};
 
-// The count after one more. It stands still at its last value.
+// Returns the next count. The greatest count stays as it is.
 pub fn one_more(count: u64) -> u64
     ensures { result ≡ raised count }
 {

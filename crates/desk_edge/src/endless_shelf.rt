@@ -1,10 +1,10 @@
-// A shelf of files that never end.
+// A shelf of endless files, for tests.
 ghost use Rattle.std.specs.Prelude.{◌≡◌, ◌<◌, true, Ok, length, replicate};
 
 use crate::{Failed, Shelf};
 use std::marker::Model;
 
-/// Files of one byte without end: each path has one. Contracts see the byte, and no bytes by path.
+/// Has an endless file of one byte value at each path. Clauses see the byte value, and no contents by path.
 #[derive(Drop)]
 pub struct EndlessShelf {
     byte: u8,
@@ -19,14 +19,14 @@ impl Model for EndlessShelf {
 }
 
 impl EndlessShelf {
-    /// A shelf whose files have this byte alone.
+    /// Makes a shelf whose files consist of this byte.
     pub fn new(byte: u8) -> EndlessShelf
         ensures { result ≡ byte }
     {
         EndlessShelf { byte }
     }
 
-    /// As `Shelf::find`. Each path is found.
+    /// See `Shelf::find`. Every path is found.
     pub fn find(&mut self, _path: &str) -> Result<bool, Failed>
         ensures found { result ≡ Ok true }
         ensures same { self.new ≡ self.old }
@@ -34,7 +34,7 @@ impl EndlessShelf {
         Ok(true)
     }
 
-    /// As `Shelf::take`. All of buf becomes the byte.
+    /// See `Shelf::take`. Fills the whole of `buf` with the byte.
     pub fn take(&mut self, buf: &mut [u8]) -> Result<usize, Failed>
         ensures count { result ≡ Ok (length buf.old) }
         ensures bytes { buf.new ≡ replicate (length buf.old) self.old }
@@ -56,7 +56,7 @@ impl Shelf for EndlessShelf {
 
     ghost calls = { λ _. 0 };
 
-    // No file is told and no call fails, so the trait's clauses say little of it: these are the shelf's own.
+    // The shelf specifies no contents and no call fails, so the clauses of the trait say little. These are its own.
     fn find(&mut self, path: &str) -> Result<bool, Failed>
         ensures found { result ≡ Ok true }
         ensures same { self.new ≡ self.old }

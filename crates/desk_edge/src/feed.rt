@@ -1,20 +1,24 @@
-// A feed of bytes, which come in pieces.
+// A stream of bytes that arrive in pieces.
 ghost use Rattle.std.specs.Prelude.{◌≡◌, ◌<◌, ◌≤◌, ℕ, List, Option, length, IfOk, OnErr};
 ghost use Rattle.std.specs.Io.KnownBytes.{ReadConsumes};
 ghost use Rattle.desk_edge.specs.Count.{raised};
 
 use crate::Failed;
 
-/// Bytes that come in order, in pieces of any sizes, until they end (this project's profile).
+/// A stream of bytes that arrive in order, in pieces of any size, until it ends (this project's profile).
 pub trait Feed {
-    /// The bytes that are still to come, where the feed tells them.
+    /// The bytes that have not arrived yet, where the feed specifies them.
     ghost content: { Self → Option (List ℕ) };
 
-    /// How many calls failed, as a u64 that stands still at its last value.
+    /// How many calls failed: a u64 that stays at its greatest value.
     ghost faults: { Self → ℕ };
 
-    /// Waits for the next piece, puts it at the front of buf, and answers how many bytes it has, at most as many as there is
-    /// room for. 0 means the end. What stands in buf behind them is not promised.
+    /// Waits for the next piece, copies it to the start of `buf`, and returns its length in bytes, at most the length of `buf`. 0
+    /// means the end of the stream. The rest of `buf` is unspecified.
+    ///
+    /// # Errors
+    ///
+    /// `Failed` where the system reports an error. The count of faults has risen.
     fn take(&mut self, buf: &mut [u8]) -> Result<usize, Failed>
         requires { 0 < length buf.old }
         ensures within { IfOk result (λ count. count ≤ length buf.old) }

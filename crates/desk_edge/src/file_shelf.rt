@@ -1,4 +1,4 @@
-// A shelf of the system's files.
+// A shelf over the system's files.
 ghost use Rattle.std.specs.Prelude.{◌≡◌, ◌≤◌, ◌<◌, false, is_some, None, Ok, length, IfOk, IfSome, OnErr};
 ghost use Rattle.std.specs.Io.KnownBytes.{Keeps, ReadConsumes};
 ghost use Rattle.desk_edge.specs.Count.{Rose, raised};
@@ -12,10 +12,9 @@ use std::marker::Model;
 use std::rt::Files;
 use std::{fs, io};
 
-/// The system's files, each read from its first byte on. Contracts see its counts of faults and of
-/// misses, whether a file is begun, and what its reader has left, where it tells that; and no bytes by
-/// path. A folder, a path through a file and a path with a zero byte are faults, and an empty path is
-/// not found.
+/// The system's files, each read from its first byte. Clauses see the counts of faults and misses, whether a file is open, and
+/// what its reader has left, where the reader specifies that. They see no contents by path. A folder, a path through a file
+/// and a path with a zero byte are faults. An empty path is not found.
 #[derive(Drop)]
 pub struct FileShelf<R: Files + Drop> {
     files: R,
@@ -37,7 +36,7 @@ impl<R: Files + Drop> Model for FileShelf<R> {
 }
 
 impl<R: Files + Drop> FileShelf<R> {
-    /// A shelf of the files that this handle reaches, none of them begun.
+    /// Makes a shelf of the files that this handle reaches, with none open.
     pub fn new(files: R) -> FileShelf<R>
         ensures { result ≡ record {
           begun = None;
@@ -53,7 +52,7 @@ impl<R: Files + Drop> FileShelf<R> {
         }
     }
 
-    /// As `Shelf::find`. After a miss or a fault no file is begun.
+    /// See `Shelf::find`. After a miss or a fault no file is open.
     pub fn find(&mut self, path: &str) -> Result<bool, Failed>
         ensures found { IsFound result self.old self.new }
         ensures faults { self.old.faults ≤ self.new.faults }
@@ -76,9 +75,8 @@ impl<R: Files + Drop> FileShelf<R> {
         }
     }
 
-    /// As `Shelf::take`. Where the reader of the file begun tells what it has left, the bytes are those
-    /// that it loses, 0 means that none is left, and after a fault it has what it had. However it ends, the
-    /// file stays begun.
+    /// See `Shelf::take`. Where the open file's reader specifies what it has left, the bytes are those that it loses, 0 means that
+    /// none is left, and after a fault it has lost none. The file stays open on every exit.
     pub fn take(&mut self, buf: &mut [u8]) -> Result<usize, Failed>
         ensures within { IfOk result (λ count. count ≤ length buf.old) }
         ensures begun { is_some self.new.begun ≡ is_some self.old.begun }
@@ -108,7 +106,7 @@ impl<R: Files + Drop> Shelf for FileShelf<R> {
 
     ghost calls = { λ _. 0 };
 
-    // No file is told, so of the trait's clauses those on counts speak; the others are the shelf's own.
+    // The shelf specifies no contents, so only the trait's clauses on counts apply. The others are the shelf's own.
     fn find(&mut self, path: &str) -> Result<bool, Failed>
         ensures found { IsFound result self.old self.new }
         ensures missed { IfOk result (λ found. found ≡ false → Rose self.old.misses self.new.misses) }
@@ -135,7 +133,7 @@ impl<R: Files + Drop> Shelf for FileShelf<R> {
     }
 }
 
-// What the system's answer to an open says of the path: NotFound alone means that no file has it.
+// The system's result of an open, as a result of `find`: only NotFound means that the path has no file.
 fn opening<F: Drop>(opened: io::Result<F>) -> Result<Option<F>, Failed>
     ensures { Opens opened result }
 {

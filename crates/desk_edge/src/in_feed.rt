@@ -8,8 +8,8 @@ use crate::{Failed, Feed};
 use std::io::Read;
 use std::marker::Model;
 
-/// A reader, such as standard input, read once at each call: of a pipe that gives what has come, and waits where nothing
-/// has. Contracts see what the reader has left, where it tells that, and the count of faults.
+/// A feed over a reader such as standard input, which is read once a call. A pipe gives the bytes that have arrived, and waits
+/// if there are none. Clauses see what the reader has left, where it specifies that, and the count of faults.
 #[derive(Drop)]
 pub struct InFeed<R: Read + Drop> {
     reader: R,
@@ -37,7 +37,7 @@ impl<R: Read + Drop> InFeed<R> {
         InFeed { reader, faults: 0 }
     }
 
-    /// As `Feed::take`.
+    /// See `Feed::take`.
     pub fn take(&mut self, buf: &mut [u8]) -> Result<usize, Failed>
         ensures within { IfOk result (λ count. count ≤ length buf.old) }
         ensures bytes { ReadConsumes self.old.left self.new.left result buf.new }

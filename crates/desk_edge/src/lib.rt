@@ -1,9 +1,15 @@
-//! The edge of the program: files that are read whole, from a shelf, bytes that come in pieces, from a feed, and bytes that
-//! are written in order, to a sink. A shelf, a feed or a sink in memory tells its bytes to contracts; those over real files,
-//! readers and writers tell none.
-//! It offers `Shelf`, `Feed`, `Sink`, `Failed`, `read_whole`, `ReadFault`, `write_whole`,
-//! `MemoryFile`, `FileList`, `CallList`, `SizeList`, `MemoryShelf`, `MemoryFeed`, `MemorySink`, `EndlessShelf`, `FileShelf`,
-//! `InFeed` and `OutSink`.
+//! Files, input and output of the programs: files that are read whole (`Shelf`), a stream that arrives in pieces (`Feed`) and
+//! output in order (`Sink`).
+//!
+//! Code that is proved takes one of these traits. A program hands it the system's files and streams (`FileShelf`, `InFeed`,
+//! `OutSink`). Tests hand it bytes in memory, whose listed calls fail (`MemoryShelf`, `MemoryFeed`, `MemorySink`), or files
+//! without end (`EndlessShelf`). Only those in memory specify their contents to clauses.
+//!
+//! ```text
+//! let mut text = Vec::new_in(alloc);
+//! if !read_whole(&mut shelf, "market.toml", &mut text)? { /* there is no such file */ }
+//! write_whole(&mut sink, &text)?;
+//! ```
 #![tactic(auto)]
 
 mod begun;

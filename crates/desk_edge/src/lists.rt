@@ -1,4 +1,4 @@
-// Files and numbers of calls for the shelf and the sink in memory.
+// Files, call numbers and sizes for the shelf, feed and sink in memory.
 ghost use Rattle.std.specs.Prelude.{◌≡◌, ◌≤◌, length, string_bytes, nat_lt, is_some};
 ghost use Rattle.desk_edge.specs.FileList.{bytes_of};
 ghost use Rattle.desk_edge.specs.Shelf.{file_at, bytes_at};
@@ -6,7 +6,7 @@ ghost use Rattle.desk_edge.specs.Shelf.{file_at, bytes_at};
 use item_lists::Items;
 use std::marker::Model;
 
-/// A file in memory. Contracts see the pair of its path and its bytes.
+/// A file in memory. Clauses see the pair of its path and its bytes.
 #[derive(Drop)]
 pub struct MemoryFile {
     path: String,
@@ -41,16 +41,16 @@ impl MemoryFile {
     }
 }
 
-/// Files in order. Contracts see the list of their pairs.
+/// Files in order. Clauses see the list of their pairs.
 pub type FileList = Items<MemoryFile>;
 
-/// Numbers of calls, counted from 1.
+/// Numbers of calls, from 1.
 pub type CallList = Items<u64>;
 
-/// The sizes of pieces in order, in bytes.
+/// Sizes of pieces in order, in bytes.
 pub type SizeList = Items<usize>;
 
-// The place of the first file with this path, and the length where there is none.
+// Returns the place of the first file with this path, and the length of the list if there is none.
 pub(crate) fn place_of(files: &FileList, path: &str) -> usize
     ensures within { result ≤ length files.now }
     ensures found { nat_lt result (length files.now) ≡ is_some (file_at files.now path.now) }
@@ -65,7 +65,7 @@ pub(crate) fn place_of(files: &FileList, path: &str) -> usize
     items.len()
 }
 
-// The bytes of the file at this place, and none where the list ends before it.
+// Returns the bytes of the file at this place, and none past the end of the list.
 pub(crate) fn bytes_at(files: &FileList, at: usize) -> &[u8]
     ensures { result.now ≡ bytes_of files.now at }
 {

@@ -1,4 +1,4 @@
-// A feed of bytes in memory.
+// A feed over bytes in memory.
 ghost use Rattle.std.specs.Prelude.{◌≡◌, ◌≤◌, Some, length, take, IfOk};
 ghost use Rattle.desk_edge.specs.MemoryFeed.{most_of, take_answer, after_take};
 
@@ -6,8 +6,8 @@ use crate::count::one_more;
 use crate::{CallList, Failed, Feed, SizeList};
 use std::marker::Model;
 
-/// Bytes in memory, in pieces of given sizes, and whose listed calls fail. The calls are numbered from 1. A call that does
-/// not fail uses up a size, of which 0 counts as 1; where none is left, it gives all that there is room for.
+/// Bytes in memory that arrive in pieces of given sizes, with failing calls. Calls are numbered from 1. Each call that does
+/// not fail uses the next size, of which 0 counts as 1. Without a size left, a call fills the buffer.
 #[derive(Drop)]
 pub struct MemoryFeed {
     bytes: Vec<u8>,
@@ -37,7 +37,7 @@ impl Model for MemoryFeed {
 }
 
 impl MemoryFeed {
-    /// A feed of these bytes, before any call.
+    /// Makes a feed of these bytes, piece sizes and numbers of failing calls.
     pub fn new(bytes: Vec<u8>, sizes: SizeList, fails: CallList) -> MemoryFeed
         ensures { result ≡ record {
           rest = bytes.items;
@@ -58,21 +58,21 @@ impl MemoryFeed {
         }
     }
 
-    /// How many calls were made.
+    /// Returns how many calls were made.
     pub fn calls(&self) -> u64
         ensures { result ≡ self.now.calls }
     {
         self.calls
     }
 
-    /// How many calls failed.
+    /// Returns how many calls failed.
     pub fn faults(&self) -> u64
         ensures { result ≡ self.now.faults }
     {
         self.faults
     }
 
-    /// As `Feed::take`. It fails exactly where its number is listed.
+    /// See `Feed::take`. Fails exactly if the number of the call is listed.
     pub fn take(&mut self, buf: &mut [u8]) -> Result<usize, Failed>
         ensures answer { result ≡ take_answer self.old (length buf.old) }
         ensures state { self.new ≡ after_take self.old (length buf.old) }
@@ -106,7 +106,7 @@ impl Feed for MemoryFeed {
     }
 }
 
-// The most bytes of the next piece.
+// Returns the greatest length of the next piece.
 fn most_of(sizes: &[usize], room: usize) -> usize
     ensures { result ≡ most_of sizes.now room }
 {

@@ -7,14 +7,14 @@ use crate::lists::{bytes_at, place_of};
 use crate::{CallList, Failed, FileList, Shelf};
 use std::marker::Model;
 
-/// Files in memory, of which each call gives at most so many bytes, and whose listed calls fail. The
-/// calls of find and of take are numbered together, from 1.
+/// Files in memory, with a limit of bytes for each call and failing calls. Calls of `find` and `take` are numbered together,
+/// from 1.
 #[derive(Drop)]
 pub struct MemoryShelf {
     files: FileList,
     most: usize,
     fails: CallList,
-    // The file begun, or the number of files where none is.
+    // The place of the open file, and the number of files if none is open.
     at: usize,
     place: usize,
     calls: u64,
@@ -42,7 +42,7 @@ impl Model for MemoryShelf {
 }
 
 impl MemoryShelf {
-    /// A shelf of these files, none of them begun, before any call.
+    /// Makes a shelf of these files, of which a call returns at most `most` bytes. The calls with the numbers in `fails` fail.
     pub fn new(files: FileList, most: usize, fails: CallList) -> MemoryShelf
         requires { 1 ≤ most }
         ensures { result ≡ record {
@@ -67,28 +67,28 @@ impl MemoryShelf {
         }
     }
 
-    /// How many calls were made.
+    /// Returns how many calls were made.
     pub fn calls(&self) -> u64
         ensures { result ≡ self.now.calls }
     {
         self.calls
     }
 
-    /// How many calls failed.
+    /// Returns how many calls failed.
     pub fn faults(&self) -> u64
         ensures { result ≡ self.now.faults }
     {
         self.faults
     }
 
-    /// How many times no file had the path.
+    /// Returns how many times no file had the path.
     pub fn misses(&self) -> u64
         ensures { result ≡ self.now.misses }
     {
         self.misses
     }
 
-    /// As `Shelf::find`. It fails exactly where its number is listed.
+    /// See `Shelf::find`. Fails exactly if the number of the call is listed.
     pub fn find(&mut self, path: &str) -> Result<bool, Failed>
         ensures answer { result ≡ find_answer self.old path.now }
         ensures state { self.new ≡ after_find self.old path.now }
@@ -110,7 +110,7 @@ impl MemoryShelf {
         Ok(found)
     }
 
-    /// As `Shelf::take`. It fails exactly where its number is listed.
+    /// See `Shelf::take`. Fails exactly if the number of the call is listed.
     pub fn take(&mut self, buf: &mut [u8]) -> Result<usize, Failed>
         ensures answer { result ≡ take_answer self.old (length buf.old) }
         ensures state { self.new ≡ after_take self.old (length buf.old) }

@@ -7,9 +7,8 @@ use crate::{CallList, Failed, Sink};
 use std::alloc::{AllocError, Global};
 use std::marker::Model;
 
-/// Bytes in memory, of which each call takes at most so many, until the room is used up, and whose
-/// listed calls fail. The calls of put and of flush are numbered together, from 1. Memory is taken when the sink is made, and by no
-/// call of it.
+/// A buffer of fixed size, with a limit of bytes for each call and failing calls. Calls of `put` and `flush` are numbered
+/// together, from 1. `new` allocates the buffer, and no other call allocates.
 #[derive(Drop)]
 pub struct MemorySink {
     bytes: Vec<u8>,
@@ -43,7 +42,11 @@ impl Model for MemorySink {
 }
 
 impl MemorySink {
-    /// A sink with room for so many bytes, before any call.
+    /// Makes a sink with room for `room` bytes, of which a call takes at most `most`. The calls with the numbers in `fails` fail.
+    ///
+    /// # Errors
+    ///
+    /// `AllocError` where memory runs out.
     pub fn new(
         alloc: Global,
         room: usize,
@@ -73,36 +76,35 @@ impl MemorySink {
         })
     }
 
-    /// The bytes taken so far.
+    /// Returns the bytes that were put.
     pub fn bytes(&self) -> &[u8]
         ensures { result.now ≡ self.now.bytes }
     {
         &self.bytes
     }
 
-    /// The bytes flushed so far.
+    /// Returns the bytes that were flushed.
     pub fn sent(&self) -> &[u8]
         ensures { result.now ≡ self.now.sent }
     {
         &self.bytes.as_slice()[..self.sent]
     }
 
-    /// How many calls were made.
+    /// Returns how many calls were made.
     pub fn calls(&self) -> u64
         ensures { result ≡ self.now.calls }
     {
         self.calls
     }
 
-    /// How many calls failed.
+    /// Returns how many calls failed.
     pub fn faults(&self) -> u64
         ensures { result ≡ self.now.faults }
     {
         self.faults
     }
 
-    /// As `Sink::put`. It fails exactly where its number is listed, or the piece is not empty and the
-    /// room is used up.
+    /// See `Sink::put`. Fails exactly if the number of the call is listed, or if the piece is not empty and the buffer is full.
     pub fn put(&mut self, piece: &[u8]) -> Result<usize, Failed>
         ensures answer { result ≡ put_answer self.old piece.now }
         ensures state { self.new ≡ after_put self.old piece.now }
@@ -120,7 +122,7 @@ impl MemorySink {
         Ok(count)
     }
 
-    /// As `Sink::flush`. It fails exactly where its number is listed.
+    /// See `Sink::flush`. Fails exactly if the number of the call is listed.
     pub fn flush(&mut self) -> Result<(), Failed>
         ensures answer { result ≡ flush_answer self.old }
         ensures state { self.new ≡ after_flush self.old }

@@ -9,8 +9,8 @@ use std::io;
 use std::io::{Error, ErrorKind, Write};
 use std::marker::Model;
 
-/// A writer, such as standard output, that is flushed at each put. Contracts see its count of faults,
-/// and what the writer holds, where it tells that. As a `Sink` it tells no bytes.
+/// A sink over a writer such as standard output, which is flushed at each put. Clauses see the count of faults, and what the
+/// writer holds, where the writer specifies that. As a `Sink` it specifies no bytes.
 #[derive(Drop)]
 pub struct OutSink<W: Write + Drop> {
     writer: W,
@@ -38,8 +38,8 @@ impl<W: Write + Drop> OutSink<W> {
         OutSink { writer, faults: 0 }
     }
 
-    /// As `Sink::put`. Where the writer tells what it holds, it has the bytes that are answered, after a
-    /// fault a front of the piece, and nothing else.
+    /// See `Sink::put`. Where the writer specifies what it holds, it holds the bytes that the call returns, and after a fault a
+    /// prefix of the piece.
     pub fn put(&mut self, piece: &[u8]) -> Result<usize, Failed>
         ensures within { IfOk result (λ count. count ≤ length piece.now) }
         ensures some { IfOk result (λ count. count ≡ 0 → piece.now ≡ []) }
@@ -58,7 +58,7 @@ impl<W: Write + Drop> OutSink<W> {
         }
     }
 
-    /// As `Sink::flush`. Where the writer tells what it holds, it holds the same.
+    /// See `Sink::flush`. Where the writer specifies what it holds, that does not change.
     pub fn flush(&mut self) -> Result<(), Failed>
         ensures kept { Keeps self.old.written self.new.written }
         ensures quiet { OnOk result (self.new.faults ≡ self.old.faults) }
@@ -91,7 +91,7 @@ impl<W: Write + Drop> Sink for OutSink<W> {
     }
 }
 
-// Writes the first bytes of the piece, and has the writer hand them on. A write of nothing is an error.
+// Writes the first bytes of the piece and flushes the writer. A write of 0 bytes is an error.
 fn write_through<W: Write>(writer: &mut W, piece: &[u8]) -> io::Result<usize>
     ensures within { IfOk result (λ count. count ≤ length piece.now) }
     ensures some { IfOk result (λ count. count ≡ 0 → piece.now ≡ []) }

@@ -1,4 +1,4 @@
-// The read of a whole file.
+// Reads whole files.
 ghost use Rattle.std.specs.Prelude.{◌≡◌, ◌⊎◌, ◌+◌, ◌-◌, ◌<◌, ◌≤◌, ℕ, true, false, [], length, IfOk, IfSome, OnOk, OnErr, IsErrOf};
 ghost use Rattle.std.specs.Option.{option_map};
 ghost use Rattle.desk_edge.specs.Count.{Rose};
@@ -11,7 +11,7 @@ use std::alloc::AllocError;
 use text_limits::MOST_BYTES;
 use thiserror::Error;
 
-// How many bytes are asked for at once.
+// How many bytes a call of the shelf asks for.
 const PIECE: usize = 4096;
 
 /// Why a file was not read whole.
@@ -43,28 +43,31 @@ impl From<AllocError> for ReadFault {
     }
 }
 
-/// Reads the file with this path to its end into out. Ok(false): there is none. A file of `MOST_BYTES`
-/// bytes is read, and of a longer one `MOST_BYTES` + 1 bytes are taken. After a fault out holds the front
-/// of the file. However it ends, at most `MOST_BYTES` + 1 bytes are taken of the file that `find` began, and
-/// each `take` but the last gave a byte of out.
+/// Appends the whole file with this path to `out`. Returns false if there is no such file. On every exit at most `MOST_BYTES` + 1
+/// bytes were taken of the file, and each `take` but the last gave at least one byte of `out`.
+///
+/// # Errors
+///
+/// `Failed` where a call of the shelf failed, `TooLong` where the file has more than `MOST_BYTES` (8,388,608) bytes, `NoMemory`
+/// where memory runs out. Then `out` has a prefix of the file.
 pub fn read_whole<H: Shelf>(shelf: &mut H, path: &str, out: &mut Vec<u8>) -> Result<bool, ReadFault>
     requires { out.old.items ≡ [] }
     ensures files { files_of (H.contents shelf.new) ≡ files_of (H.contents shelf.old) }
     ensures reads { IfSome (files_of (H.contents shelf.old))
         (λ files. Reads files path.now result out.new.items) }
     ensures taken { IfSome (H.contents shelf.new) (Leaves path.now result) }
-    // On every exit: find failed and was the one call, or it began the file and so many bytes of it were taken.
+    // On every exit: `find` failed and was the only call, or it opened the file and so many bytes of it were taken.
     ensures few { ((H.contents shelf.new ≡ H.contents shelf.old) × (H.calls shelf.new ≤ H.calls shelf.old + 1))
         ⊎ ((count : ℕ) × (count ≤ MOST_BYTES + 1) × Took count path.now (H.contents shelf.old) (H.contents shelf.new)) }
-    // On every exit: beside find and the last call each call took a byte that stands in out.
+    // On every exit: apart from `find` and the last call, each call took a byte that is in `out`.
     ensures calls { H.calls shelf.new ≤ H.calls shelf.old + length out.new.items + 2 }
     ensures once { result ≡ Ok false → H.calls shelf.new ≤ H.calls shelf.old + 1 }
-    // On every exit: a file that is not there was looked for once.
+    // On every exit: a missing file was looked for once.
     ensures absent { IfSome (H.contents shelf.old) (λ c. file_at c.files path.now ≡ None
         → H.calls shelf.new ≤ H.calls shelf.old + 1) }
     ensures stops { IsErrOf result ReadFault.Failed → (H.contents shelf.new ≡ H.contents shelf.old)
         ⊎ Took (length out.new.items) path.now (H.contents shelf.old) (H.contents shelf.new) }
-    // Want of memory is answered only where bytes were taken that found no room, at most MOST_BYTES in all.
+    // Out of memory only if bytes were taken that `out` had no room for, at most MOST_BYTES in all.
     ensures halts { IsErrOf result ReadFault.NoMemory → (count : ℕ) × (0 < count) × (count ≤ PIECE)
         × (length out.new.items + count ≤ MOST_BYTES)
         × IfSome (H.contents shelf.old) (λ c. length out.new.items + count ≤ length (bytes_at c.files path.now))
@@ -73,7 +76,7 @@ pub fn read_whole<H: Shelf>(shelf: &mut H, path: &str, out: &mut Vec<u8>) -> Res
     ensures nothing { result ≡ Ok false → out.new.items ≡ [] }
     ensures missed { result ≡ Ok false → Rose (H.misses shelf.old) (H.misses shelf.new) }
     ensures failed { IsErrOf result ReadFault.Failed → Rose (H.faults shelf.old) (H.faults shelf.new) }
-    // A call that failed was the last, and only then Failed is the answer.
+    // A call that failed was the last one, and only then the result is `Failed`.
     ensures counted { H.faults shelf.new ≡ faults_after result (H.faults shelf.old) }
     ensures faults { H.faults shelf.old ≤ H.faults shelf.new }
     ensures misses { H.misses shelf.old ≤ H.misses shelf.new }
@@ -85,7 +88,7 @@ pub fn read_whole<H: Shelf>(shelf: &mut H, path: &str, out: &mut Vec<u8>) -> Res
     Ok(true)
 }
 
-// Reads the file begun to its end into out. It takes at most `MOST_BYTES` + 1 bytes, however it ends.
+// Appends the rest of the open file to `out`. Takes at most `MOST_BYTES` + 1 bytes on every exit.
 fn read_begun<H: Shelf>(shelf: &mut H, out: &mut Vec<u8>) -> Result<(), ReadFault>
     requires { out.old.items ≡ [] }
     ensures whole { OnOk result (IfSome (H.contents shelf.old) (λ c. out.new.items ≡ c.rest)) }
@@ -98,7 +101,7 @@ fn read_begun<H: Shelf>(shelf: &mut H, out: &mut Vec<u8>) -> Result<(), ReadFaul
         × (H.contents shelf.new ≡ option_map (passed count) (H.contents shelf.old)) }
     ensures stops { IsErrOf result ReadFault.Failed
         → H.contents shelf.new ≡ option_map (passed (length out.new.items)) (H.contents shelf.old) }
-    // Bytes were taken that found no room, at most MOST_BYTES in all.
+    // Bytes were taken that `out` had no room for, at most MOST_BYTES in all.
     ensures halts { IsErrOf result ReadFault.NoMemory → (count : ℕ) × (0 < count) × (count ≤ PIECE)
         × (length out.new.items + count ≤ MOST_BYTES)
         × IfSome (H.contents shelf.old) (λ c. length out.new.items + count ≤ length c.rest)
@@ -106,7 +109,7 @@ fn read_begun<H: Shelf>(shelf: &mut H, out: &mut Vec<u8>) -> Result<(), ReadFaul
     ensures most { length out.new.items ≤ MOST_BYTES }
     ensures calls { H.calls shelf.new ≤ H.calls shelf.old + length out.new.items + 1 }
     ensures failed { IsErrOf result ReadFault.Failed → Rose (H.faults shelf.old) (H.faults shelf.new) }
-    // A call that failed was the last, and only then Failed is the answer.
+    // A call that failed was the last one, and only then the result is `Failed`.
     ensures counted { H.faults shelf.new ≡ faults_after result (H.faults shelf.old) }
     ensures faults { H.faults shelf.old ≤ H.faults shelf.new }
     ensures misses { H.misses shelf.old ≤ H.misses shelf.new }
@@ -116,11 +119,11 @@ fn read_begun<H: Shelf>(shelf: &mut H, out: &mut Vec<u8>) -> Result<(), ReadFaul
     Ok(())
 }
 
-// Takes the next bytes of the file begun into out, by way of buf. Ok(false): there are none.
+// Appends the next bytes of the open file to `out` by way of `buf`. Returns false at the end of the file.
 fn take_more<H: Shelf>(shelf: &mut H, buf: &mut [u8], out: &mut Vec<u8>) -> Result<bool, ReadFault>
     requires some { 0 < length buf.old }
     requires most { length out.old.items ≤ MOST_BYTES }
-    // What out has and what is left make one file.
+    // `out` and what is left make up the file.
     ensures kept { OnOk result (put_back out.new.items (H.contents shelf.new)
         ≡ put_back out.old.items (H.contents shelf.old)) }
     ensures more { IfOk result (λ more. more ≡ true → length out.old.items < length out.new.items) }
@@ -133,7 +136,7 @@ fn take_more<H: Shelf>(shelf: &mut H, buf: &mut [u8], out: &mut Vec<u8>) -> Resu
     ensures few { (count : ℕ) × (count ≤ length buf.old) × (length out.old.items + count ≤ MOST_BYTES + 1)
         × (H.contents shelf.new ≡ option_map (passed count) (H.contents shelf.old)) }
     ensures stops { IsErrOf result ReadFault.Failed → H.contents shelf.new ≡ H.contents shelf.old }
-    // Bytes were taken that found no room, at most MOST_BYTES in all.
+    // Bytes were taken that `out` had no room for, at most MOST_BYTES in all.
     ensures halts { IsErrOf result ReadFault.NoMemory → (count : ℕ) × (0 < count) × (count ≤ length buf.old)
         × (length out.old.items + count ≤ MOST_BYTES)
         × IfSome (H.contents shelf.old) (λ c. count ≤ length c.rest)
@@ -142,7 +145,7 @@ fn take_more<H: Shelf>(shelf: &mut H, buf: &mut [u8], out: &mut Vec<u8>) -> Resu
     ensures grows { length out.old.items ≤ length out.new.items }
     ensures calls { H.calls shelf.new ≤ H.calls shelf.old + 1 }
     ensures failed { IsErrOf result ReadFault.Failed → Rose (H.faults shelf.old) (H.faults shelf.new) }
-    // A call that failed was the last, and only then Failed is the answer.
+    // A call that failed was the last one, and only then the result is `Failed`.
     ensures counted { H.faults shelf.new ≡ faults_after result (H.faults shelf.old) }
     ensures faults { H.faults shelf.old ≤ H.faults shelf.new }
     ensures misses { H.misses shelf.old ≤ H.misses shelf.new }

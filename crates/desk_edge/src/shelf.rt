@@ -1,4 +1,4 @@
-// A shelf of files: one file at a time is begun and taken from its first byte on.
+// A shelf of files: one file at a time is open, and read from its first byte.
 ghost use Rattle.std.specs.Prelude.{◌≡◌, ◌+◌, ◌<◌, ◌≤◌, ◌↔◌, ℕ, Option, false, [], length, take, is_some, IfOk, IfSome, OnOk, OnErr};
 ghost use Rattle.std.specs.Option.{option_map};
 ghost use Rattle.desk_edge.specs.Count.{Rose, raised};
@@ -6,27 +6,30 @@ ghost use Rattle.desk_edge.specs.Shelf.{Contents, file_at, files_of, begun, pass
 
 use thiserror::Error;
 
-/// A call of a shelf or a sink failed. The count of faults of that shelf or sink says that it did.
+/// A call of a shelf, feed or sink failed. The count of faults of that shelf, feed or sink has risen.
 #[derive(Clone, Copy, Debug, PartialEq, Eq, Error)]
 #[error("the call failed")]
 pub struct Failed;
 
-/// Files by path, of which one at a time is read in order (this project's profile).
+/// Files by path. One at a time is open and read in order (this project's profile).
 pub trait Shelf {
-    /// The files and what is left of the file begun, where the shelf tells them.
+    /// The files and the rest of the open file, where the shelf specifies them.
     ghost contents: { Self → Option Contents };
 
-    /// How many calls failed, as a u64 that stands still at its last value.
+    /// How many calls failed: a u64 that stays at its greatest value.
     ghost faults: { Self → ℕ };
 
-    /// How many times no file had the path, as a u64 that stands still at its last value.
+    /// How many times no file had the path: a u64 that stays at its greatest value.
     ghost misses: { Self → ℕ };
 
-    /// How many calls were made, where the shelf counts them: one that counts none tells 0.
+    /// How many calls were made, where the shelf counts them, else 0.
     ghost calls: { Self → ℕ };
 
-    /// Begins the file with this path at its first byte. Ok(false): there is none, and then none is
-    /// begun.
+    /// Opens the file with this path at its first byte. Returns false if there is none. Then no file is open.
+    ///
+    /// # Errors
+    ///
+    /// `Failed` where the file cannot be opened, though it may exist. The count of faults has risen.
     fn find(&mut self, path: &str) -> Result<bool, Failed>
         ensures begun { OnOk result (contents self.new ≡ option_map (begun path.now) (contents self.old)) }
         ensures same { OnErr result (contents self.new ≡ contents self.old) }
@@ -39,8 +42,12 @@ pub trait Shelf {
         ensures misses { misses self.old ≤ misses self.new }
         ensures counted { calls self.new ≤ calls self.old + 1 };
 
-    /// The next bytes of the file begun, at the front of buf, and how many they are. 0 means the file's
-    /// end, or that none is begun. What stands in buf behind them is not promised.
+    /// Copies the next bytes of the open file to the start of `buf` and returns how many. 0 means the end of the file, or that none
+    /// is open. The rest of `buf` is unspecified.
+    ///
+    /// # Errors
+    ///
+    /// `Failed` where the file cannot be read. The count of faults has risen.
     fn take(&mut self, buf: &mut [u8]) -> Result<usize, Failed>
         requires { 0 < length buf.old }
         ensures within { IfOk result (λ count. count ≤ length buf.old) }

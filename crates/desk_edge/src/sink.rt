@@ -5,18 +5,22 @@ ghost use Rattle.desk_edge.specs.Sink.{appended};
 
 use crate::Failed;
 
-/// Bytes that are taken in order, and sent on where they are flushed (this project's profile).
+/// Takes bytes in order, and sends them on when it is flushed (this project's profile).
 pub trait Sink {
-    /// The bytes taken so far, where the sink tells them.
+    /// The bytes that were put, where the sink specifies them.
     ghost bytes: { Self → Option (List ℕ) };
 
-    /// Those of them that were flushed, where the sink tells them.
+    /// Those of them that were flushed, where the sink specifies them.
     ghost sent: { Self → Option (List ℕ) };
 
-    /// How many calls failed, as a u64 that stands still at its last value.
+    /// How many calls failed: a u64 that stays at its greatest value.
     ghost faults: { Self → ℕ };
 
-    /// Takes the first bytes of the piece, at least one unless it is empty, and answers how many.
+    /// Takes the first bytes of the piece, at least one unless it is empty, and returns how many.
+    ///
+    /// # Errors
+    ///
+    /// `Failed` where the bytes cannot be written. A sink that specifies its bytes has taken none. The count of faults has risen.
     fn put(&mut self, piece: &[u8]) -> Result<usize, Failed>
         ensures within { IfOk result (λ count. count ≤ length piece.now) }
         ensures some { IfOk result (λ count. count ≡ 0 → piece.now ≡ []) }
@@ -28,7 +32,11 @@ pub trait Sink {
         ensures failed { OnErr result (faults self.new ≡ raised (faults self.old)) }
         ensures faults { faults self.old ≤ faults self.new };
 
-    /// Sends on all that was taken.
+    /// Sends on all bytes that were put.
+    ///
+    /// # Errors
+    ///
+    /// `Failed` where they cannot be written. The count of faults has risen.
     fn flush(&mut self) -> Result<(), Failed>
         ensures kept { bytes self.new ≡ bytes self.old }
         ensures sent { OnOk result (sent self.new ≡ bytes self.old) }

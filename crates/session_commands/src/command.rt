@@ -7,10 +7,10 @@ use day_number::Day;
 use desk_names::{ActionId, NameId};
 use fixed_amount::Rate;
 
-/// A command, one variant for each first word of the language, with its further words as fields, in order.
+/// A command: a variant for each first word of the language, with its arguments as fields in order.
 #[derive(Clone, Copy, Debug, PartialEq, Eq)]
 pub enum Command {
-    /// `quote N V`: makes a quote with this value, or with none where V is `unset`.
+    /// `quote N V`: makes a quote with this value, or without one where V is `unset`.
     Quote(NameId, Option<Rate>),
     /// `sum N A B`: makes the sum of two quote inputs.
     Sum(NameId, NameId, NameId),
@@ -22,19 +22,19 @@ pub enum Command {
     Stock(NameId, NameId),
     /// `composite N`: makes a composite without members.
     Composite(NameId),
-    /// `member K I W`: gives an instrument a weight in a composite; 0 takes it out.
+    /// `member K I W`: sets the weight of an instrument in a composite. 0 removes it.
     Member(NameId, NameId, i64),
-    /// `set Q V`: gives a quote a value.
+    /// `set Q V`: sets the value of a quote.
     Set(NameId, Rate),
-    /// `unset Q`: takes a quote's value away.
+    /// `unset Q`: removes the value of a quote.
     Unset(NameId),
-    /// `link H T`: gives a handle a target.
+    /// `link H T`: links a handle to a target.
     Link(NameId, NameId),
-    /// `unlink H`: takes a handle's target away.
+    /// `unlink H`: removes the target of a handle.
     Unlink(NameId),
-    /// `engine I E` or `engine I none`: gives an instrument an engine, or takes it away.
+    /// `engine I E` or `engine I none`: sets or removes the engine of an instrument.
     Engine(NameId, Option<NameId>),
-    /// `today D`: moves the evaluation date.
+    /// `today D`: sets the evaluation date.
     Today(Day),
     /// `fixing X D R`: stores a fixing of an index.
     Fixing(NameId, Day, Rate),
@@ -44,7 +44,7 @@ pub enum Command {
     Thaw(NameId),
     /// `recalc O`.
     Recalc(NameId),
-    /// `forward O off` or `forward O on`: whether a lazy object always forwards.
+    /// `forward O off` or `forward O on`: sets whether a lazy object always forwards notifications.
     Forward(NameId, bool),
     /// `defer`.
     Defer,
@@ -60,12 +60,12 @@ pub enum Command {
     Drop(NameId),
     /// `ask O`.
     Ask(NameId),
-    /// `df C D`: asks a curve for its discount at a day.
+    /// `df C D`: asks a curve for its discount factor on a day.
     Df(NameId, Day),
 }
 
 impl Command {
-    /// Its first word.
+    /// Returns the first word of the command.
     pub fn word(&self) -> &'static [u8]
         ensures { result.now ≡ command_word self.now }
     {

@@ -1,4 +1,4 @@
-// What stands behind a command's first word.
+// The arguments of a command.
 ghost use Rattle.std.specs.Prelude.{◌≡◌};
 ghost use Rattle.session_commands.specs.Field.{name_in, value_in, number_in, day_in, weight_in, engine_in, flag_in, action_in};
 
@@ -6,7 +6,7 @@ use day_number::Day;
 use desk_names::{ActionId, NameId};
 use fixed_amount::Rate;
 
-/// What a further word says. An action stands by the number of its name until the whole script is read.
+/// The value of an argument. An action is the number of its name until the whole script is read.
 #[derive(Clone, Copy)]
 pub enum Field {
     Nothing,

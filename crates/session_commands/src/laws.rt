@@ -1,4 +1,4 @@
-// Laws of the table, each the clause of a function with nothing to do.
+// Laws of the table of commands, each the clause of a function that does nothing.
 ghost use Rattle.std.specs.Prelude.{◌≡◌, Some};
 ghost use Rattle.session_commands.specs.Sorts.{IsOf};
 ghost use Rattle.session_commands.specs.declared.field.Field.{Field};
@@ -7,8 +7,8 @@ ghost use Rattle.session_commands.specs.declared.command.Command.{Command};
 ghost use Rattle.session_commands.specs.Table.{row_of, verb_of};
 ghost use Rattle.session_commands.specs.Parts.{command_of, parts_of, together};
 
-/// No two rows begin with one word, the parts of a command make that command again, and fields of a row's sorts make a
-/// command.
+/// A law: no two rows have the same first word, the parts of a command make that command again, and fields of a row's kinds
+/// make a command.
 pub fn table_law()
     ensures words { (verb : Verb) → verb_of (row_of verb).word ≡ Some verb }
     ensures parts { (command : Command) → command_of (parts_of command) ≡ Some command }

@@ -1,7 +1,13 @@
-//! The vocabulary of a session: its commands, why one is refused, the table that says what each looks like in a
-//! script, and scripts as lists of commands. It reads and prints nothing.
-//! Offers `Command`, `CommandList`, `ActionId`, `Actions`, `Script`, `Refusal`, `ScriptKind`, and for those who read or
-//! print a line `Verb`, `VERBS`, `Kind`, `Field` and `Parts`.
+//! The vocabulary of a session: its commands, the reasons why one is refused, and scripts as lists of commands.
+//!
+//! `Command` is a command, `Refusal` why it is refused, `Script` a list of commands with its actions. The table of the
+//! language, which session_lang reads and prints by, is `Verb` with `VERBS`, `Kind`, `Field` and `Parts`.
+//!
+//! ```text
+//! let ask = Command::Ask(name);
+//! let parts = Parts::of(ask);         // `ask` with the name as its first field
+//! let same = parts.command();
+//! ```
 #![tactic(auto)]
 
 mod command;

@@ -1,4 +1,4 @@
-// A command as its first word and its fields, both ways.
+// A command as its first word and its fields, and back.
 ghost use Rattle.std.specs.Prelude.{◌≡◌, Some};
 ghost use Rattle.session_commands.specs.Table.{row_of};
 ghost use Rattle.session_commands.specs.Sorts.{Sorted};
@@ -10,7 +10,7 @@ use crate::field::Field;
 use crate::table::Verb;
 use desk_names::NameId;
 
-/// What stands for a command in a line: its first word and its fields, at most three.
+/// The parts of a command: its first word and its fields, at most three.
 #[derive(Clone, Copy)]
 pub struct Parts {
     pub verb: Verb,
@@ -20,7 +20,7 @@ pub struct Parts {
 }
 
 impl Parts {
-    /// The command of the parts. Their fields are of the sorts that the row of their first word asks for.
+    /// Returns the command of the parts. Their fields must be of the kinds in the row of the first word.
     pub fn command(self) -> Command
         requires { Sorted (row_of self.verb) self }
         ensures { command_of self ≡ Some result }
@@ -31,7 +31,7 @@ impl Parts {
         }
     }
 
-    // The command of the parts, where their fields are of the sorts that its row asks for.
+    // Returns the command of the parts, if their fields are of the kinds in its row.
     #[tactic(auto, unfolding(crate::specs::Parts::command_of))]
     fn made(self) -> Option<Command>
         ensures { result ≡ command_of self }
@@ -66,7 +66,7 @@ impl Parts {
         }
     }
 
-    /// The parts of a command.
+    /// Returns the parts of a command.
     #[tactic(auto, unfolding(crate::specs::Parts::parts_of))]
     pub fn of(command: Command) -> Parts
         ensures { result ≡ parts_of command }
@@ -107,7 +107,7 @@ impl Parts {
     }
 }
 
-// The command of a first word with a name and two fields, where they are of the sorts that its row asks for.
+// Returns the command of a first word with a name and two fields, if they are of the kinds in its row.
 fn named(verb: Verb, name: NameId, second: Field, third: Field) -> Option<Command>
     ensures { result ≡ made_of verb (Name name) second third }
 {
@@ -141,7 +141,7 @@ fn named(verb: Verb, name: NameId, second: Field, third: Field) -> Option<Comman
     }
 }
 
-// A first word with at most one field.
+// Returns a first word with at most one field.
 fn one(verb: Verb, first: Field) -> Parts
     ensures { result ≡ together verb first Nothing Nothing }
 {
@@ -153,7 +153,7 @@ fn one(verb: Verb, first: Field) -> Parts
     }
 }
 
-// A first word with a name and a field.
+// Returns a first word with a name and a field.
 fn two(verb: Verb, name: NameId, second: Field) -> Parts
     ensures { result ≡ together verb (Name name) second Nothing }
 {
@@ -165,7 +165,7 @@ fn two(verb: Verb, name: NameId, second: Field) -> Parts
     }
 }
 
-// A first word with a name and two fields.
+// Returns a first word with a name and two fields.
 fn three(verb: Verb, name: NameId, second: Field, third: Field) -> Parts
     ensures { result ≡ together verb (Name name) second third }
 {

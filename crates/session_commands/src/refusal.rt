@@ -1,11 +1,11 @@
-// Why a command is refused.
+// The reasons why a command is refused.
 ghost use Rattle.std.specs.Prelude.{◌≡◌};
 ghost use Rattle.session_commands.specs.Refusal.{refusal_word};
 
 use desk_names::{NameId, ObjId};
 use fixed_amount::Rate;
 
-/// Why a session refuses a command, which then changes nothing.
+/// Why a session refuses a command. A refused command changes nothing.
 #[derive(Clone, Copy, Debug, PartialEq, Eq)]
 pub enum Refusal {
     /// No live object has the name.
@@ -14,24 +14,24 @@ pub enum Refusal {
     Taken(NameId),
     /// The object is of a kind that the command does not take.
     Kind(NameId),
-    /// The target or new member is the holder or reaches it.
+    /// The target or new member is the holder, or depends on it.
     Cycle,
-    /// A live object that is no watcher has the dropped one among its edges; the least such.
+    /// A live object, watchers aside, depends on the one to drop: the least such object.
     InUse(ObjId),
-    /// A fixing is stored for that day: the kept rate.
+    /// A fixing is stored for that day, with this rate.
     FixingExists(Rate),
-    /// As many objects live, or numbers were given, as there may be.
+    /// 4,096 objects are live, or 65,536 numbers were given.
     TooMany,
     /// The watcher is registered with the object.
     AlreadyRegistered,
     /// The watcher is not registered with the object.
     NotRegistered,
-    /// The object to compute again is late: the least source of that.
+    /// The object to recalculate is late: the least deferred source that makes it so.
     Deferred(ObjId),
 }
 
 impl Refusal {
-    /// Its word, without what it names.
+    /// Returns the word of the refusal, without the names in it.
     pub fn word(&self) -> &'static [u8]
         ensures { result.now ≡ refusal_word self.now }
     {

@@ -1,45 +1,45 @@
-// What is wrong with a script.
+// The faults of a script.
 ghost use Rattle.std.specs.Prelude.{◌≡◌};
 ghost use Rattle.session_commands.specs.ScriptKind.{kind_text};
 
 use std::fmt;
 
-/// What is wrong with a line of a script. Within a line the first that holds is told, in this order; `Name`, `Number`,
-/// `Date` and `Choice` word by word from the left. (This project's profile.)
+/// The fault of a line of a script. The first fault of a line in this order is reported. `Name`, `Number`, `Date` and `Choice`
+/// are looked for word by word from the left. (This project's profile.)
 #[derive(Clone, Copy, Debug, PartialEq, Eq)]
 pub enum ScriptKind {
-    /// The script is over 8,388,608 bytes; told with line 0.
+    /// The script has more than 8,388,608 bytes. Reported with line 0.
     TooLong,
-    /// A byte that is neither tab nor one from 32 to 126 stands in the line.
+    /// The line has a byte that is neither a tab nor one from 32 to 126.
     Byte,
     /// The first word is no word of the language.
     Word,
-    /// The number of words is another.
+    /// The line has more or fewer words than its command takes.
     Count,
-    /// `action` stands inside a block.
+    /// `action` inside a block.
     Nested,
-    /// `end` stands outside a block.
+    /// `end` outside a block.
     End,
-    /// A word in a name's place is no name.
+    /// A word in the place of a name is no name.
     Name,
-    /// An action of that name was begun before.
+    /// A block of that name began on an earlier line.
     Twice,
-    /// A decimal or whole number is not in its form or its limit.
+    /// A decimal or whole number has a wrong form or is beyond its limit.
     Number,
-    /// A day is not in its form or its range.
+    /// A day has a wrong form or is out of range.
     Date,
-    /// A word is not one of those listed.
+    /// A word is not one of the choices.
     Choice,
     /// The name would be the 65,537th.
     Names,
-    /// The script ends inside a block; told with the line of its `action`.
+    /// The script ends inside a block. Reported with the line of its `action`.
     Unclosed,
-    /// An action is named that no block defines; told with the least such line.
+    /// A watch names an action that no block defines. Reported with the first such line.
     NoAction,
 }
 
 impl ScriptKind {
-    // The word that it prints as.
+    // Returns the word that it prints as.
     fn word(self) -> &'static str
         ensures { result.now ≡ kind_text self }
     {

@@ -1,23 +1,23 @@
-// The table of commands: the first word of each, and what its further words are.
+// The table of commands: the first word of each, and the kinds of its arguments.
 ghost use Rattle.std.specs.Prelude.{◌≡◌, length};
 ghost use Rattle.session_commands.specs.Table.{row_of, verb_of, words_in};
 
-/// What a further word of a command is.
+/// The kind of an argument.
 #[derive(Clone, Copy, PartialEq, Eq)]
 pub enum Kind {
-    /// No word stands here.
+    /// No argument.
     Nothing,
     /// A name.
     Name,
-    /// A decimal within 10^9 either way, or `unset`.
+    /// A decimal of at most 10^9 in size, or `unset`.
     Value,
-    /// A decimal within 10^9 either way.
+    /// A decimal of at most 10^9 in size.
     Number,
-    /// A decimal within 10 either way.
+    /// A decimal of at most 10 in size.
     Rate,
     /// A day.
     Day,
-    /// A whole number within 1,000,000 either way.
+    /// A whole number of at most 1,000,000 in size.
     Weight,
     /// A name, or `none`.
     Engine,
@@ -29,7 +29,7 @@ pub enum Kind {
     Action,
 }
 
-/// The command that a first word stands for.
+/// The first word of a command.
 #[derive(Clone, Copy, PartialEq, Eq)]
 pub enum Verb {
     Quote,
@@ -60,7 +60,7 @@ pub enum Verb {
     Df,
 }
 
-/// All the commands, in the order of the language's page.
+/// All first words, in the order of the language's page.
 pub const VERBS: [Verb; 26] = [
     Verb::Quote,
     Verb::Sum,
@@ -91,7 +91,7 @@ pub const VERBS: [Verb; 26] = [
 ];
 
 impl Verb {
-    /// The command's row of the table: its first word, and the kinds of its further words.
+    /// Returns the row of a command: its first word, and the kinds of its arguments.
     #[tactic(auto, unfolding(crate::specs::Table::row_of))]
     pub fn row(self) -> (&'static [u8], Kind, Kind, Kind)
         ensures word { result.0.now ≡ (row_of self).word }
@@ -127,7 +127,7 @@ impl Verb {
         }
     }
 
-    /// The command with this first word. `ask` and `set`, which most lines of a long script begin with, are tried first.
+    /// Returns the command with this first word. It tries `ask` and `set` first, since most lines of a long script begin with them.
     #[tactic(auto, unfolding(crate::specs::Table::verb_of))]
     pub fn of_word(word: &[u8]) -> Option<Verb>
         ensures { result ≡ verb_of word.now }

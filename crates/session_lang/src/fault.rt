@@ -5,7 +5,7 @@ use session_commands::ScriptKind;
 use std::alloc::{AllocError, AllocFailed};
 use thiserror::Error;
 
-/// Why a script is not read: its first fault, with the line counted from 1, or want of memory.
+/// Why a script is not read: its first fault, with the line from 1, or out of memory.
 #[derive(Clone, Copy, Debug, Error, PartialEq, Eq)]
 pub enum ScriptFault {
     #[error("line {line}: {kind}")]

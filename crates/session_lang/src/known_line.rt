@@ -1,4 +1,4 @@
-// Lines that are read at once: an ask or a set of known names.
+// A fast path for most lines: an ask or a set of known names.
 ghost use Rattle.std.specs.Prelude.{◌≡◌, ◌≤◌, ◌++◌, ◌∷◌, ℕ, List, Bool, length, codes, nat_lt, false, Ok, IfSome};
 ghost use Rattle.std.specs.List.{prefix_len};
 ghost use Rattle.session_lang.specs.declared.statement.Statement.TheVariants.{Run};
@@ -10,8 +10,8 @@ use desk_names::Names;
 use script_words::number_of_word;
 use session_commands::Command;
 
-/// The command of a text's first line and the text behind that line, where the line stands outside of blocks and is read at
-/// once, with a newline right behind it.
+/// Returns the command of a text's first line and the text after that line, if the line is outside blocks, is an ask or a set
+/// of known names, and ends with a newline.
 pub(crate) fn known_first<'a>(
     text: &'a [u8],
     names: &Names,
@@ -30,7 +30,7 @@ pub(crate) fn known_first<'a>(
     }
 }
 
-/// The command of a line, where it is read at once.
+/// Returns the command of a line, if it is an ask or a set of known names.
 pub(crate) fn known_line(line: &[u8], names: &Names, met: &mut Met) -> Option<Command>
     ensures { IfSome result (λ command. (begun : List (List ℕ)) (inside : Bool) →
         line_meaning (record { names = names.now; begun = begun }) inside line.now
@@ -42,9 +42,9 @@ pub(crate) fn known_line(line: &[u8], names: &Names, met: &mut Met) -> Option<Co
     }
 }
 
-// The command that a text's first words say and the text behind them, where that is nothing or begins with a newline and they
-// are an ask or a set of known names with one space before each further word. Most lines of a long script are so. They are not
-// parted into words first: no name and no decimal has a byte that may not stand in a word.
+// Returns the command of a text's first words and the text after them, if these are an ask or a set of known names with one
+// space between words, and the end of the text or a newline follows. Most lines of a long script have this form. They are not
+// split into words first, since no name and no decimal has a byte that ends a word.
 #[inline(always)]
 fn said_first<'a>(text: &'a [u8], names: &Names, met: &mut Met) -> Option<(Command, &'a [u8])>
     ensures { IfSome result (λ said. IsSaidFirst names.now text.now said.0 said.1.now) }
@@ -56,7 +56,7 @@ fn said_first<'a>(text: &'a [u8], names: &Names, met: &mut Met) -> Option<(Comma
     }
 }
 
-// The same of what stands behind `ask `.
+// Does the same for the text after `ask `.
 #[inline(always)]
 fn ask_said<'a>(text: &'a [u8], names: &Names, met: &mut Met) -> Option<(Command, &'a [u8])>
     ensures { IfSome result (λ said. IsSaidFirst names.now (codes "ask " ++ text.now) said.0 said.1.now) }
@@ -68,7 +68,7 @@ fn ask_said<'a>(text: &'a [u8], names: &Names, met: &mut Met) -> Option<(Command
     Some((Command::Ask(met.number_of(name, names)?), behind))
 }
 
-// The same of what stands behind `set `.
+// Does the same for the text after `set `.
 #[inline(always)]
 fn set_said<'a>(text: &'a [u8], names: &Names, met: &mut Met) -> Option<(Command, &'a [u8])>
     ensures { IfSome result (λ said. IsSaidFirst names.now (codes "set " ++ text.now) said.0 said.1.now) }
@@ -87,12 +87,12 @@ fn set_said<'a>(text: &'a [u8], names: &Names, met: &mut Met) -> Option<(Command
     ))
 }
 
-// Whether a line may end before this text. It spares the search where it does not, and decides no answer.
+// Returns whether a line may end before this text. It only saves the search, and decides no result.
 fn is_end(text: &[u8]) -> bool {
     matches!(text, [] | [b'\n', ..])
 }
 
-// How many bytes stand before the first that is a space or less, or in all.
+// Returns how many bytes come before the first that is a space or less, or all of them.
 fn bytes_to_blank(text: &[u8]) -> usize
     ensures value { result ≡ prefix_len (λ byte. nat_lt 32 byte) text.now }
     ensures bound { result ≤ length text.now }

@@ -1,7 +1,13 @@
-//! The language of scripts, both ways: bytes to a typed script or to the first fault, and a typed script to bytes.
-//! Offers `read_script`, `print_script` and `ScriptFault`, and the words that they speak of: `Command`, `CommandList`,
-//! `ActionId`, `Actions`, `Script`, `Refusal` and `ScriptKind`. One line by itself: `read_line`, `Met`, `Statement`, `lacks`, `linked`.
-//! `Step` is for the definitions of crates above.
+//! The language of scripts: reads a text to a script or its first fault, and prints a script as text.
+//!
+//! `read_script`, `print_script` and `ScriptFault`; `read_line` with `Statement` and `Met` reads one line. The types of
+//! session_commands that they use are offered here, too. Definitions of higher crates use `Step`, `lacks` and `linked`.
+//!
+//! ```text
+//! let mut names = Names::new(alloc);
+//! let script = read_script(alloc, b"quote q 1.5\nstock s q\nask s\n", &mut names)?;
+//! print_script(alloc, &script, &names, &mut text)?;
+//! ```
 #![tactic(auto)]
 
 mod fault;

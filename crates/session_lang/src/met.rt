@@ -1,4 +1,4 @@
-// The names that were met lately, so that one that is met again is compared and not sought.
+// The names in the latest lines, so that a name that comes again is compared and not looked up.
 ghost use Rattle.std.specs.Prelude.{◌≡◌, ◌<◌, Some, true, slice_get, replicate, IfSome};
 ghost use Rattle.desk_names.specs.Names.{IsNames};
 ghost use Rattle.session_lang.specs.declared.met.TheConstants.{MOST_MET};
@@ -8,14 +8,14 @@ use desk_names::{NameId, Names};
 // How many names are kept.
 const MOST_MET: usize = 64;
 
-/// The numbers of names that lines named lately. What is kept is looked at before it is used: it changes no answer.
+/// The numbers of names in the latest lines. A kept number is checked before it is used, so it changes no result.
 #[derive(Drop)]
 pub struct Met {
     names: [NameId; MOST_MET],
 }
 
 impl Met {
-    /// No name was met yet: each place has the first number, which is looked at as any other is.
+    /// Starts without names: each place has the first number, which is checked as any other.
     pub fn new() -> Met
         ensures { result.names ≡ replicate MOST_MET 0 }
     {
@@ -24,7 +24,7 @@ impl Met {
         }
     }
 
-    // The number of a known name. It is kept at a place by its first and last byte; what is kept there is looked at first.
+    // Returns the number of a known name. Its place is given by its first and last byte, and what is kept there is tried first.
     pub(crate) fn number_of(&mut self, text: &[u8], names: &Names) -> Option<NameId>
         ensures at { IfSome result (λ name. slice_get names.now name ≡ Some text.now) }
         ensures names { IsNames names.now }
@@ -40,7 +40,7 @@ impl Met {
     }
 }
 
-// Whether a name has this number and this text.
+// Returns whether the name with this number has this text.
 fn is_named(text: &[u8], names: &Names, name: NameId) -> bool
     ensures named { result ≡ true → slice_get names.now name ≡ Some text.now }
     ensures names { IsNames names.now }
@@ -48,7 +48,7 @@ fn is_named(text: &[u8], names: &Names, name: NameId) -> bool
     name.0 < names.len() && names.text(name) == text
 }
 
-// Where a name is kept.
+// Returns the place of a name.
 fn place_of(text: &[u8]) -> usize
     ensures { result < 64 }
 {

@@ -1,4 +1,4 @@
-// Scripts, printed.
+// Prints scripts.
 ghost use Rattle.std.specs.Prelude.{◌≡◌, ◌≤◌, ◌++◌, Ok, OnOk, OnErr, IfOk, length};
 ghost use Rattle.session_lang.specs.Reading.{most_bytes, script_meaning};
 ghost use Rattle.session_commands.specs.Whole.{IsScript};
@@ -12,7 +12,7 @@ use script_words::{action_text, push_word};
 use session_commands::{Actions, Command, Parts, Script};
 use std::alloc::{AllocError, Global};
 
-// The line of a command.
+// Appends the line of a command.
 #[tactic(auto, unfolding(crate::specs::Printing::command_text))]
 fn push_command(
     alloc: Global,
@@ -32,7 +32,7 @@ fn push_command(
     out.extend_from_slice(b"\n")
 }
 
-// The lines of commands.
+// Appends the lines of commands.
 fn push_commands(
     alloc: Global,
     names: &Names,
@@ -48,7 +48,7 @@ fn push_commands(
     Ok(())
 }
 
-// The lines of a block.
+// Appends the lines of a block.
 #[tactic(auto, unfolding(crate::specs::Printing::block_text))]
 fn push_block(
     alloc: Global,
@@ -67,7 +67,7 @@ fn push_block(
     out.extend_from_slice(b"end\n")
 }
 
-// The blocks of a script.
+// Appends the lines of all blocks.
 #[tactic(auto, unfolding(crate::specs::Printing::blocks_text))]
 fn push_blocks(
     alloc: Global,
@@ -84,7 +84,7 @@ fn push_blocks(
     Ok(())
 }
 
-// The script in a vector of its own.
+// Returns the text of a script in a new vector.
 #[tactic(auto, unfolding(crate::specs::Printing::script_text))]
 fn script_bytes(alloc: Global, script: &Script, names: &Names) -> Result<Vec<u8>, AllocError>
     ensures { IfOk result (λ text. text.items ≡ script_text names.now script.now) }
@@ -107,10 +107,13 @@ fn script_bytes(alloc: Global, script: &Script, names: &Names) -> Result<Vec<u8>
     Ok(text)
 }
 
-/// Appends the text of a script: its actions in order of their blocks, each as `action A`, its commands and `end`,
-/// and then its commands; words are parted by one space, decimals have nine places, and each line ends with a newline
-/// (this project's profile). A number that stands for no name of the lists is printed as no bytes. After want of
-/// memory `out` has its old bytes.
+/// Appends the text of a script: its actions in order of their blocks, each as `action A`, its commands and `end`, and then
+/// its commands. One space separates words, decimals have nine places, and each line ends with a newline (this project's
+/// profile). A number that stands for no name of the lists is printed as no bytes.
+///
+/// # Errors
+///
+/// `AllocError` where memory runs out. Then `out` is as before.
 #[tactic(auto, using(crate::proofs::ScriptBack::script_back))]
 pub fn print_script(
     alloc: Global,

@@ -1,4 +1,4 @@
-// Scripts, read.
+// Reads scripts.
 ghost use Rattle.std.specs.Prelude.{◌≡◌, ◌<◌, ◌≤◌, ◌^◌, ◌+◌, ◌∷◌, [], ℕ, List, length, None, is_some, false, IfOk, OnOk, OnErr, IsErrOf};
 ghost use Rattle.std.specs.Str.Lines.{lines};
 ghost use Rattle.session_lang.specs.Given.{GivesAt, at_number};
@@ -24,8 +24,8 @@ use session_commands::{CommandList, Script, ScriptKind};
 use std::alloc::Global;
 use text_limits::MOST_BYTES;
 
-// What is gathered of the lines of a text: the commands outside of blocks, each watch with the number of its action's name; the
-// statements that are asked for after all lines; and the line of a block that stands open behind them.
+// The result of the lines of a text: the commands outside blocks, each watch with the number of its action's name, the
+// statements that are needed after all lines, and the line of a block that has not ended.
 #[derive(Drop)]
 struct Read {
     commands: CommandList,
@@ -33,7 +33,7 @@ struct Read {
     open_at: Option<u32>,
 }
 
-// A line's fault with the number of the line.
+// Returns the fault of a line with its number.
 fn at_number(number: u32, fault: LineFault) -> ScriptFault
     ensures { result ≡ at_number number fault }
 {
@@ -43,7 +43,7 @@ fn at_number(number: u32, fault: LineFault) -> ScriptFault
     }
 }
 
-// Reads one line and puts its statement behind the others; tells the line of the block that stands open after it.
+// Reads one line and appends its statement. Returns the line of the block that is open after it.
 fn take_line<'a>(
     line: &'a [u8],
     words: &mut Vec<&'a [u8]>,
@@ -71,7 +71,7 @@ fn take_line<'a>(
     }
 }
 
-// What is gathered of the lines of a text, up to the first fault.
+// Reads the lines of a text up to the first fault.
 fn read_lines(
     alloc: Global,
     text: &[u8],
@@ -123,7 +123,7 @@ fn read_lines(
     })
 }
 
-// What was gathered says together where no block stands open.
+// Returns the script of lines without an open block.
 #[tactic(auto, using(crate::proofs::Blocks::one_name_each))]
 fn script_of(
     alloc: Global,
@@ -143,7 +143,7 @@ fn script_of(
     }
     let actions = actions_of(alloc, names, begun, &steps)?;
     let action_names = action_names_of(alloc, &steps)?;
-    // Their memory is given back before a second list of commands may be made.
+    // Frees their memory before a second list of commands may be made.
     drop(steps);
     let commands = all_linked(alloc, names, begun, commands)?;
     Ok(Script {
@@ -153,7 +153,7 @@ fn script_of(
     })
 }
 
-// What was gathered says together.
+// Returns the script of all lines.
 fn finished(alloc: Global, names: &Names, begun: &Names, read: Read) -> Result<Script, ScriptFault>
     ensures paired { IfOk result (λ s. length s.actions ≡ length s.action_names) }
     ensures gives { GivesAt (λ s. (s, names.now)) result
@@ -169,7 +169,7 @@ fn finished(alloc: Global, names: &Names, begun: &Names, read: Read) -> Result<S
     }
 }
 
-// The script that a text says that is not too long, or its first fault.
+// Returns the script of a text that is not too long, or its first fault.
 #[tactic(auto, unfolding(crate::specs::Reading::script_meaning))]
 fn read_short(alloc: Global, text: &[u8], names: &mut Names) -> Result<Script, ScriptFault>
     requires { length text.now ≤ MOST_BYTES }
@@ -184,24 +184,26 @@ fn read_short(alloc: Global, text: &[u8], names: &mut Names) -> Result<Script, S
     finished(alloc, names, &begun, read)
 }
 
-/// The script that a text says, or its first fault with the line, counted from 1 (this project's profile).
+/// Reads a script (this project's profile). The names of its lines, those of actions too, are added to `names` and numbered in
+/// order of first use. The numbers in the script stand for names and actions that exist. The time is proportional to the
+/// text, with a few look-ups of a name for each word.
 ///
-/// The names of its lines get numbers in order of first use, those of actions too. A line with a fault adds no name:
-/// behind it the names are those after the lines above it. After want of memory a front of the names of its lines may have been
-/// added, and no other; the old ones keep their numbers however it ends. The numbers in a script that is read stand for names
-/// and actions that are there.
-/// It takes time in proportion to the text, with a few look-ups of a name for each word.
+/// # Errors
+///
+/// `ScriptFault::At` with the line, from 1, and the kind of the first fault. A line with a fault adds no name: `names` has
+/// those of the lines before it. `NoMemory` where memory runs out. Then a prefix of the names of its lines may have been
+/// added. Names from before keep their numbers on every exit.
 #[tactic(auto, unfolding(crate::specs::Reading::script_meaning), using(script_words::proofs::Interning::grows_same))]
 pub fn read_script(alloc: Global, text: &[u8], names: &mut Names) -> Result<Script, ScriptFault>
     ensures gives { GivesAt (λ s. (s, names.new)) result (script_meaning names.old text.now) }
-    // A text that is too long is told whatever memory there is.
+    // A text that is too long is refused, with or without free memory.
     ensures long { MOST_BYTES < length text.now → IsErrOf result (At 0 TooLong) }
     ensures whole { IsNames names.old → IfOk result (λ s. IsScript names.new s) }
     ensures paired { IfOk result (λ s. length s.actions ≡ length s.action_names) }
     ensures fault { IsNames names.old → ToldFirst names.old text.now result }
     ensures kept { IsNames names.old → FaultKeeps names.old text.now names.new result }
     ensures names { IsNames names.old → IfOk result (λ s. names.new ≡ names_after names.old (lines text.now)) }
-    // However it ends, a front of the names of its lines was added, and no other.
+    // On every exit a prefix of the names of its lines was added, and no other.
     ensures added { IsNames names.old → AddsFront names.old (names_said (lines text.now)) names.new }
     ensures grows { Grows names.old names.new }
 {

@@ -1,4 +1,4 @@
-// What one line of a script says.
+// Reads one line of a script.
 ghost use Rattle.std.specs.Prelude.{◌≡◌, ◌+◌, ◌≤◌, ◌&&◌, not, cond, ℕ, List, length, map, nat_le, Some, Ok, IfSome, OnErr};
 ghost use Rattle.std.specs.Str.{bytes_eq};
 ghost use Rattle.desk_names.specs.Names.{most_names, IsNames};
@@ -19,21 +19,20 @@ use script_words::{
 };
 use session_commands::{Command, Kind, Parts, ScriptKind, Verb};
 
-/// What a line says: nothing, that a block begins or ends, or a command. A watch names its action by the number of
-/// the action's name until the whole script is read.
+/// A line of a script. A watch has its action by the number of the action's name until the whole script is read.
 #[derive(Clone, Copy)]
 pub enum Statement {
-    /// Nothing.
+    /// An empty line or a comment.
     Blank,
-    /// A block of this name begins.
+    /// `action A`: a block of this name begins.
     Begin(NameId),
-    /// A block ends.
+    /// `end`: a block ends.
     End,
     /// A command.
     Run(Command),
 }
 
-// What the words behind the first say apart from the names in them, or the first fault among them.
+// Returns the arguments of a command apart from the names in them, or the first fault among them.
 fn words_said(verb: Verb, words: &[&[u8]]) -> Result<Parts, ScriptKind>
     ensures { ArePlain verb (map (λ word. word.now) words.now) result }
 {
@@ -49,14 +48,14 @@ fn words_said(verb: Verb, words: &[&[u8]]) -> Result<Parts, ScriptKind>
     })
 }
 
-// Whether a new name is new behind another word: it is not the other, where that is a new name too.
+// Returns whether a new name is new after another word: it differs from that word, or that word is no new name.
 fn new_behind(is_new: bool, other_new: bool, other: &[u8], word: &[u8]) -> bool
     ensures { result ≡ (is_new && not (other_new && bytes_eq word.now other.now)) }
 {
     is_new && !(other_new && word == other)
 }
 
-// How many of three are so.
+// Returns how many of three are true.
 fn count_of(first: bool, second: bool, third: bool) -> u32
     ensures count { result ≡ cond first 1 0 + cond second 1 0 + cond third 1 0 }
     ensures few { result ≤ 3 }
@@ -64,7 +63,7 @@ fn count_of(first: bool, second: bool, third: bool) -> u32
     u32::from(first) + u32::from(second) + u32::from(third)
 }
 
-// How many new names the words behind the first name.
+// Returns how many new names the arguments have.
 fn new_names(verb: Verb, words: &[&[u8]], names: &Names) -> u32
     ensures count { length (names_with (row_of verb) (map (λ word. word.now) words.now) names.now) ≡ length names.now + result }
     ensures few { result ≤ 3 }
@@ -77,8 +76,8 @@ fn new_names(verb: Verb, words: &[&[u8]], names: &Names) -> u32
     count_of(first, second, new_behind(third, second, two, three))
 }
 
-// Whether there is room for the names that the words behind the first name. They are at most three, so that the names are
-// counted only where that many find no room.
+// Returns whether there is room for the names of the arguments. There are at most three, so the new ones are counted only if
+// there is no room for three.
 fn has_room(verb: Verb, words: &[&[u8]], names: &Names) -> bool
     ensures room { result ≡ nat_le (length (names_with (row_of verb) (map (λ word. word.now) words.now) names.now)) most_names }
     ensures names { IsNames names.now }
@@ -89,7 +88,7 @@ fn has_room(verb: Verb, words: &[&[u8]], names: &Names) -> bool
     names.len() + new_names(verb, words, names) <= MOST_NAMES
 }
 
-// The command of a row whose words have no fault; `plain` is what they say apart from the names in them.
+// Returns the command of a row whose words have no fault. `plain` has the arguments apart from the names in them.
 #[tactic(auto, unfolding(crate::specs::Statement::fields_meaning), using(script_words::proofs::Interning::grows_on, crate::proofs::AddedNames::adds_none))]
 fn run_fields(
     verb: Verb,
@@ -121,8 +120,8 @@ fn run_fields(
     Ok(Statement::Run(parts.command()))
 }
 
-// The command of an ask, of a set or of a member, where its words have no fault and each name in them is known, so that
-// none is added. Most lines of a long script are of these, and each of their words is looked at once.
+// Returns the command of an ask, a set or a member, if its words have no fault and all its names are known. Most lines of a
+// long script are of these, and each of their words is looked at once.
 fn known_command(verb: Verb, words: &[&[u8]], names: &Names) -> Option<Command>
     ensures { IfSome result (λ c. (begun : List (List ℕ)) →
         command_meaning (record { names = names.now; begun = begun }) (Some verb) (map (λ word. word.now) words.now)
@@ -136,7 +135,7 @@ fn known_command(verb: Verb, words: &[&[u8]], names: &Names) -> Option<Command>
     }
 }
 
-// An ask of a known name.
+// Returns an ask of a known name.
 fn known_ask(words: &[&[u8]], names: &Names) -> Option<Command>
     ensures { IfSome result (λ c. (begun : List (List ℕ)) →
         command_meaning (record { names = names.now; begun = begun }) (Some Ask) (map (λ word. word.now) words.now)
@@ -148,7 +147,7 @@ fn known_ask(words: &[&[u8]], names: &Names) -> Option<Command>
     }
 }
 
-// A set of a known name.
+// Returns a set of a known name.
 fn known_set(words: &[&[u8]], names: &Names) -> Option<Command>
     ensures { IfSome result (λ c. (begun : List (List ℕ)) →
         command_meaning (record { names = names.now; begun = begun }) (Some Set) (map (λ word. word.now) words.now)
@@ -160,7 +159,7 @@ fn known_set(words: &[&[u8]], names: &Names) -> Option<Command>
     }
 }
 
-// A member of a known name, of a composite of a known name.
+// Returns a member of a known name in a composite of a known name.
 fn known_member(words: &[&[u8]], names: &Names) -> Option<Command>
     ensures { IfSome result (λ c. (begun : List (List ℕ)) →
         command_meaning (record { names = names.now; begun = begun }) (Some Member) (map (λ word. word.now) words.now)
@@ -176,7 +175,7 @@ fn known_member(words: &[&[u8]], names: &Names) -> Option<Command>
     }
 }
 
-// A line of a command, by its first word and the words behind it.
+// Returns the statement of a command, by its first word and its arguments.
 #[tactic(auto, unfolding(crate::specs::Statement::command_meaning), using(script_words::proofs::Interning::grows_same, crate::proofs::AddedNames::adds_none))]
 fn run_line(
     first: &[u8],
@@ -227,7 +226,7 @@ fn words_at(kind: Kind) -> usize
     }
 }
 
-// How many words a command has behind its first.
+// Returns how many arguments a command has.
 fn words_in(verb: Verb) -> usize
     ensures { result ≡ words_in (row_of verb) }
 {
@@ -235,7 +234,7 @@ fn words_in(verb: Verb) -> usize
     words_at(first) + words_at(second) + words_at(third)
 }
 
-// `action A`.
+// Reads `action A`.
 #[tactic(auto, unfolding(crate::specs::Statement::begin_meaning), using(script_words::proofs::Interning::grows_same, crate::proofs::AddedNames::adds_none))]
 fn begin_line(
     words: &[&[u8]],
@@ -264,7 +263,7 @@ fn begin_line(
     if begun.find(word).is_some() {
         return Err(LineFault::Kind(ScriptKind::Twice));
     }
-    // A line with a fault adds its name to neither, so that the actions' room is looked at before a name is added.
+    // A line with a fault adds its name to neither list, so the room for actions is checked before a name is added.
     if begun.len() == MOST_NAMES {
         return Err(LineFault::Kind(ScriptKind::Names));
     }
@@ -273,7 +272,7 @@ fn begin_line(
     Ok(Statement::Begin(name))
 }
 
-// `end`.
+// Reads `end`.
 fn end_line(words: &[&[u8]], inside: bool) -> Result<Statement, LineFault>
     ensures { (known : Known) → Gives (λ s. (s, known)) result (end_meaning known inside (map (λ word. word.now) words.now)) }
 {
@@ -286,7 +285,7 @@ fn end_line(words: &[&[u8]], inside: bool) -> Result<Statement, LineFault>
     Ok(Statement::End)
 }
 
-// What the words of a line say.
+// Returns the statement of the words of a line.
 #[tactic(auto, unfolding(crate::specs::Statement::words_meaning), using(script_words::proofs::Interning::grows_same, crate::proofs::AddedNames::adds_none))]
 fn words_line(
     words: &[&[u8]],
@@ -314,10 +313,13 @@ fn words_line(
     run_line(first, rest, names, begun)
 }
 
-/// What a line says, or its first fault. The names of a line without a fault get numbers, in order; one with a fault
-/// adds none, and want of memory may leave a front of them added. `begun` are the names of the actions so far, to which a
-/// line that begins one adds its own, and no other answer adds any. `words` is room for the words of the line: a vector for
-/// all lines is made once, as is `met`. An ask or a set of known names is read at once.
+/// Reads one line. The names of a line without a fault are added to `names` in order. A line that begins a block adds its name
+/// to `begun`, the names of the actions so far. `words` and `met` are reused for all lines. An ask or a set of known names is
+/// read without splitting it into words.
+///
+/// # Errors
+///
+/// The first fault of the line, which adds no name, or out of memory, where a prefix of its names may have been added.
 #[tactic(auto, using(script_words::proofs::Interning::grows_same, crate::proofs::AddedNames::adds_none))]
 pub fn read_line<'a>(
     line: &'a [u8],
@@ -341,7 +343,7 @@ pub fn read_line<'a>(
     }
 }
 
-// The same by the words of the line.
+// Reads a line by its words.
 #[tactic(auto, unfolding(crate::specs::Statement::line_meaning), using(script_words::proofs::Interning::grows_same, crate::proofs::AddedNames::adds_none))]
 pub(crate) fn read_words<'a>(
     line: &'a [u8],

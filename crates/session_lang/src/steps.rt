@@ -1,4 +1,4 @@
-// The statements of a script, and what they say together.
+// The statements of a script, and the script that they make.
 ghost use Rattle.std.specs.Prelude.{◌≡◌, ◌∷◌, ◌++◌, [], List, IfOk, OnOk, slice_index_or, cond, is_some, map};
 ghost use Rattle.std.specs.List.{find, list_any};
 ghost use Rattle.desk_names.specs.Names.{place_of};
@@ -16,13 +16,13 @@ use std::alloc::{AllocError, Global};
 /// A statement with the number of its line.
 #[derive(Clone, Copy)]
 pub struct Step {
-    /// The line, counted from 1.
+    /// The line, from 1.
     pub line: u32,
-    /// What it says.
+    /// The statement of the line.
     pub what: Statement,
 }
 
-/// The line of the block that stands open after a statement.
+/// Returns the line of the block that is open after a statement.
 pub(crate) fn opened(statement: &Statement, line: u32, open_at: Option<u32>) -> Option<u32>
     ensures { result ≡ opened statement.now line open_at }
 {
@@ -33,7 +33,7 @@ pub(crate) fn opened(statement: &Statement, line: u32, open_at: Option<u32>) -> 
     }
 }
 
-/// Whether a block stands open.
+/// Returns whether a block is open.
 pub(crate) fn is_open(open_at: Option<u32>) -> bool
     ensures { result ≡ is_some open_at }
 {
@@ -49,7 +49,7 @@ fn step_at(line: u32, what: Statement) -> Step
     Step { line, what }
 }
 
-// The name of the action that a command names.
+// Returns the action that a command names.
 #[tactic(auto, unfolding(session_commands::specs::Parts::parts_of))]
 fn action_of(command: Command) -> Option<ActionId>
     ensures { result ≡ action_of command }
@@ -60,7 +60,7 @@ fn action_of(command: Command) -> Option<ActionId>
     }
 }
 
-// Whether a statement is asked for after all lines.
+// Returns whether a statement is needed after all lines.
 fn is_later(inside: bool, statement: &Statement) -> bool
     ensures { result ≡ is_later inside statement.now }
 {
@@ -71,7 +71,7 @@ fn is_later(inside: bool, statement: &Statement) -> bool
     }
 }
 
-// Puts a statement behind the others where it is asked for after all lines.
+// Appends a statement if it is needed after all lines.
 fn hold(
     steps: &mut Vec<Step>,
     line: u32,
@@ -86,7 +86,7 @@ fn hold(
     steps.extend_from_slice(&[step_at(line, statement)])
 }
 
-// Puts commands behind the others.
+// Appends commands.
 fn push_each(commands: &mut CommandList, more: &[Command]) -> Result<(), AllocError>
     ensures { OnOk result (commands.new ≡ commands.old ++ more.now) }
 {
@@ -96,7 +96,7 @@ fn push_each(commands: &mut CommandList, more: &[Command]) -> Result<(), AllocEr
     Ok(())
 }
 
-// Puts a command behind the others where it stands outside of blocks.
+// Appends a command if it is outside blocks.
 fn put_outside(
     commands: &mut CommandList,
     statement: Statement,
@@ -113,9 +113,8 @@ fn put_outside(
     }
 }
 
-/// Puts a statement behind the others, and tells the line of the block that stands open after it. A command outside of
-/// blocks goes to the commands; `steps` gets what is asked for after all lines alone, so that a long script of commands is
-/// kept once.
+/// Appends a statement and returns the line of the block that is open after it. A command outside blocks goes to `commands`.
+/// `steps` gets only what is needed after all lines, so that a long script of commands is kept once.
 pub(crate) fn add(
     commands: &mut CommandList,
     steps: &mut Vec<Step>,
@@ -133,7 +132,7 @@ pub(crate) fn add(
     Ok(opened(&statement, line, open_at))
 }
 
-/// Whether a statement names an action that was not begun.
+/// Returns whether a statement names an action that has no block.
 pub fn lacks(names: &Names, begun: &Names, statement: Statement) -> bool
     ensures { result ≡ lacks (record { names = names.now; begun = begun.now }) statement }
 {
@@ -146,7 +145,7 @@ pub fn lacks(names: &Names, begun: &Names, statement: Statement) -> bool
     }
 }
 
-// The place of an action's block, by the number of its name.
+// Returns the place of an action's block, by the number of its name.
 fn linked_action(names: &Names, begun: &Names, action: ActionId) -> ActionId
     ensures { result ≡ place_of begun.now (slice_index_or names.now action []) }
 {
@@ -156,7 +155,7 @@ fn linked_action(names: &Names, begun: &Names, action: ActionId) -> ActionId
     }
 }
 
-/// The command, a watch with the place of its action's block.
+/// Returns the command, where a watch has the place of its action's block.
 pub fn linked(names: &Names, begun: &Names, command: Command) -> Command
     ensures { result ≡ linked (record { names = names.now; begun = begun.now }) command }
 {
@@ -169,7 +168,7 @@ pub fn linked(names: &Names, begun: &Names, command: Command) -> Command
     }
 }
 
-/// The first line that names an action that no block defines.
+/// Returns the first line that names an action without a block.
 pub(crate) fn first_lacking(names: &Names, begun: &Names, steps: &[Step]) -> Option<u32>
     ensures { result ≡ line_of (find (λ step. lacks (record { names = names.now; begun = begun.now }) step.what) steps.now) }
 {
@@ -181,7 +180,7 @@ pub(crate) fn first_lacking(names: &Names, begun: &Names, steps: &[Step]) -> Opt
     None
 }
 
-// The commands of a block, up to its `end`.
+// Returns the commands of a block, up to its `end`.
 #[tactic(auto, unfolding(crate::specs::Reading::block_of))]
 fn block_of(
     alloc: Global,
@@ -211,7 +210,7 @@ fn begins(statement: Statement) -> bool
     }
 }
 
-/// The blocks, in order.
+/// Returns the commands of all blocks in order.
 #[tactic(auto, unfolding(crate::specs::Reading::actions_of))]
 pub(crate) fn actions_of(
     alloc: Global,
@@ -231,7 +230,7 @@ pub(crate) fn actions_of(
     Ok(actions)
 }
 
-/// The names of the blocks, in order.
+/// Returns the names of all blocks in order.
 #[tactic(auto, unfolding(crate::specs::Reading::action_names_of))]
 pub(crate) fn action_names_of(alloc: Global, steps: &[Step]) -> Result<NameList, AllocError>
     ensures { IfOk result (λ names. names ≡ action_names_of steps.now) }
@@ -245,14 +244,14 @@ pub(crate) fn action_names_of(alloc: Global, steps: &[Step]) -> Result<NameList,
     Ok(names)
 }
 
-// Whether a command names an action.
+// Returns whether a command names an action.
 fn has_watch(commands: &[Command]) -> bool
     ensures { result ≡ list_any (λ command. is_some (action_of command)) commands.now }
 {
     commands.iter().any(|command| action_of(*command).is_some())
 }
 
-// The commands in a list of their own, each watch with the place of its action's block.
+// Copies the commands, where each watch gets the place of its action's block.
 fn linked_each(
     alloc: Global,
     names: &Names,
@@ -268,8 +267,8 @@ fn linked_each(
     Ok(list)
 }
 
-/// The commands, each watch with the place of its action's block. Commands without a watch stay where they are, so that
-/// they take no second list.
+/// Returns the commands, where each watch has the place of its action's block. Commands without a watch stay in their list, so
+/// that they take no second one.
 pub(crate) fn all_linked(
     alloc: Global,
     names: &Names,

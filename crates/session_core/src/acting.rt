@@ -1,4 +1,4 @@
-// What a command does: its turn, its change, and want of memory in it; and who was told by it.
+// Carries out one command: its turn, its change, running out of memory in it, and the watchers that it notifies.
 ghost use Rattle.std.specs.Prelude.{◌≡◌, ◌++◌, true, false, is_err, is_ok, IfSome, OnOk, OnErr, ◌≤◌};
 ghost use Rattle.desk_terms.specs.Reading.{Calc};
 ghost use Rattle.desk_model.specs.Sound.{IsSound, KeepsCurrent};
@@ -24,10 +24,13 @@ use session_model::{Act, Change, Growth, How};
 use std::alloc::AllocError;
 
 impl Session {
-    /// Does one command, and appends its line where it writes one: the answer of an ask or of a recalculation, or why the
-    /// command is refused. A refused command changes nothing, and a command that writes nothing appends nothing. The
-    /// notices that it gives to watchers are kept for `Desk::next_told`. After want of memory the session is stopped; what was
-    /// computed before stays, and where the line alone found no memory, the command is done.
+    /// Carries out one command and appends its line, if it writes one: the result of an ask or a recalculation, or why the command
+    /// is refused. A refused command changes nothing. Notified watchers are kept for `Desk::next_told`.
+    ///
+    /// # Errors
+    ///
+    /// `AllocError` where memory runs out. Then the session is stopped, values that were computed stay, and no line is appended. If
+    /// only the line found no memory, the command is done.
     pub fn act<B: Bench>(
         &mut self,
         command: &Command,
@@ -38,15 +41,15 @@ impl Session {
         requires known { IsKnown self.old command.now }
         requires sound { IsSound (B.calc bench.old) self.old.state }
         ensures same { B.calc bench.new ≡ B.calc bench.old }
-        // The command does its turn, exactly.
+        // The command takes exactly its turn.
         ensures acts { OnOk result (Acts (B.calc bench.old) command.now self.old self.new
             lines.old.items lines.new.items (B.count bench.old) (B.count bench.new)
             (B.log bench.old) (B.log bench.new)) }
-        // Memory ran out in it: a front of its computations, no byte of its line, and nothing else.
+        // Out of memory: a prefix of its computations is done, and no byte of its line is appended.
         ensures halts { OnErr result (Halts (B.calc bench.old) command.now self.old self.new
             lines.old.items lines.new.items (B.count bench.old) (B.count bench.new)
             (B.log bench.old) (B.log bench.new)) }
-        // A quiet command that is not refused never wants memory.
+        // A quiet command that is not refused never runs out of memory.
         ensures ends { is_without_memory (resolve self.old command.now) ≡ true → is_ok result ≡ true }
         ensures names { self.new.names ≡ self.old.names }
         ensures actions { self.new.actions ≡ self.old.actions }
@@ -62,7 +65,7 @@ impl Session {
         }
     }
 
-    // Does one command, or refuses it.
+    // Carries out or refuses one command.
     fn turn<B: Bench>(
         &mut self,
         command: &Command,
@@ -97,7 +100,7 @@ impl Session {
         self.carry(command, bench, lines)
     }
 
-    // Does what a command resolves to, or writes why it is refused.
+    // Carries out the resolved command, or appends why it is refused.
     #[inline(never)]
     fn carry<B: Bench>(
         &mut self,
@@ -123,7 +126,7 @@ impl Session {
         }
     }
 
-    // Does what a command resolved to.
+    // Carries out a resolved command.
     #[inline(always)]
     fn carry_out<B: Bench>(
         &mut self,
@@ -158,7 +161,7 @@ impl Session {
         }
     }
 
-    // Writes the line of a refused command.
+    // Appends the line of a refused command.
     #[inline(never)]
     fn refuse(
         &self,
@@ -174,17 +177,17 @@ impl Session {
         refusal_line(self.alloc, command.word(), refusal, &self.namer(), lines)
     }
 
-    /// Does a quiet command by itself, and answers why it is refused, if it is: a refused command changes nothing. The
-    /// notices that it gives are kept for `Desk::next_told`. It computes nothing, writes no line and takes no memory.
+    /// Carries out a quiet command by itself and returns why it is refused, if it is. A refused command changes nothing. Notified
+    /// watchers are kept for `Desk::next_told`. Computes nothing, writes no line and takes no memory.
     pub fn change(&mut self, command: &Command) -> Option<Refusal>
         requires running { self.old.stopped ≡ false }
         requires known { IsKnown self.old command.now }
         requires quiet { is_quiet command.now ≡ true }
-        // It does the turn of the command, which is that of every bench.
+        // It takes the turn of the command, which is the same for every bench.
         ensures turns { (calc : Calc) → self.new ≡ (turn calc self.old command.now).next }
         ensures refusal { result ≡ result_err (resolve self.old command.now) }
         ensures same { IfSome result (λ _. self.new ≡ self.old) }
-        // Of the session the state alone changes.
+        // Only the state of the session changes.
         ensures alike { self.new ≡ record self.old { state = self.new.state } }
         ensures keeps { KeepsCurrent self.old.state self.new.state }
         ensures sound { (calc : Calc) → IsSound calc self.old.state → IsSound calc self.new.state }
@@ -198,7 +201,7 @@ impl Session {
         }
     }
 
-    // Makes the change that a quiet command resolved to.
+    // Makes the change of a resolved quiet command.
     fn carry_change(&mut self, act: &Act)
         requires quiet { is_quiet_act act.now ≡ true }
         requires allowed { IsAllowed self.old act.now }
@@ -215,7 +218,7 @@ impl Session {
         }
     }
 
-    // Makes a change, by itself or in a turn. What is dropped leaves its name free.
+    // Makes a change, by itself or in a turn. A dropped object leaves its name free.
     #[inline(always)]
     fn apply(&mut self, change: Change)
         requires may { MayChange self.old.state change }
@@ -231,7 +234,7 @@ impl Session {
         }
     }
 
-    // Makes a change that is stored beside what is there. After want of memory the session is as it was.
+    // Makes a change that needs memory. Out of memory, the session is as before.
     fn grow(&mut self, growth: Growth) -> Result<(), AllocError>
         requires may { MayGrow self.old.state growth }
         ensures set { OnOk result (self.new ≡ with_state (grown growth self.old.state) self.old) }
@@ -269,7 +272,7 @@ fn change_desk(desk: &mut Desk, change: &Change)
     }
 }
 
-// Makes a change that is stored beside the objects. After want of memory they are as they were.
+// Makes a change of the objects that needs memory. Out of memory, they are as before.
 #[tactic(auto, unfolding(session_model::specs::Change::grown))]
 fn grow_desk(desk: &mut Desk, growth: Growth) -> Result<(), AllocError>
     requires may { MayGrow desk.old growth }

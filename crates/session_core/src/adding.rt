@@ -1,4 +1,4 @@
-// An object or a watcher more, which has a name.
+// Adds named objects and watchers.
 ghost use Rattle.std.specs.Prelude.{◌≡◌, ◌<◌, false, length, Some, None, IfOk, OnOk, OnErr};
 ghost use Rattle.desk_terms.specs.Reading.{Calc, AreInRange};
 ghost use Rattle.desk_model.specs.Links.{AreOfKind};
@@ -14,9 +14,12 @@ use session_commands::ActionId;
 use std::alloc::AllocError;
 
 impl Session {
-    /// Makes an object that has this name and these terms, and answers its number: how many numbers were given before.
-    /// It is refused `Taken` where a live object has the name, then `TooMany` where there is no room. After a refusal
-    /// or want of memory the session is as it was.
+    /// Makes an object with this name and these terms and returns its number, which is the count of numbers given before.
+    ///
+    /// # Errors
+    ///
+    /// `Refused(Taken)` where a live object has the name, then `Refused(TooMany)` where there is no room, and `NoMemory` where
+    /// memory runs out. Then the session is as before.
     pub fn make(&mut self, name: NameId, terms: Terms) -> Result<ObjId, MakeFault>
         requires running { self.old.stopped ≡ false }
         requires named { name < length self.old.names }
@@ -34,8 +37,7 @@ impl Session {
         Ok(self.add(name, terms)?)
     }
 
-    // Makes an object that has this name and these terms, and answers its number. Its name is taken back where memory
-    // is wanting for the object.
+    // Makes an object with this name and these terms and returns its number. Out of memory, it releases the name again.
     #[inline(always)]
     pub(crate) fn add(&mut self, name: NameId, terms: Terms) -> Result<ObjId, AllocError>
         requires named { name < length self.old.names }
@@ -64,7 +66,7 @@ impl Session {
         }
     }
 
-    // Makes a watcher that has this name and this action. Its name is taken back where memory is wanting for it.
+    // Makes a watcher with this name and this action. Out of memory, it releases the name again.
     pub(crate) fn watch(&mut self, name: NameId, action: ActionId) -> Result<(), AllocError>
         requires named { name < length self.old.names }
         requires free { object_named self.old name ≡ None }

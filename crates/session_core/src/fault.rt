@@ -6,17 +6,17 @@ use thiserror::Error;
 /// Why a session makes no object.
 #[derive(Clone, Copy, Debug, Error, PartialEq, Eq)]
 pub enum MakeFault {
-    /// A live object has the name, or there is no room.
+    /// `Taken`: a live object has the name. `TooMany`: there is no room.
     #[error("refused")]
     Refused(Refusal),
     #[error("out of memory")]
     NoMemory,
 }
 
-/// Why a session takes no action more.
+/// Why a session adds no action.
 #[derive(Clone, Copy, Debug, Error, PartialEq, Eq)]
 pub enum ActionFault {
-    /// It has as many as may be.
+    /// It has `MOST_ACTIONS` actions.
     #[error("too many actions")]
     Full,
     #[error("out of memory")]

@@ -1,4 +1,4 @@
-// A session that grows: a name more, an action more.
+// Adds names and actions to a session.
 ghost use Rattle.std.specs.Prelude.{◌≡◌, ◌<◌, ◌≤◌, ◌↔◌, true, false, length, IfOk, IfErr, OnOk, OnErr, IsOk, IsErrOf, vec_len, vec_capacity};
 ghost use Rattle.desk_names.specs.Name.{is_name, IsName};
 ghost use Rattle.desk_names.specs.Names.{has_text, place_of, most_names};
@@ -13,15 +13,16 @@ use desk_names::{MOST_NAMES, NameFault, NameId, ObjId, is_name};
 use session_commands::{ActionId, CommandList};
 use std::alloc::AllocError;
 
-/// How many actions a session may have.
+/// The greatest number of actions of a session.
 pub const MOST_ACTIONS: usize = 65_536;
 
 impl Session {
-    /// The number of a name, which is added behind the others where it is new: no object has it then, and no watcher of it
-    /// has an action. A name that is known keeps its number, and takes no memory.
+    /// Returns the number of a name. A new name is appended: it names no object, and no watcher of it has an action. A known name
+    /// keeps its number and takes no memory. A stopped session takes names, too.
     ///
-    /// `Form` where the text is no name, `Full` where it is new and the session has as many names as may be. A session that
-    /// is stopped takes names still.
+    /// # Errors
+    ///
+    /// `Form` where the text is no name, `Full` where it is new and the session has 65,536 names, `NoMemory` where memory runs out.
     pub fn intern(&mut self, text: &[u8]) -> Result<NameId, NameFault>
         ensures place { IfOk result (λ name. name ≡ place_of self.old.names text.now) }
         ensures kept { OnOk result (self.new ≡ interned text.now self.old) }
@@ -44,7 +45,7 @@ impl Session {
         self.learn(text)
     }
 
-    // Adds a name that is new behind the others.
+    // Appends a new name.
     fn learn(&mut self, text: &[u8]) -> Result<NameId, NameFault>
         requires new { has_text self.old.names text.now ≡ false }
         requires named { IsName text.now }
@@ -61,8 +62,11 @@ impl Session {
         Ok(name)
     }
 
-    /// Adds an action of these commands behind the others, and answers its number. `Full` exactly where the session has
-    /// 65,536 actions or more. A session that is stopped takes actions still.
+    /// Appends an action of these commands and returns its number. A stopped session takes actions, too.
+    ///
+    /// # Errors
+    ///
+    /// `Full` exactly where the session has 65,536 actions or more, `NoMemory` where memory runs out.
     pub fn add_action(&mut self, block: CommandList) -> Result<ActionId, ActionFault>
         ensures number { IfOk result (λ action. action ≡ length self.old.actions) }
         ensures added { OnOk result (self.new ≡ with_action block self.old) }
@@ -79,7 +83,7 @@ impl Session {
     }
 }
 
-// Finds room for one name more in the tables by names.
+// Reserves room for one more name in the tables by name.
 fn room_for_name(
     watching: &mut Vec<Option<ActionId>>,
     of_name: &mut Vec<Option<ObjId>>,

@@ -1,4 +1,4 @@
-// What is priced by name, with its line: an ask, a discount factor, a recalculation.
+// Prices by name and their lines: an ask, a discount factor, a recalculation.
 ghost use Rattle.std.specs.Prelude.{◌≡◌, ◌++◌, true, option_copied, IfOk, OnOk, OnErr};
 ghost use Rattle.desk_terms.specs.Asked.{Shows};
 ghost use Rattle.desk_terms.specs.Reading.{Outcome};
@@ -21,7 +21,7 @@ use session_model::How;
 use std::alloc::AllocError;
 
 impl Session {
-    // Prices a lazy object, and writes its line.
+    // Prices a lazy object and appends its line.
     #[inline(always)]
     pub(crate) fn price<B: Bench>(
         &mut self,
@@ -46,7 +46,7 @@ impl Session {
         self.report(name, object, how, &asked, lines)
     }
 
-    // Asks a lazy object, or prices it whatever its flags say.
+    // Asks a lazy object, or recalculates it whatever its flags are.
     fn answer<B: Bench>(
         &mut self,
         object: ObjId,
@@ -70,7 +70,7 @@ impl Session {
         }
     }
 
-    // Prices a lazy object that is not late, whatever its flags say.
+    // Recalculates a lazy object that is not late, whatever its flags are.
     fn recalc<B: Bench>(&mut self, object: ObjId, bench: &mut B) -> Result<Asked, AllocError>
         requires may { MayRecalc self.old.state object }
         requires sound { IsSound (B.calc bench.old) self.old.state }
@@ -89,7 +89,7 @@ impl Session {
         }
     }
 
-    // Writes the line of an object that was priced.
+    // Appends the line of a priced object.
     fn report(
         &self,
         name: NameId,
@@ -116,7 +116,7 @@ impl Session {
     }
 }
 
-// The discount factor at a day of what an ask of an object shows, beside the last value of the object.
+// Returns the discount factor on a day, from the result of an ask and the last value of the object.
 #[tactic(auto, unfolding(session_model::specs::Pricing::discount_in))]
 fn discount_in(
     object: ObjId,

@@ -1,4 +1,4 @@
-// What a command is once its names are looked up, or why it is refused.
+// Resolves a command: looks up its names, or finds why it is refused.
 ghost use Rattle.std.specs.Prelude.{◌≡◌, [], None, Some, Ok, Err, is_some, not, if◌then◌else◌};
 ghost use Rattle.session_commands.specs.declared.refusal.Refusal.TheVariants.{Taken, TooMany, AlreadyRegistered, NotRegistered};
 ghost use Rattle.desk_terms.specs.declared.terms.Terms.TheVariants as terms;
@@ -26,7 +26,7 @@ use session_commands::{ActionId, Command, Refusal};
 use session_model::{Act, Change, Growth, How, MOST_LIVE, MOST_NUMBERS, Place};
 
 impl Session {
-    // The command with its objects found, or the first reason for which it is refused.
+    // Returns the command with its objects, or the first reason to refuse it.
     #[tactic(auto, unfolding(session_model::specs::Resolve::resolve))]
     #[inline(always)]
     pub(crate) fn resolve(&mut self, command: &Command) -> Result<Act, Refusal>
@@ -65,7 +65,7 @@ impl Session {
         }
     }
 
-    // The live object that has the name.
+    // Returns the live object of a name.
     pub(crate) fn named(&self, name: NameId) -> Option<ObjId>
         ensures { result ≡ object_named self.now name }
     {
@@ -75,7 +75,7 @@ impl Session {
         }
     }
 
-    // The object that a name stands for, where it is of a kind that the place takes.
+    // Returns the object of a name, if it is of a kind that the place takes.
     #[tactic(auto, unfolding(session_model::specs::Resolve::find))]
     pub(crate) fn find(&self, place: Place, name: NameId) -> Result<ObjId, Refusal>
         ensures { result ≡ find place self.now name }
@@ -87,14 +87,14 @@ impl Session {
         }
     }
 
-    // Whether the object is a quote, by its terms at one look.
+    // Returns whether the object is a quote. It looks at its terms once.
     pub(crate) fn is_quote(&self, object: ObjId) -> bool
         ensures { result ≡ takes_found place.Quote (kind_at self.now.state.market object) }
     {
         matches!(self.desk.terms(object), Some(Terms::Quote(_)))
     }
 
-    // Whether the object is priced, by its terms at one look.
+    // Returns whether the object has a price or is a curve. It looks at its terms once.
     pub(crate) fn is_priced(&self, object: ObjId) -> bool
         ensures { result ≡ takes_found place.Priced (kind_at self.now.state.market object) }
     {
@@ -117,7 +117,7 @@ impl Session {
         }
     }
 
-    // Whether the object is of a kind that the place takes.
+    // Returns whether the object is of a kind that the place takes.
     fn takes(&self, place: Place, object: ObjId) -> bool
         ensures { result ≡ takes_found place (kind_at self.now.state.market object) }
     {
@@ -127,7 +127,11 @@ impl Session {
         }
     }
 
-    /// A new name must not be the name of a live object.
+    /// Checks a new name.
+    ///
+    /// # Errors
+    ///
+    /// `Taken` where it is the name of a live object.
     pub fn free(&self, name: NameId) -> Result<(), Refusal>
         ensures { result ≡ (if is_some (object_named self.now name) then Err (Taken name) else Ok tt) }
     {
@@ -137,7 +141,7 @@ impl Session {
         }
     }
 
-    // Whether there is no room for one object more.
+    // Returns whether there is no room for one more object.
     #[tactic(auto, unfolding(session_model::specs::Standing::is_full))]
     fn is_full(&self) -> bool
         ensures { result ≡ is_full self.now.state.market }
@@ -145,7 +149,11 @@ impl Session {
         self.live >= MOST_LIVE || self.desk.len() >= MOST_NUMBERS
     }
 
-    /// A new object needs room.
+    /// Checks the room for a new object.
+    ///
+    /// # Errors
+    ///
+    /// `TooMany` where 4,096 objects are live or 65,536 numbers were given.
     pub fn room(&self) -> Result<(), Refusal>
         ensures { result ≡ (if is_full self.now.state.market then Err TooMany else Ok tt) }
     {
@@ -224,7 +232,7 @@ impl Session {
         ))
     }
 
-    // What a handle may be linked to.
+    // Returns the kinds that a handle may be linked to.
     fn target_of(&self, handle: ObjId) -> Place
         ensures { result ≡ target_of self.now.state.market handle }
     {
@@ -408,7 +416,7 @@ impl Session {
     }
 }
 
-// What a handle stands for.
+// Returns the kind of a handle.
 fn handle_kind(is_curve: bool) -> HandleKind
     ensures { result ≡ handle_kind is_curve }
 {

@@ -1,4 +1,4 @@
-// A session: its objects, their names and its actions. A clause sees it as a standing of the definition.
+// A session: its objects, their names and its actions. In clauses it is a standing of the definition.
 ghost use Rattle.std.specs.Prelude.{◌≡◌, ◌<◌, ◌≤◌, ◌+◌, ◌^◌, true, length, codes, None, [], IfOk, IfSome, replicate, slice_get, slice_index_or};
 ghost use Rattle.desk_names.specs.Names.{has_text};
 ghost use Rattle.desk_terms.specs.Reading.{Calc};
@@ -15,9 +15,9 @@ use std::alloc::{AllocError, Global};
 use std::marker::Model;
 use std::ops::Deref;
 
-/// A session: its objects with their names, the values that are stored, and the actions of its script.
+/// A session: its objects with their names, their values, and the actions of its script.
 pub struct Session {
-    /// Its objects, by number. Who changes them from outside leaves each of them alive or not as it was: the names stand.
+    /// Its objects by number. A change from outside neither makes nor removes objects, so that the names stay right.
     pub desk: Desk,
     pub(crate) names: Names,
     pub(crate) of_object: NameList,
@@ -31,7 +31,7 @@ pub struct Session {
     pub(crate) alloc: Global,
 }
 
-// Who lets a session go calls this at each exit, and does not let its parts go one by one.
+// Each exit of an owner of a session calls this once, instead of dropping each field.
 impl Drop for Session {
     fn drop(self) {
         let Session {
@@ -73,7 +73,7 @@ impl Model for Session {
     }) s.of_name.items s.live };
 }
 
-// What is read of its objects is read of it.
+// The calls that read objects by number.
 impl Deref for Session {
     type Target = Desk;
 
@@ -85,8 +85,11 @@ impl Deref for Session {
 }
 
 impl Session {
-    /// A session that has these names, the text `today` among them, this evaluation date and these actions, and no
-    /// object but `today`.
+    /// Makes a session with these names, `today` among them, this evaluation date and these actions. Its only object is `today`.
+    ///
+    /// # Errors
+    ///
+    /// `AllocError` where memory runs out.
     pub fn new(
         alloc: Global,
         names: Names,
@@ -119,21 +122,21 @@ impl Session {
         })
     }
 
-    /// Whether an earlier step found no memory. A stopped session takes no further command.
+    /// Returns whether an earlier command ran out of memory. A stopped session takes no further command.
     pub fn is_stopped(&self) -> bool
         ensures { result ≡ self.now.stopped }
     {
         self.stopped
     }
 
-    /// Takes no further command: memory ran out beside it.
+    /// Stops the session, since memory ran out elsewhere. It takes no further command.
     pub fn stop(&mut self)
         ensures { self.new ≡ record self.old { stopped = true } }
     {
         self.stopped = true;
     }
 
-    /// The name of an object.
+    /// Returns the name of an object.
     pub fn name_of(&self, object: ObjId) -> NameId
         requires { object < length self.now.of_object }
         ensures { result ≡ name_of self.now object }
@@ -141,7 +144,7 @@ impl Session {
         self.of_object.items()[object.place()]
     }
 
-    /// The action of the watcher that has or had a name.
+    /// Returns the action of the watcher that has or had a name.
     pub fn action_of(&self, name: NameId) -> Option<ActionId>
         ensures { result ≡ slice_index_or self.now.watching name None }
     {
@@ -151,7 +154,7 @@ impl Session {
         }
     }
 
-    /// The command at a place of an action, from 0, if there is one.
+    /// Returns the command at a place of an action, from 0, if there is one.
     pub fn command_at(&self, action: ActionId, at: usize) -> Option<Command>
         ensures at { result ≡ slice_get (slice_index_or self.now.actions action []) at }
         ensures low { IfSome result (λ _. at + 1 < 2 ^ 64) }
@@ -162,28 +165,28 @@ impl Session {
         }
     }
 
-    /// Does nothing: what is known of the watchers of every session, each of which has a name that no other live one has.
+    /// A law, which does nothing: in every session each watcher has a name that no other live one has.
     pub fn watchers(&self)
         ensures { AreWatchers self.now }
     {
         let _ = &self.of_name;
     }
 
-    /// Its objects, by number.
+    /// Returns its objects.
     pub fn desk(&self) -> &Desk
         ensures { result.now ≡ self.now.state }
     {
         &self.desk
     }
 
-    /// Its names.
+    /// Returns its names.
     pub fn names(&self) -> &Names
         ensures { result.now ≡ self.now.names }
     {
         &self.names
     }
 
-    /// The texts of its names, and the names of its objects.
+    /// Returns the texts of its names with the names of its objects, for printing.
     pub fn namer(&self) -> Namer<'_>
         ensures names { result.names.now ≡ self.now.names }
         ensures objects { result.of_object.now ≡ self.now.of_object }
@@ -194,7 +197,7 @@ impl Session {
         }
     }
 
-    /// How many numbers were given to objects.
+    /// Returns how many numbers were given to objects.
     pub fn numbers(&self) -> u32
         ensures numbers { result ≡ length self.now.of_object }
         ensures limit { result ≤ 2 ^ 16 }
@@ -204,21 +207,21 @@ impl Session {
     }
 }
 
-// A table by names in which no name stands for an object.
+// Makes a table by name without objects.
 fn unnamed(alloc: Global, names: usize) -> Result<Vec<Option<ObjId>>, AllocError>
     ensures { IfOk result (λ table. table.items ≡ replicate names None) }
 {
     vec![in alloc; None; names]
 }
 
-// A table by names in which no name has an action.
+// Makes a table by name without actions.
 fn unwatched(alloc: Global, names: usize) -> Result<Vec<Option<ActionId>>, AllocError>
     ensures { IfOk result (λ table. table.items ≡ replicate names None) }
 {
     vec![in alloc; None; names]
 }
 
-// The command at a place of a list, if there is one.
+// Returns the command at a place of a list, if there is one.
 fn command_in(commands: &CommandList, at: usize) -> Option<Command>
     ensures at { result ≡ slice_get commands.now at }
     ensures low { IfSome result (λ _. at + 1 < 2 ^ 64) }

@@ -1,4 +1,4 @@
-// What is stored of an object, by its name.
+// Values of objects by name.
 ghost use Rattle.std.specs.Prelude.{◌≡◌, option_copied};
 ghost use Rattle.session_model.specs.declared.place.Place.TheVariants.{Priced};
 ghost use Rattle.session_model.specs.Resolve.{find};
@@ -11,15 +11,18 @@ use session_commands::Refusal;
 use session_model::Place;
 
 impl Session {
-    /// The live lazy object that has a name, or why a command that asks for it is refused.
+    /// Returns the live lazy object of a name.
+    ///
+    /// # Errors
+    ///
+    /// The refusal of a command that asks for it: `Unknown` or `Kind`.
     pub fn priced(&self, name: NameId) -> Result<ObjId, Refusal>
         ensures { result ≡ find Priced self.now name }
     {
         self.find(Place::Priced, name)
     }
 
-    /// The last value of the live lazy object that has a name; none where no such object has it, and where the object has
-    /// no value yet.
+    /// Returns the last value of the live lazy object of a name. `None` if there is no such object, or it has no value yet.
     pub fn value(&self, name: NameId) -> Option<&Value>
         ensures { option_copied result ≡ value_of self.now name }
     {
@@ -29,8 +32,7 @@ impl Session {
         }
     }
 
-    /// Whether that value is current: nothing that it was computed from has changed since. False where there is no such
-    /// object.
+    /// Returns whether that value is current: no dependency has changed since it was computed. False if there is no such object.
     pub fn is_current(&self, name: NameId) -> bool
         ensures { result ≡ is_current_of self.now name }
     {
@@ -40,9 +42,8 @@ impl Session {
         }
     }
 
-    /// What an ask of the live lazy object that has a name answers where the object is frozen, late or current: its last
-    /// value, or that it has none. None exactly where it is none of these, or no such object has the name. Nothing is
-    /// computed, and it takes no memory.
+    /// Returns the result of an ask of the live lazy object of a name, if it is frozen, late or current: its last value, or that it
+    /// has none. `None` exactly if it is none of these, or there is no such object. Computes nothing and takes no memory.
     pub fn ask_held(&mut self, name: NameId) -> Option<Asked>
         ensures answer { result ≡ held_of self.old name }
         ensures same { self.new ≡ self.old }

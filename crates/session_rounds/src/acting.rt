@@ -1,4 +1,4 @@
-// What one command does in a round, whom its notices make due, and who of the due has no registration left.
+// One command of a round, the watchers that its notifications make due, and the due watchers without a registration.
 ghost use Rattle.std.specs.Prelude.{◌≡◌, ◌⊎◌, ◌∷◌, ◌≤◌, ◌+◌, true, false, [], length, is_ok, OnOk, OnErr, ◌++◌};
 ghost use Rattle.desk_model.specs.Sound.{IsSound};
 ghost use Rattle.session_model.specs.Standing.{IsKnown, name_of};
@@ -25,7 +25,7 @@ use std::alloc::AllocError;
 use watch_rounds::{Notice, Picker, Rounds};
 
 impl<P: Picker> WatchedSession<P> {
-    // Does one command, at the top or in an action, with its notices.
+    // Carries out one command, at the top or in an action, with its notifications.
     pub(crate) fn command<B: Bench>(
         &mut self,
         command: &Command,
@@ -55,7 +55,7 @@ impl<P: Picker> WatchedSession<P> {
         self.hear(lines)
     }
 
-    // Carries a command out, or refuses it; nobody is handed a notice yet. After want of memory nobody is due.
+    // Carries out or refuses a command, before its notifications are handed out. Out of memory, no watcher is due.
     fn act<B: Bench>(
         &mut self,
         command: &Command,
@@ -100,7 +100,7 @@ impl<P: Picker> WatchedSession<P> {
         }
     }
 
-    // Hands the notices of a command out, to each watcher that was told, by creation.
+    // Hands out the notifications of a command, to each notified watcher by creation.
     fn hear(&mut self, lines: &mut Vec<u8>) -> Result<(), AllocError>
         ensures ok { OnOk result (Does P (heard self.old) self.new (lines_alone lines.old.items) (lines_alone lines.new.items)) }
         ensures err { OnErr result (Halts P (heard self.old) (lines_alone lines.old.items) (lines_alone lines.new.items)) }
@@ -120,7 +120,7 @@ impl<P: Picker> WatchedSession<P> {
         }
     }
 
-    // A notice to a watcher: it is due, or its name is over, which the first time writes a line.
+    // Notifies a watcher: it becomes due, or its name is over, which writes a line the first time.
     fn notice(&mut self, watcher: ObjId, lines: &mut Vec<u8>) -> Result<(), AllocError>
         requires { IsAWatcher self.old.standing watcher }
         ensures ok { OnOk result (Does P (notice watcher self.old) self.new (lines_alone lines.old.items) (lines_alone lines.new.items)) }
@@ -137,7 +137,7 @@ impl<P: Picker> WatchedSession<P> {
         self.say(notice, name, lines)
     }
 
-    // The line of a name that is over.
+    // Appends the line of a name that is over.
     fn say(&self, notice: Notice, name: NameId, lines: &mut Vec<u8>) -> Result<(), AllocError>
         ensures ok { OnOk result (lines.new.items ≡ lines.old.items ++ over_lines self.now.standing.names name notice) }
         ensures err { OnErr result (lines.new.items ≡ lines.old.items) }
@@ -151,10 +151,10 @@ impl<P: Picker> WatchedSession<P> {
     }
 }
 
-// For how many objects more room is found at once.
+// For how many objects room is reserved at once.
 const ROOM: u32 = 64;
 
-// Finds room for one object more, where the last command took it. Where there is none, the session is stopped.
+// Reserves room for one more object, if the last command took the room. Out of memory, it stops the session.
 fn make_room(rounds: &mut Rounds, session: &mut Session) -> Result<(), AllocError>
     requires room { length session.old.of_object ≤ rounds.old.nodes }
     ensures round { rounds.new.round ≡ rounds.old.round }
@@ -177,21 +177,21 @@ fn make_room(rounds: &mut Rounds, session: &mut Session) -> Result<(), AllocErro
     }
 }
 
-// Whether a command may leave a watcher without a registration.
+// Returns whether a command may leave a watcher without a registration.
 fn may_idle(command: &Command) -> bool
     ensures { result ≡ may_idle command.now }
 {
     matches!(command, Command::Unregister(_, _) | Command::Drop(_))
 }
 
-// Whether each due watcher is known to have a registration also after a command.
+// Returns whether each due watcher is still known to have a registration after a command.
 fn stays_settled(settled: bool, command: &Command) -> bool
     ensures { (result ≡ true) → (settled ≡ true) × (may_idle command.now ≡ false) }
 {
     settled && !may_idle(command)
 }
 
-// Whether each due watcher is known to have a registration also after a notice to a watcher.
+// Returns whether each due watcher is still known to have a registration after a notification of a watcher.
 fn settled_with(settled: bool, notice: Notice, session: &Session, watcher: ObjId) -> bool
     ensures { result ≡ true
         → (settled ≡ true) × (notice ≡ Due → is_watching session.now.state watcher ≡ true) }
@@ -199,7 +199,7 @@ fn settled_with(settled: bool, notice: Notice, session: &Session, watcher: ObjId
     settled && (notice != Notice::Due || session.watching(watcher))
 }
 
-// Takes out of the due who has no registration left, unless each of them is known to have one.
+// Removes due watchers without a registration, unless each is known to have one.
 pub(crate) fn settle(rounds: &mut Rounds, session: &Session, settled: bool)
     requires { IsSettled settled session.now.state rounds.old.round.due }
     ensures undue { rounds.new ≡ record rounds.old { round = undue session.now.state rounds.old.round } }
@@ -211,7 +211,7 @@ pub(crate) fn settle(rounds: &mut Rounds, session: &Session, settled: bool)
     forget_idle(rounds, session);
 }
 
-// Takes out of the due who has no registration left.
+// Removes due watchers without a registration.
 fn forget_idle(rounds: &mut Rounds, session: &Session)
     ensures undue { rounds.new ≡ record rounds.old { round = undue session.now.state rounds.old.round } }
     ensures watching { AreWatching session.now.state rounds.new.round.due }

@@ -21,14 +21,14 @@ use std::alloc::AllocError;
 use watch_rounds::Picker;
 
 impl<P: Picker> WatchedSession<P> {
-    /// Does a quiet command by itself, and answers why it is refused, if it is: a refused command changes nothing. No
-    /// watcher runs and no line is written. The notices that it gives are kept, and forgotten as the next step begins its
-    /// round. It computes nothing and takes no memory.
+    /// Carries out a quiet command by itself and returns why it is refused, if it is. A refused command changes nothing. No watcher
+    /// runs and no line is written. Its notifications are kept, and forgotten when the next step begins its round. Computes nothing
+    /// and takes no memory.
     pub fn change(&mut self, command: &Command) -> Option<Refusal>
         requires running { self.old.standing.stopped ≡ false }
         requires known { IsKnown self.old.standing command.now }
         requires quiet { is_quiet command.now ≡ true }
-        // It does what a step of the command does before its notices are handed out.
+        // It does what a step of the command does before its notifications are handed out.
         ensures turns { (calc : Calc) → self.new ≡ (taken (turn calc self.old.standing command.now) self.old).next }
         ensures refusal { result ≡ result_err (resolve self.old.standing command.now) }
         ensures running { self.new.standing.stopped ≡ false }
@@ -45,7 +45,11 @@ impl<P: Picker> WatchedSession<P> {
         refusal
     }
 
-    /// Asks a lazy object between rounds. It computes only what it uses and has no current value, and tells nobody.
+    /// Asks a lazy object between rounds. Recomputes only what it uses and is out of date, and notifies nobody.
+    ///
+    /// # Errors
+    ///
+    /// `AllocError` where memory runs out. Then objects that were recomputed keep their values.
     pub fn ask<B: Bench>(&mut self, object: ObjId, bench: &mut B) -> Result<Asked, AllocError>
         requires lazy { is_lazy_at self.old.standing.state.market object ≡ true }
         requires sound { IsSound (B.calc bench.old) self.old.standing.state }

@@ -1,4 +1,4 @@
-// A session with watchers that grows: a name more, an action more, an object more.
+// Adds names, actions and objects to a session with watchers.
 ghost use Rattle.std.specs.Prelude.{◌≡◌, ◌<◌, ◌≤◌, ◌↔◌, true, false, length, Some, All, IfOk, IfErr, OnOk, OnErr, IsOk, IsErrOf};
 ghost use Rattle.desk_names.specs.Name.{is_name, IsName};
 ghost use Rattle.desk_names.specs.Names.{has_text, place_of, most_names};
@@ -20,11 +20,12 @@ use session_core::{ActionFault, MakeFault};
 use watch_rounds::Picker;
 
 impl<P: Picker> WatchedSession<P> {
-    /// The number of a name, which is added behind the others where it is new: no object has it then, no watcher of it has
-    /// an action, and no run of it began. A name that is known keeps its number, and takes no memory.
+    /// Returns the number of a name. A new name is appended: it names no object, no watcher of it has an action, and none of its
+    /// runs began. A known name keeps its number and takes no memory. A stopped session takes names, too.
     ///
-    /// `Form` where the text is no name, `Full` where it is new and the session has as many names as may be. A session that
-    /// is stopped takes names still.
+    /// # Errors
+    ///
+    /// `Form` where the text is no name, `Full` where it is new and the session has 65,536 names, `NoMemory` where memory runs out.
     pub fn intern(&mut self, text: &[u8]) -> Result<NameId, NameFault>
         ensures place { IfOk result (λ name. name ≡ place_of self.old.standing.names text.now) }
         ensures kept { OnOk result (self.new ≡ interned_in text.now self.old) }
@@ -47,7 +48,7 @@ impl<P: Picker> WatchedSession<P> {
         self.learn(text)
     }
 
-    // Adds a name that is new behind the others. Room for its runs is found first.
+    // Appends a new name, after room for its runs is reserved.
     fn learn(&mut self, text: &[u8]) -> Result<NameId, NameFault>
         requires new { has_text self.old.standing.names text.now ≡ false }
         requires named { IsName text.now }
@@ -65,8 +66,12 @@ impl<P: Picker> WatchedSession<P> {
         Ok(name)
     }
 
-    /// Adds an action of these commands behind the others, and answers its number. The commands may name the action itself.
-    /// `Full` exactly where the session has 65,536 actions or more. A session that is stopped takes actions still.
+    /// Appends an action of these commands and returns its number. The commands may name the action itself. A stopped session takes
+    /// actions, too.
+    ///
+    /// # Errors
+    ///
+    /// `Full` exactly where the session has 65,536 actions or more, `NoMemory` where memory runs out.
     pub fn add_action(&mut self, block: CommandList) -> Result<ActionId, ActionFault>
         requires known { All (IsKnown (with_action block self.old.standing)) block }
         ensures number { IfOk result (λ action. action ≡ length self.old.standing.actions) }
@@ -80,9 +85,12 @@ impl<P: Picker> WatchedSession<P> {
         self.session.add_action(block)
     }
 
-    /// Makes an object that has this name and these terms, and answers its number: how many numbers were given before. It
-    /// is refused `Taken` where a live object has the name, then `TooMany` where there is no room. After a refusal or want
-    /// of memory the session is as it was.
+    /// Makes an object with this name and these terms and returns its number, which is the count of numbers given before.
+    ///
+    /// # Errors
+    ///
+    /// `Refused(Taken)` where a live object has the name, then `Refused(TooMany)` where there is no room, and `NoMemory` where
+    /// memory runs out. Then the session is as before.
     pub fn make(&mut self, name: NameId, terms: Terms) -> Result<ObjId, MakeFault>
         requires running { self.old.standing.stopped ≡ false }
         requires named { name < length self.old.standing.names }

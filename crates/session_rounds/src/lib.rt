@@ -1,6 +1,12 @@
-//! A session with watchers: each command at the top is one whole round, the command with its notices and the runs of the
-//! watchers that it makes due.
-//! Offers `WatchedSession`.
+//! A session with watchers. Each command is a whole round: the command, its notifications, and the runs of all watchers that
+//! become due.
+//!
+//! `WatchedSession`, over a picker that chooses which due watcher runs next.
+//!
+//! ```text
+//! let mut session = WatchedSession::new(alloc, session, Order::First)?;
+//! session.step(&Command::Set(name, rate), &mut bench, &mut lines)?;
+//! ```
 #![tactic(auto)]
 
 mod acting;

@@ -21,20 +21,20 @@ use std::marker::Model;
 use std::ops::Deref;
 use watch_rounds::{Picker, Rounds};
 
-/// A session whose watchers run their actions, and what picks who of the due runs next.
+/// A session whose watchers run their actions, and the picker of the watcher that runs next.
 pub struct WatchedSession<P> {
-    /// The session, with its objects and their names. Who changes it from outside leaves who is due as it was.
+    /// The session with its objects and their names. A change from outside leaves the due watchers as they are.
     pub session: Session,
     pub(crate) rounds: Rounds,
     pub(crate) picker: P,
-    // Whether each due watcher is known to have a registration.
+    // True if each due watcher is known to have a registration.
     pub(crate) settled: bool,
-    // Whether it is known that no notice waits to be handed out.
+    // True if it is known that no notification is left.
     pub(crate) heard: bool,
     pub(crate) alloc: Global,
 }
 
-// Who lets a session go calls this at each exit, and does not let its parts go one by one.
+// Each exit of an owner of a session calls this once, instead of dropping each field.
 impl<P: Drop> Drop for WatchedSession<P> {
     fn drop(self) {
         let WatchedSession {
@@ -61,7 +61,11 @@ impl<P> Model for WatchedSession<P> {
 }
 
 impl<P: Picker + Drop> WatchedSession<P> {
-    /// The session, in which no round runs.
+    /// Makes a session with watchers, in which no round has begun.
+    ///
+    /// # Errors
+    ///
+    /// `AllocError` where memory runs out.
     pub fn new(alloc: Global, session: Session, picker: P) -> Result<WatchedSession<P>, AllocError>
         requires known { AreKnown session }
         ensures begins { IfOk result (λ watched. watched ≡ running picker session) }
@@ -79,7 +83,7 @@ impl<P: Picker + Drop> WatchedSession<P> {
     }
 }
 
-// What is read of its session is read of it.
+// The calls that read the session.
 impl<P> Deref for WatchedSession<P> {
     type Target = Session;
 
@@ -91,16 +95,20 @@ impl<P> Deref for WatchedSession<P> {
 }
 
 impl<P: Picker> WatchedSession<P> {
-    /// The session, with its objects and their names.
+    /// Returns the session with its objects and their names.
     pub fn session(&self) -> &Session
         ensures { result.now ≡ self.now.standing }
     {
         &self.session
     }
 
-    /// Runs the round of a command: the command with its notices, and the runs of the watchers that are due, one at a
-    /// time, until none is. After want of memory the lines of what was done before were appended, a front of the round's
-    /// computations was begun, all of which ended but the last one at most, and the session is stopped.
+    /// Runs the round of a command: the command with its notifications, and then the due watchers, one at a time, until none is
+    /// due. Appends the lines of the round.
+    ///
+    /// # Errors
+    ///
+    /// `AllocError` where memory runs out. Then the lines of all that was done before are appended, a prefix of the round's
+    /// computations was begun, of which at most the last did not end, and the session is stopped.
     pub fn step<B: Bench>(
         &mut self,
         command: &Command,
@@ -111,22 +119,21 @@ impl<P: Picker> WatchedSession<P> {
         requires known { IsKnown self.old.standing command.now }
         requires sound { IsSound (B.calc bench.old) self.old.standing.state }
         ensures same { B.calc bench.new ≡ B.calc bench.old }
-        // The round is the definition's, exactly.
+        // The round is exactly that of the definition.
         ensures plays { OnOk result (Does P (round_of (record { calc = B.calc bench.old; at = P.at; after = P.after }) self.old command.now)
             self.new (record { lines = lines.old.items; count = B.count bench.old; log = B.log bench.old })
             (record { lines = lines.new.items; count = B.count bench.new; log = B.log bench.new })) }
         ensures halts { OnErr result (Halts P (round_of (record { calc = B.calc bench.old; at = P.at; after = P.after }) self.old command.now)
             (record { lines = lines.old.items; count = B.count bench.old; log = B.log bench.old })
             (record { lines = lines.new.items; count = B.count bench.new; log = B.log bench.new })) }
-        // After want of memory the lines of all that was done before stand whole: memory ran out in one of the round's moments.
+        // Out of memory, the lines of all that was done before are complete: memory ran out in one of the round's moments.
         ensures so_far { OnErr result (HaltsIn (B.calc bench.old) (moments_of_round (record { calc = B.calc bench.old; at = P.at; after = P.after }) self.old command.now)
             (record { lines = lines.old.items; count = B.count bench.old; log = B.log bench.old })
             (record { lines = lines.new.items; count = B.count bench.new; log = B.log bench.new })) }
-        // A command that takes no memory and is not refused, that makes no watcher due and calls for no `over` line, is done
-        // though memory is short.
+        // A command that takes no memory, is not refused, and makes no watcher due and no name over, is done even without free memory.
         ensures ready { IsQuiet P (record { calc = B.calc bench.old; at = P.at; after = P.after }) (opened self.old) command.now
             → is_ok result ≡ true }
-        // The round ends: nobody is left to run, and no name ran more than eight times.
+        // The round ends: no watcher is due, and no name ran more than eight times.
         ensures ends { OnOk result (HasEnded self.new.round) }
         ensures stays { Stays (B.calc bench.old) self.old.standing self.new.standing }
         ensures stopped { self.new.standing.stopped ≡ is_err result }
@@ -138,7 +145,7 @@ impl<P: Picker> WatchedSession<P> {
         done
     }
 
-    // One round: the command, and the runs of the watchers that are due.
+    // Runs one round: the command, and the due watchers.
     #[inline(always)]
     fn round<B: Bench>(
         &mut self,
@@ -170,7 +177,7 @@ impl<P: Picker> WatchedSession<P> {
         self.run_all(bench, lines)
     }
 
-    // A round begins.
+    // Begins a round.
     fn open(&mut self)
         ensures opens { self.new ≡ opened self.old }
         ensures sound { (calc : Calc) → IsSound calc self.old.standing.state → IsSound calc self.new.standing.state }
@@ -182,7 +189,7 @@ impl<P: Picker> WatchedSession<P> {
         self.settled = true;
     }
 
-    // The runs of the due watchers, one at a time, until none is due.
+    // Runs the due watchers, one at a time, until none is due.
     fn run_all<B: Bench>(&mut self, bench: &mut B, lines: &mut Vec<u8>) -> Result<(), AllocError>
         requires running { self.old.standing.stopped ≡ false }
         requires sound { IsSound (B.calc bench.old) self.old.standing.state }
@@ -225,7 +232,7 @@ impl<P: Picker> WatchedSession<P> {
         self.rounds.next_due(&mut self.picker)
     }
 
-    // One run: the action of the watcher that the picker chose.
+    // Runs the action of the chosen watcher.
     fn run<B: Bench>(
         &mut self,
         watcher: ObjId,
@@ -257,7 +264,7 @@ impl<P: Picker> WatchedSession<P> {
         }
     }
 
-    // The action of a watcher.
+    // Returns the action of a watcher.
     fn action_of(&self, watcher: ObjId) -> Option<ActionId>
         requires { IsLive self.now.standing watcher }
         ensures { result ≡ slice_index_or self.now.standing.watching (name_of self.now.standing watcher) None }
@@ -267,7 +274,7 @@ impl<P: Picker> WatchedSession<P> {
         self.session.action_of(name)
     }
 
-    // Does the commands of an action, to the last.
+    // Carries out the commands of an action.
     fn play<B: Bench>(
         &mut self,
         action: ActionId,
@@ -301,7 +308,7 @@ impl<P: Picker> WatchedSession<P> {
     }
 }
 
-// Forgets the notices that are left, where any may be.
+// Forgets the notifications that are left, if there may be any.
 #[inline(always)]
 fn forget_notices(desk: &mut Desk, heard: bool)
     requires { IsHeard heard desk.old }
@@ -313,7 +320,7 @@ fn forget_notices(desk: &mut Desk, heard: bool)
     }
 }
 
-// Forgets the notices that are left.
+// Forgets the notifications that are left.
 #[inline(never)]
 fn drain(desk: &mut Desk)
     ensures drained { desk.new ≡ record desk.old { noticed = [] } }

@@ -1,4 +1,4 @@
-// A line is read and answered.
+// Reads a line and carries it out.
 ghost use Rattle.std.specs.Prelude.{◌≡◌, ◌⊎◌, ◌+◌, ◌<◌, ◌^◌, false, true, OnOk, OnErr};
 ghost use Rattle.desk_model.specs.Sound.{IsSound};
 ghost use Rattle.session_rounds.specs.Goes.{Halts};
@@ -17,7 +17,7 @@ use session_rounds::WatchedSession;
 use std::alloc::{AllocError, Global};
 use watch_rounds::Picker;
 
-// What a line says is done, or its fault is told, behind so many lines. The parts are those of a session that is spoken to.
+// Carries out a line, or appends its fault, where `before` lines came before it. The arguments are the fields of a session.
 pub(crate) fn answer<'a, P: Picker, B: Bench>(
     alloc: Global,
     session: &mut WatchedSession<P>,

@@ -1,4 +1,4 @@
-// The actions that were begun.
+// The actions of a session that takes lines.
 ghost use Rattle.std.specs.Prelude.{◌≡◌, ◌+◌, ℕ, [], length, Some, IfOk, OnOk, OnErr};
 ghost use Rattle.script_words.specs.Given.{Grows};
 ghost use Rattle.live_model.specs.Live.{block_ended};
@@ -13,7 +13,7 @@ use std::alloc::{AllocError, Global};
 use std::marker::Model;
 use watch_rounds::Picker;
 
-// The number of the line at which a block began, and its commands.
+// A block that has not ended: the number of its first line, and its commands so far.
 #[derive(Drop)]
 pub(crate) struct OpenBlock {
     pub(crate) line: u64,
@@ -28,7 +28,7 @@ impl Model for OpenBlock {
     ghost view = { λ b. record { line = b.line; commands = b.commands } };
 }
 
-// The names of the actions in order, and the block that stands open.
+// The names of the actions in order, and the open block.
 #[derive(Drop)]
 pub(crate) struct Blocks {
     pub(crate) begun: Names,
@@ -36,7 +36,7 @@ pub(crate) struct Blocks {
 }
 
 impl Blocks {
-    // A block begins at this line: the last of these names is its action's.
+    // Begins a block at this line. The last of these names is the name of its action.
     pub(crate) fn begin(
         &mut self,
         alloc: Global,
@@ -56,7 +56,7 @@ impl Blocks {
         Ok(())
     }
 
-    // The open block, if there is one, ends: it is an action of the session from now on.
+    // Ends the open block, if there is one, and makes it an action of the session.
     pub(crate) fn end<P: Picker>(
         &mut self,
         alloc: Global,
@@ -86,7 +86,7 @@ impl Blocks {
     }
 }
 
-// The commands in a list of their own.
+// Copies the commands.
 fn copied(alloc: Global, commands: &[Command]) -> Result<CommandList, AllocError>
     ensures { IfOk result (λ list. list ≡ commands.now) }
 {

@@ -1,4 +1,4 @@
-// What a line does that has no fault.
+// Carries out lines without a fault.
 ghost use Rattle.std.specs.Prelude.{◌≡◌, ◌⊎◌, ℕ, false, true, length, is_some, OnOk, OnErr};
 ghost use Rattle.desk_model.specs.Sound.{IsSound};
 ghost use Rattle.session_commands.specs.Whole.{IsCommand};
@@ -16,7 +16,7 @@ use session_rounds::WatchedSession;
 use std::alloc::{AllocError, Global};
 use watch_rounds::Picker;
 
-// Does what a line says in a session that knows the names that the line leaves.
+// Carries out a statement in a session that knows the names of its line.
 pub(crate) fn state<P: Picker, B: Bench>(
     alloc: Global,
     session: &mut WatchedSession<P>,
@@ -64,7 +64,7 @@ pub(crate) fn state<P: Picker, B: Bench>(
     }
 }
 
-// A command: outside of a block its round is done, inside it is put into the block.
+// Carries out a command: outside a block it runs its round, inside it appends the command to the block.
 fn do_command<P: Picker, B: Bench>(
     session: &mut WatchedSession<P>,
     blocks: &mut Blocks,

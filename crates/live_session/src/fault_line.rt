@@ -5,7 +5,7 @@ ghost use Rattle.live_model.specs.Live.{fault_line};
 use session_lang::ScriptKind;
 use std::alloc::{AllocError, Global};
 
-// Appends the line that tells a fault. After want of memory `out` has its old bytes.
+// Appends the line of a fault. Out of memory, `out` is as before.
 #[tactic(auto, unfolding(live_model::specs::Live::fault_line))]
 pub(crate) fn fault_line(
     alloc: Global,

@@ -1,4 +1,4 @@
-// A session learns names.
+// Adds names to a session.
 ghost use Rattle.std.specs.Prelude.{◌≡◌, ◌<◌, ◌+◌, ◌++◌, ◌∷◌, [], false, length, drop, slice_index_or, OnOk, OnErr};
 ghost use Rattle.desk_names.specs.Name.{IsName};
 ghost use Rattle.desk_names.specs.Names.{has_text, most_names, IsNames};
@@ -13,7 +13,7 @@ use session_rounds::WatchedSession;
 use std::alloc::AllocError;
 use watch_rounds::Picker;
 
-// Learns the names behind its own, in order.
+// Adds the names that follow those of the session, in order.
 pub(crate) fn learn<P: Picker>(
     session: &mut WatchedSession<P>,
     names: &Names,
@@ -30,7 +30,7 @@ pub(crate) fn learn<P: Picker>(
     Ok(())
 }
 
-// Learns the first name behind its own.
+// Adds the first name that follows those of the session.
 fn learn_next<P: Picker>(session: &mut WatchedSession<P>, names: &Names) -> Result<(), AllocError>
     requires more { Grows session.old.standing.names names.now }
     requires left { length session.old.standing.names < length names.now }
@@ -42,13 +42,13 @@ fn learn_next<P: Picker>(session: &mut WatchedSession<P>, names: &Names) -> Resu
     match session.intern(names.text(next)) {
         Ok(_) => Ok(()),
         Err(NameFault::NoMemory) => Err(AllocError),
-        // It is a name that the session lacks, and there is room.
+        // The session lacks the name, and has room for it.
         Err(NameFault::Form) => unreachable!(),
         Err(NameFault::Full) => unreachable!(),
     }
 }
 
-// Adds the last of names that are one more.
+// Appends the last of names that are one more.
 pub(crate) fn add_next(names: &mut Names, more: &Names) -> Result<(), AllocError>
     requires more { Grows names.old more.now }
     requires one { length more.now ≡ length names.old + 1 }
@@ -59,7 +59,7 @@ pub(crate) fn add_next(names: &mut Names, more: &Names) -> Result<(), AllocError
     add_new(names, more.text(last))
 }
 
-// Adds a name that is new, where there is room.
+// Appends a new name, for which there is room.
 pub(crate) fn add_new(names: &mut Names, text: &[u8]) -> Result<(), AllocError>
     requires named { IsName text.now }
     requires new { has_text names.old text.now ≡ false }

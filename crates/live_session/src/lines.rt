@@ -1,4 +1,4 @@
-// What was said to a session.
+// The lines that a session took.
 ghost use Rattle.std.specs.Prelude.{◌≡◌, ◌⊎◌, ◌↔◌, ◌^◌, ◌-◌, ℕ, List, [], true, false, length, None, IfSome, IfOk, OnOk, OnErr, IsOk, IsErrOf};
 ghost use Rattle.desk_names.specs.Name.{is_name, IsName};
 ghost use Rattle.desk_names.specs.Names.{has_text, place_of, most_names};
@@ -21,8 +21,8 @@ use std::alloc::{AllocError, Global};
 use std::marker::Model;
 use watch_rounds::Picker;
 
-/// What was said to a session: the names of its actions in order, the block that stands open, and how many lines. It
-/// stands beside the session whose names and actions it was told of, and no other.
+/// The lines that a session took: the names of its actions in order, the open block, and how many lines there were. They belong
+/// to that session, whose names and actions they know.
 #[derive(Drop)]
 pub struct Lines {
     blocks: Blocks,
@@ -46,7 +46,7 @@ impl Model for Lines {
 }
 
 impl Lines {
-    /// No line was said yet to a session of actions of these names. It takes no memory.
+    /// Starts without lines, for a session whose actions have these names. Takes no memory.
     pub fn new(alloc: Global, begun: Names) -> Lines
         ensures { result ≡ record { begun = begun; block = None; line = 0; names = []; actions = [] } }
     {
@@ -58,14 +58,14 @@ impl Lines {
         }
     }
 
-    /// How many lines were said.
+    /// Returns how many lines were taken.
     pub fn count(&self) -> u64
         ensures { result ≡ self.now.line }
     {
         self.line
     }
 
-    /// The line at which the block began that stands open, if one does, counted from 1.
+    /// Returns the line, from 1, at which the open block began, if a block is open.
     pub fn open_block(&self) -> Option<u64>
         ensures none { (result ≡ None) ↔ (self.now.block ≡ None) }
         ensures line { IfSome result (λ line. IfSome self.now.block (λ block. line ≡ block.line)) }
@@ -76,7 +76,7 @@ impl Lines {
         }
     }
 
-    /// How many actions its session has, without the block that stands open.
+    /// Returns how many actions the session has, without the open block.
     pub fn actions<P: Picker>(&self, session: &WatchedSession<P>) -> usize
         requires stands { StandBy P session.now self.now }
         ensures { result ≡ length session.now.standing.actions }
@@ -90,8 +90,11 @@ impl Lines {
         }
     }
 
-    /// The number of a name of its session, which is added behind the others where it is new, as
-    /// `WatchedSession::intern` does it.
+    /// Returns the number of a name of the session. A new name is appended.
+    ///
+    /// # Errors
+    ///
+    /// Those of `WatchedSession::intern`.
     pub fn intern<P: Picker>(
         &mut self,
         session: &mut WatchedSession<P>,
@@ -114,21 +117,22 @@ impl Lines {
         Ok(name)
     }
 
-    /// Room for the words of lines, with none yet.
+    /// Returns an empty vector for the words of lines.
     pub fn words<'a>(&self) -> Vec<&'a [u8]>
         ensures { result.items ≡ [] }
     {
         Vec::new(self.alloc)
     }
 
-    /// What a line says is done in its session, and what it writes is appended: the lines of its round, or that of its fault,
-    /// which changes nothing else. `line` is without what ends it. Of one that is longer than `MOST_LINE` bytes, any front
-    /// that is longer says the same. `words` is room for its words, so that it need not be made for each line: what stands in
-    /// it is not looked at, and not promised.
+    /// Carries out a line and appends what it writes: the lines of its round, or its fault, which changes nothing else. `line` has
+    /// no newline. A line longer than `MOST_LINE` bytes may be cut to any longer prefix. `words` is room for its words, which is
+    /// reused for each line. Lines are counted from 1.
     ///
-    /// Lines are counted from 1. A session that is stopped takes none, and none is taken behind line 2^64 - 1. After want of
-    /// memory the line is not counted: a front of its lines was appended, and the session is stopped, where memory ran out in
-    /// a round; else nothing was appended, and it is as it was, but for a front of the names that are new in the line.
+    /// # Errors
+    ///
+    /// `Stopped` where the session is stopped and `TooManyLines` after line 2^64 - 1. Then nothing has changed. `NoMemory` where
+    /// memory runs out. Then the line is not counted. In a round a prefix of its lines was appended, and the session is stopped.
+    /// Else nothing was appended, and the session is as before, apart from a prefix of the line's new names.
     pub fn say<'a, P: Picker, B: Bench>(
         &mut self,
         session: &mut WatchedSession<P>,
@@ -140,7 +144,7 @@ impl Lines {
         requires sound { IsSound (B.calc bench.old) session.old.standing.state }
         requires stands { StandBy P session.old self.old }
         ensures same { B.calc bench.new ≡ B.calc bench.old }
-        // It does what the definition says, exactly.
+        // It does exactly what the definition says.
         ensures says { OnOk result (IsSaid P (said (record { calc = B.calc bench.old; at = P.at; after = P.after }) (live_of session.old self.old) line.now)
             (live_of session.new self.new) (record { lines = out.old.items; count = B.count bench.old; log = B.log bench.old })
             (record { lines = out.new.items; count = B.count bench.new; log = B.log bench.new })) }
@@ -152,7 +156,7 @@ impl Lines {
         ensures runs { OnOk result (session.new.standing.stopped ≡ false) }
         ensures sound { IsSound (B.calc bench.old) session.new.standing.state }
         ensures stands { StandBy P session.new self.new }
-        // It is not tried in these cases exactly, and then changes nothing.
+        // It is not tried exactly in these cases. Then nothing has changed.
         ensures stopped { IsErrOf result SayFault.Stopped ↔ (session.old.standing.stopped ≡ true) }
         ensures many { IsErrOf result SayFault.TooManyLines
             ↔ ((session.old.standing.stopped ≡ false) × (self.old.line ≡ 2 ^ 64 - 1)) }
@@ -186,8 +190,8 @@ impl Lines {
     }
 }
 
-// Names that lines are read over follow those of a session that interned a text: where they were its names they are so
-// still if there is memory, and else there are none until the next line is read.
+// Keeps the names that lines are read over equal to those of a session that interned a text, if they were equal. Out of
+// memory, they are emptied until the next line is read.
 fn follow(alloc: Global, copy: &mut Names, is_copy: bool, text: &[u8])
     ensures { (names : List (List ℕ)) → IsFollowed names text.now is_copy copy.old copy.new }
 {

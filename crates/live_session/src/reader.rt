@@ -1,4 +1,4 @@
-// What lines are read over.
+// The names that lines are read over.
 ghost use Rattle.std.specs.Prelude.{◌≡◌, [], IfOk, OnOk, OnErr};
 ghost use Rattle.desk_names.specs.Names.{IsNames};
 ghost use Rattle.script_words.specs.Given.{Gives};
@@ -11,8 +11,8 @@ use script_words::LineFault;
 use session_lang::{Met, ScriptKind, Statement, lacks, read_line};
 use std::alloc::{AllocError, Global};
 
-// Names that lines are read over: copies of those of a session and of those of its actions. A line may leave more than
-// those of the session, and is known to have no fault only then. Beside them the names that lines named lately.
+// The names that lines are read over: copies of those of a session and of its actions. A line may add names to the copies, and
+// is known to have no fault only then. Beside them are the names of the latest lines.
 #[derive(Drop)]
 pub(crate) struct Reader {
     pub(crate) names: Names,
@@ -21,7 +21,7 @@ pub(crate) struct Reader {
 }
 
 impl Reader {
-    // No names yet.
+    // Starts without names.
     pub(crate) fn new(alloc: Global) -> Reader
         ensures names { result.names ≡ [] }
         ensures begun { result.begun ≡ [] }
@@ -34,8 +34,8 @@ impl Reader {
     }
 }
 
-// What a line says over these names and these names of actions, inside a block or not, or its first fault. It is read over
-// copies, in which its names are left.
+// Returns the statement of a line over these names and names of actions, inside a block or not, or its first fault. The line
+// is read over copies, which keep its names.
 #[tactic(auto, unfolding(live_model::specs::Live::meaning))]
 pub(crate) fn read<'a>(
     alloc: Global,
@@ -69,7 +69,7 @@ pub(crate) fn read<'a>(
     Ok(*statement)
 }
 
-// Makes a copy of names theirs, where it is not: it is, where it is as long.
+// Makes `copy` a copy of these names, unless it is one. It is one if it is as long.
 #[inline(always)]
 fn copy_of(alloc: Global, copy: &mut Names, names: &Names) -> Result<(), AllocError>
     requires kept { IsCopy copy.old names.now }

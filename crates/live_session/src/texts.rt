@@ -7,7 +7,11 @@ use crate::learning::add_new;
 use desk_names::{NameId, Names};
 use std::alloc::{AllocError, Global};
 
-/// The texts of names that differ, in order: those of the actions of a script, say. It fails for want of memory alone.
+/// Returns the texts of these names, which must differ, in order: for instance those of the actions of a script.
+///
+/// # Errors
+///
+/// `AllocError` where memory runs out.
 pub fn texts_of(alloc: Global, names: &Names, numbers: &[NameId]) -> Result<Names, AllocError>
     requires known { All (λ name. name < length names.now) numbers.now }
     requires named { IsNames (map (name_text names.now) numbers.now) }

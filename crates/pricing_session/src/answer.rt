@@ -1,4 +1,4 @@
-// An ask whose answer has the value beside it.
+// An ask that returns the value with the rest.
 ghost use Rattle.std.specs.Prelude.{◌≡◌, Err, IfOk, IsErrOf, option_copied};
 ghost use Rattle.desk_terms.specs.Asked.{Shows};
 ghost use Rattle.desk_terms.specs.Reading.{Outcome};
@@ -15,28 +15,32 @@ use desk_terms::{Asked, Bench, Cause, Mark, Value};
 use fixed_amount::Amount;
 use watch_rounds::Picker;
 
-/// What an object is worth.
+/// The value of an object.
 #[derive(Clone, Copy, Debug, PartialEq, Eq)]
 pub enum Worth {
     /// An amount of money, in units of 10^-6.
     Money(Amount),
-    /// A curve, which is the last value of the object.
+    /// A curve, which `value` returns.
     Curve,
 }
 
-/// The answer to an ask by number.
+/// The result of an ask.
 #[derive(Clone, Copy, Debug, PartialEq, Eq)]
 pub struct Answer {
-    /// What the object is worth, or why it has no value.
+    /// The value of the object, or why it has none.
     pub worth: Result<Worth, Cause>,
-    /// How the answer stands to the market.
+    /// How the value relates to the market: fresh, late, held or frozen.
     pub mark: Mark,
-    /// How many times the bench was called, a refused call included.
+    /// How many times the bench was called, with refused calls.
     pub runs: u64,
 }
 
 impl<P: Picker + Drop, B: Bench + Drop, L: Beside<P> + Drop> BenchSession<P, B, L> {
-    /// Asks the live lazy object that has a name, as `ask` does, and answers its worth with the rest.
+    /// Asks the live lazy object of a name, as `ask` does, and returns its value with the rest.
+    ///
+    /// # Errors
+    ///
+    /// Those of `ask`.
     pub fn answer(&mut self, name: NameId) -> Result<Answer, AskFault>
         ensures answers { IfOk result (λ answer. IsAnswered (B.calc self.old.bench) name self.old.running.standing self.new.running.standing
             answer (B.count self.old.bench) (B.count self.new.bench) (B.log self.old.bench) (B.log self.new.bench)) }
@@ -61,7 +65,7 @@ impl<P: Picker + Drop, B: Bench + Drop, L: Beside<P> + Drop> BenchSession<P, B, 
     }
 }
 
-// What an answer shows beside the last value.
+// Returns the value of an ask that left this last value.
 fn worth_of(asked: &Asked, value: Option<&Value>) -> Result<Worth, Cause>
     requires given { (outcome : Outcome) × Shows asked.now.cause (option_copied value) outcome }
     ensures { (outcome : Outcome) → Shows asked.now.cause (option_copied value.entry) outcome → result ≡ worth_in outcome }
@@ -70,7 +74,7 @@ fn worth_of(asked: &Asked, value: Option<&Value>) -> Result<Worth, Cause>
         (Some(cause), _) => Err(*cause),
         (None, Some(Value::Money(amount))) => Ok(Worth::Money(*amount)),
         (None, Some(Value::Curve(_))) => Ok(Worth::Curve),
-        // What has no cause has a value.
+        // An object without a cause has a value.
         (None, None) => unreachable!(),
     }
 }

@@ -19,13 +19,18 @@ use std::alloc::AllocError;
 use watch_rounds::Picker;
 
 impl<P: Picker + Drop, B: Bench + Drop, L: Beside<P> + Drop> BenchSession<P, B, L> {
-    /// Asks the live lazy object that has a name, and answers its mark, its cause where it has no value, and how many
-    /// times the bench was called; its value is then `value(name)`. It computes only what it uses and has no current
-    /// value. No watcher runs and no line is written. A session that is stopped answers still.
+    /// Asks the live lazy object of a name. Returns its mark, the cause if it has no value, and how many times the bench was called.
+    /// Its value is then `value(name)`. Recomputes only what it uses and is out of date. No watcher runs and no line is written. A
+    /// stopped session can be asked, too.
+    ///
+    /// # Errors
+    ///
+    /// `Refused` where no live object has the name, or the object is never computed. Then nothing has changed. `NoMemory` where
+    /// memory runs out. Then objects that were recomputed keep their values.
     pub fn ask(&mut self, name: NameId) -> Result<Asked, AskFault>
         ensures answers { AnswersAsk (B.calc self.old.bench) name self.old.running.standing self.new.running.standing result
             (B.count self.old.bench) (B.count self.new.bench) (B.log self.old.bench) (B.log self.new.bench) }
-        // It does what a step of an ask does before its notices are handed out.
+        // It does what a step of an ask does before its notifications are handed out.
         ensures turns { OnOk result (self.new.running.standing
             ≡ (turn (B.calc self.old.bench) self.old.running.standing (Ask name)).next) }
         ensures rounds { self.new.running ≡ record self.old.running { standing = self.new.running.standing } }
@@ -38,8 +43,11 @@ impl<P: Picker + Drop, B: Bench + Drop, L: Beside<P> + Drop> BenchSession<P, B, 
         asked(&mut self.session, &mut self.bench, name)
     }
 
-    /// What the live lazy object that has a name is worth, in units of 10^-6: an ask for money. A session that is stopped
-    /// answers still.
+    /// Returns the price of the live lazy object of a name, in units of 10^-6. A stopped session can be asked, too.
+    ///
+    /// # Errors
+    ///
+    /// Those of `ask`, `Unpriced` with the cause where the object has no value, and `NotMoney` where it is a curve.
     pub fn price(&mut self, name: NameId) -> Result<Amount, PriceFault>
         ensures answers { AnswersPrice (B.calc self.old.bench) name self.old.running.standing self.new.running.standing result
             (B.count self.old.bench) (B.count self.new.bench) (B.log self.old.bench) (B.log self.new.bench) }
@@ -58,7 +66,7 @@ impl<P: Picker + Drop, B: Bench + Drop, L: Beside<P> + Drop> BenchSession<P, B, 
     }
 }
 
-// Asks the live lazy object that has a name.
+// Asks the live lazy object of a name.
 #[tactic(auto, using(session_core::proofs::Resolved::found_lazy))]
 fn asked<P: Picker + Drop, B: Bench + Drop>(
     session: &mut WatchedSession<P>,
@@ -85,7 +93,7 @@ fn asked<P: Picker + Drop, B: Bench + Drop>(
     }
 }
 
-// The price that an answer shows beside the last value.
+// Returns the price of an ask that left this last value.
 fn price_of(answer: &Asked, value: Option<&Value>) -> Result<Amount, PriceFault>
     requires given { (outcome : Outcome) × Shows answer.now.cause (option_copied value) outcome }
     ensures price { (outcome : Outcome) → Shows answer.now.cause (option_copied value.entry) outcome → result ≡ price_in outcome }
@@ -94,7 +102,7 @@ fn price_of(answer: &Asked, value: Option<&Value>) -> Result<Amount, PriceFault>
         (Some(cause), _) => Err(PriceFault::Unpriced(*cause)),
         (None, Some(Value::Money(amount))) => Ok(*amount),
         (None, Some(Value::Curve(_))) => Err(PriceFault::NotMoney),
-        // What has no cause has a value.
+        // An object without a cause has a value.
         (None, None) => unreachable!(),
     }
 }

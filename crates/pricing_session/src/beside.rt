@@ -1,4 +1,4 @@
-// What a session that owns its bench keeps beside the session.
+// The data that a session with its bench keeps beside the session.
 ghost use Rattle.std.specs.Prelude.{◌≡◌, length};
 
 use desk_names::{NameFault, NameId};
@@ -6,7 +6,7 @@ use live_session::Lines;
 use session_rounds::WatchedSession;
 use watch_rounds::Picker;
 
-/// What is kept beside a session, and was told of its names and of its actions.
+/// Data beside a session, which knows the session's names and actions.
 pub trait Beside<P: Picker> {
     ghost use Rattle.std.specs.Prelude.{◌≡◌, ◌↔◌, false, true, length, IfOk, OnOk, OnErr, IsOk, IsErrOf};
     ghost use Rattle.desk_names.specs.Name.{is_name, IsName};
@@ -16,18 +16,22 @@ pub trait Beside<P: Picker> {
     ghost use Rattle.session_model.specs.Course.{Running};
     ghost use Rattle.session_model.specs.Grown.{interned_in};
 
-    /// It fits this session: what it tells of its names and its actions is so.
+    /// It fits this session: what it reports of names and actions is true.
     ghost stands: { Running P → Self → Type 0 };
 
-    /// What the new one tells is what the old one told.
+    /// The new one reports the same as the old one.
     ghost keeps: { Self → Self → Type 0 };
 
-    /// How many actions its session has.
+    /// Returns how many actions the session has.
     fn actions(&self, session: &WatchedSession<P>) -> usize
         requires stands { stands session.now self.now }
         ensures { result ≡ length session.now.standing.actions };
 
-    /// The number of a name of its session, which is added behind the others where it is new.
+    /// Returns the number of a name of the session. A new name is appended.
+    ///
+    /// # Errors
+    ///
+    /// Those of `WatchedSession::intern`.
     fn intern(&mut self, session: &mut WatchedSession<P>, text: &[u8]) -> Result<NameId, NameFault>
         requires stands { stands session.old self.old }
         ensures place { IfOk result (λ name. name ≡ place_of session.old.standing.names text.now) }
@@ -41,7 +45,7 @@ pub trait Beside<P: Picker> {
         ensures sound { (calc : Calc) → IsSound calc session.old.standing.state → IsSound calc session.new.standing.state }
         ensures stands { stands session.new self.new };
 
-    /// A session that keeps its names and its actions has nothing new to tell.
+    /// It fits each session with the same names and actions.
     ghost stays: { (r new : Running P) (beside : Self) → new.standing.names ≡ r.standing.names
         → new.standing.actions ≡ r.standing.actions → stands r beside → stands new beside };
 }

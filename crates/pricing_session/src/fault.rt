@@ -6,10 +6,10 @@ use thiserror::Error;
 /// Why a step ended early.
 #[derive(Clone, Copy, Debug, Error, PartialEq, Eq)]
 pub enum StepFault {
-    /// An earlier step found no memory. Nothing is changed.
+    /// An earlier step ran out of memory. Nothing has changed.
     #[error("stopped")]
     Stopped,
-    /// The command names what the session has no text or no action of, or has a number beyond its limit. Nothing is changed.
+    /// The command has a name or an action that the session lacks, or a number beyond its limit. Nothing has changed.
     #[error("not of this session")]
     Unknown,
     /// Memory ran out in the round. The session is stopped.
@@ -17,37 +17,37 @@ pub enum StepFault {
     NoMemory,
 }
 
-/// Why a change was not tried. Nothing is changed.
+/// Why a change was not tried. Nothing has changed.
 #[derive(Clone, Copy, Debug, Error, PartialEq, Eq)]
 pub enum ChangeFault {
-    /// An earlier step found no memory.
+    /// An earlier step ran out of memory.
     #[error("stopped")]
     Stopped,
-    /// The command names what the session has no text or no action of, or has a number beyond its limit.
+    /// The command has a name or an action that the session lacks, or a number beyond its limit.
     #[error("not of this session")]
     Unknown,
-    /// The command is not quiet: a step takes it.
+    /// The command is not quiet. Use `step`.
     #[error("not quiet")]
     NotQuiet,
 }
 
-/// Why no action was added. Nothing is changed.
+/// Why no action was added. Nothing has changed.
 #[derive(Clone, Copy, Debug, Error, PartialEq, Eq)]
 pub enum BlockFault {
     /// The session has 65,536 actions or more.
     #[error("too many actions")]
     Full,
-    /// A command names what the session has no text or no action of, or has a number beyond its limit.
+    /// A command has a name or an action that the session lacks, or a number beyond its limit.
     #[error("not of this session")]
     Unknown,
     #[error("out of memory")]
     NoMemory,
 }
 
-/// Why no object was made. Nothing is changed. The first that stands is told.
+/// Why no object was made: the first reason of these. Nothing has changed.
 #[derive(Clone, Copy, Debug, Error, PartialEq, Eq)]
 pub enum ObjectFault {
-    /// An earlier step found no memory.
+    /// An earlier step ran out of memory.
     #[error("stopped")]
     Stopped,
     /// The session has no such name.
@@ -56,7 +56,7 @@ pub enum ObjectFault {
     /// The terms are beyond their limits.
     #[error("beyond the limits")]
     Limits,
-    /// An object that the terms name is not live, or of another kind than is wanted there.
+    /// An object in the terms is not live, or not of the required kind.
     #[error("no such input")]
     Inputs,
     /// A live object has the name, or there is no room.
@@ -66,13 +66,13 @@ pub enum ObjectFault {
     NoMemory,
 }
 
-/// Why an ask has no answer.
+/// Why an ask has no result.
 #[derive(Clone, Copy, Debug, Error, PartialEq, Eq)]
 pub enum AskFault {
-    /// No live object has the name, or the one that has it is never computed. Nothing is changed.
+    /// No live object has the name, or the object is never computed. Nothing has changed.
     #[error("refused")]
     Refused(Refusal),
-    /// Memory ran out. The values that were computed are kept, and the session goes on.
+    /// Memory ran out. Values that were computed stay, and the session goes on.
     #[error("out of memory")]
     NoMemory,
 }
@@ -80,16 +80,16 @@ pub enum AskFault {
 /// Why an object has no price.
 #[derive(Clone, Copy, Debug, Error, PartialEq, Eq)]
 pub enum PriceFault {
-    /// No live object has the name, or the one that has it is never computed. Nothing is changed.
+    /// No live object has the name, or the object is never computed. Nothing has changed.
     #[error("refused")]
     Refused(Refusal),
-    /// It was asked, and has no value.
+    /// It was asked and has no value, for this cause.
     #[error("not priced")]
     Unpriced(Cause),
-    /// It was asked, and is worth a curve.
+    /// It was asked, and its value is a curve.
     #[error("not money")]
     NotMoney,
-    /// Memory ran out. The values that were computed are kept, and the session goes on.
+    /// Memory ran out. Values that were computed stay, and the session goes on.
     #[error("out of memory")]
     NoMemory,
 }

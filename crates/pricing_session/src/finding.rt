@@ -1,4 +1,4 @@
-// Objects and values by their names.
+// Objects and values by name.
 ghost use Rattle.std.specs.Prelude.{◌≡◌, option_copied};
 ghost use Rattle.session_model.specs.Standing.{object_named};
 ghost use Rattle.pricing_session.specs.Finding.{value_by};
@@ -10,15 +10,15 @@ use session_core::Session;
 use watch_rounds::Picker;
 
 impl<P: Picker + Drop, B: Bench + Drop, L: Beside<P> + Drop> BenchSession<P, B, L> {
-    /// The live object that has a name, by the number that terms name it by. It takes no memory.
+    /// Returns the live object of a name, by the number that terms use. Takes no memory.
     pub fn object(&self, name: NameId) -> Option<ObjId>
         ensures { result ≡ object_named self.now.running.standing name }
     {
         object_in(&self.session, name)
     }
 
-    /// The last value of the live lazy object that has a text as its name; none where the text is no name of the session,
-    /// where no such object has it, and where the object has no value yet. It takes no memory.
+    /// Returns the last value of the live lazy object with this name. `None` if the text is no name of the session, there is no such
+    /// object, or it has no value yet. Takes no memory.
     pub fn value_of(&self, text: &[u8]) -> Option<&Value>
         ensures { option_copied result ≡ value_by self.now.running.standing text.now }
     {
@@ -29,7 +29,7 @@ impl<P: Picker + Drop, B: Bench + Drop, L: Beside<P> + Drop> BenchSession<P, B, 
     }
 }
 
-// The live object of a session that has a name.
+// Returns the live object of a name.
 fn object_in(session: &Session, name: NameId) -> Option<ObjId>
     ensures { result ≡ object_named session.now name }
 {

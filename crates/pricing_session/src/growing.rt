@@ -1,4 +1,4 @@
-// A session that grows while it runs.
+// Adds actions, names and objects to a session.
 ghost use Rattle.std.specs.Prelude.{◌≡◌, ◌≤◌, ◌↔◌, true, false, length, All, IfOk, IfSome, IfNone, OnOk, OnErr, IsOk, IsErrOf, IsTrue};
 ghost use Rattle.desk_names.specs.Name.{is_name, IsName};
 ghost use Rattle.desk_names.specs.Names.{has_text, place_of, most_names};
@@ -21,8 +21,13 @@ use session_core::{ActionFault, MOST_ACTIONS, MakeFault};
 use watch_rounds::Picker;
 
 impl<P: Picker + Drop, B: Bench + Drop> PricingSession<P, B> {
-    /// Adds an action of these commands behind the others, and answers its number. The commands may name the action itself.
-    /// A session that is stopped takes actions still.
+    /// Appends an action of these commands and returns its number. The commands may name the action itself. A stopped session takes
+    /// actions, too.
+    ///
+    /// # Errors
+    ///
+    /// `Full` where the session has 65,536 actions, `Unknown` where a command has a name or an action that the session lacks or a
+    /// number beyond its limit, `NoMemory` where memory runs out. Then nothing has changed.
     pub fn add_action(&mut self, block: CommandList) -> Result<ActionId, BlockFault>
         ensures number { IfOk result (λ action. action ≡ length self.old.running.standing.actions) }
         ensures added { OnOk result (self.new ≡ record self.old {
@@ -30,7 +35,7 @@ impl<P: Picker + Drop, B: Bench + Drop> PricingSession<P, B> {
           beside = self.new.beside;
         }) }
         ensures same { OnErr result (self.new ≡ self.old) }
-        // It is not tried in these cases exactly.
+        // It is not tried exactly in these cases.
         ensures full { IsErrOf result BlockFault.Full ↔ (MOST_ACTIONS ≤ length self.old.running.standing.actions) }
         ensures unknown { IsErrOf result BlockFault.Unknown ↔ LacksBlock self.old.running.standing block }
     {
@@ -54,11 +59,12 @@ impl<P: Picker + Drop, B: Bench + Drop> PricingSession<P, B> {
 }
 
 impl<P: Picker + Drop, B: Bench + Drop, L: Beside<P> + Drop> BenchSession<P, B, L> {
-    /// The number of a name, which is added behind the others where it is new: no object has it then, no watcher of it has
-    /// an action. A name that is known keeps its number, and takes no memory.
+    /// Returns the number of a name. A new name is appended: it names no object, and no watcher of it has an action. A known name
+    /// keeps its number and takes no memory. A stopped session takes names, too.
     ///
-    /// `Form` where the text is no name, `Full` where it is new and the session has as many names as may be. A session that
-    /// is stopped takes names still.
+    /// # Errors
+    ///
+    /// `Form` where the text is no name, `Full` where it is new and the session has 65,536 names, `NoMemory` where memory runs out.
     pub fn intern(&mut self, text: &[u8]) -> Result<NameId, NameFault>
         ensures place { IfOk result (λ name. name ≡ place_of self.old.running.standing.names text.now) }
         ensures kept { OnOk result (self.new ≡ record self.old {
@@ -76,8 +82,11 @@ impl<P: Picker + Drop, B: Bench + Drop, L: Beside<P> + Drop> BenchSession<P, B, 
         self.beside.intern(&mut self.session, text)
     }
 
-    /// Makes an object that has this name and these terms, and answers its number: how many numbers were given before.
-    /// After a refusal, want of memory and every other fault the session is as it was.
+    /// Makes an object with this name and these terms and returns its number, which is the count of numbers given before.
+    ///
+    /// # Errors
+    ///
+    /// The first reason that applies, in the order of `ObjectFault`. Then the session is as before.
     pub fn make(&mut self, name: NameId, terms: Terms) -> Result<ObjId, ObjectFault>
         ensures number { IfOk result (λ object. object ≡ length self.old.running.standing.state.market.objects) }
         ensures made { OnOk result (self.new ≡ record self.old {
@@ -96,7 +105,7 @@ impl<P: Picker + Drop, B: Bench + Drop, L: Beside<P> + Drop> BenchSession<P, B, 
         }
     }
 
-    // Why it is not tried to make an object, if it is not.
+    // Returns why the object is not made, if there is a reason before memory is needed.
     fn fault_of(&self, name: NameId, terms: &Terms) -> Option<ObjectFault>
         ensures fault { IfSome result (IsUnmade self.now.running.standing name terms.now) }
         ensures none { IfNone result (MayTry self.now.running.standing name terms.now) }
@@ -117,7 +126,7 @@ impl<P: Picker + Drop, B: Bench + Drop, L: Beside<P> + Drop> BenchSession<P, B, 
     }
 }
 
-// Whether each command speaks of so many names and actions, and its numbers are within their limits.
+// Returns whether each command has only so many names and actions, and numbers within their limits.
 fn are_known(names: u32, actions: usize, commands: &[Command]) -> bool
     ensures { IsTrue result ↔ All (IsCommand names actions) commands.now }
 {

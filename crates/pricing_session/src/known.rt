@@ -1,4 +1,4 @@
-// Whether a command is one of a session.
+// The commands that a session knows.
 ghost use Rattle.std.specs.Prelude.{◌≡◌, ◌≤◌, ◌↔◌, IsTrue, unsigned_abs};
 ghost use Rattle.day_number.specs.Day.{IsDayNumber};
 ghost use Rattle.session_commands.specs.Whole.{Fits, IsCommand, IsValue, IsEngine, most_units};
@@ -8,16 +8,16 @@ use desk_names::NameId;
 use fixed_amount::Rate;
 use session_commands::{Command, Field, Kind, Parts};
 
-/// The most units of a number, but for a rate.
+/// The greatest size of a number, in units, but for a rate.
 const MOST_UNITS: u64 = 1_000_000_000_000_000_000;
 
-/// The most units of a rate.
+/// The greatest size of a rate, in units.
 const MOST_RATE: u64 = 10_000_000_000;
 
 /// The greatest weight.
 const MOST_WEIGHT: u64 = 1_000_000;
 
-// Whether a command speaks of so many names and actions, and its numbers are within their limits.
+// Returns whether a command has only so many names and actions, and numbers within their limits.
 #[tactic(auto, unfolding(session_commands::specs::Whole::IsCommand))]
 pub(crate) fn is_known(names: u32, actions: usize, command: &Command) -> bool
     ensures { IsTrue result ↔ IsCommand names actions command.now }
@@ -29,7 +29,7 @@ pub(crate) fn is_known(names: u32, actions: usize, command: &Command) -> bool
         && fits(names, actions, third, parts.third)
 }
 
-// Whether what a field holds is among so many names and actions, or within the limit of its kind.
+// Returns whether a field is among so many names and actions, or within the limit of its kind.
 fn fits(names: u32, actions: usize, kind: Kind, field: Field) -> bool
     ensures { IsTrue result ↔ Fits names actions kind field }
 {
@@ -46,7 +46,7 @@ fn fits(names: u32, actions: usize, kind: Kind, field: Field) -> bool
     }
 }
 
-// The most units of a number of a kind.
+// Returns the greatest size of a number of a kind, in units.
 fn most_units(kind: Kind) -> u64
     ensures { result ≡ most_units kind }
 {
@@ -65,14 +65,14 @@ fn most_units(kind: Kind) -> u64
     }
 }
 
-// Whether a number has at most so many units either way.
+// Returns whether a number has at most so many units in size.
 fn is_within(number: Rate, most: u64) -> bool
     ensures { IsTrue result ↔ (unsigned_abs number ≤ most) }
 {
     number.units().unsigned_abs() <= most
 }
 
-// Whether a quote's value, where there is one, is within the limit.
+// Returns whether a quote's value, if there is one, is within the limit.
 fn is_value(value: Option<Rate>) -> bool
     ensures { IsTrue result ↔ IsValue value }
 {
@@ -82,7 +82,7 @@ fn is_value(value: Option<Rate>) -> bool
     }
 }
 
-// Whether an engine, where there is one, is a name.
+// Returns whether an engine, if there is one, is a name.
 fn is_engine(names: u32, engine: Option<NameId>) -> bool
     ensures { IsTrue result ↔ IsEngine names engine }
 {
@@ -92,7 +92,7 @@ fn is_engine(names: u32, engine: Option<NameId>) -> bool
     }
 }
 
-// Every day is in the range of days.
+// Returns whether a day is in the range of days, which each is.
 fn is_day(day: Day) -> bool
     ensures { IsTrue result ↔ IsDayNumber day }
 {

@@ -1,8 +1,17 @@
-//! A session with the bench by which it prices, ready for the commands of a script. `open` wants a market as `read_market`
-//! gives it; no other call has a premise, so a program that uses it has nothing else to prove.
-//! Offers `PricingSession`; `LiveSession`, which is spoken to line by line; `BenchSession`, which both are, with what stands `Beside` it;
-//! `NamedMarket`; `Answer`, `Worth`; and `session_for`, which makes a session without a bench. `StepFault`, `ChangeFault`, `BlockFault`, `ObjectFault`, `AskFault` and `PriceFault` say why a
-//! call has no answer.
+//! Sessions with the bench by which they price: the crate for Rust programs that own a session.
+//!
+//! `PricingSession` takes commands as values, `LiveSession` takes lines; both are a `BenchSession`. `open` requires a market
+//! as `read_market` returns it (`NamedMarket`). No other call requires anything, so a program has nothing else to prove.
+//! `Answer` and `Worth` are results of an ask; `StepFault`, `ChangeFault`, `BlockFault`, `ObjectFault`, `AskFault` and
+//! `PriceFault` say why there is none. `session_for` makes a session without a bench.
+//!
+//! ```text
+//! let (mut session, commands) = PricingSession::open(alloc, market, script, Order::First, bench)?;
+//! let quote = session.intern(b"acme")?;
+//! session.change(&Command::Set(quote, Rate(41_500_000_000)))?;
+//! let share = session.intern(b"share")?;
+//! let amount = session.price(share)?;
+//! ```
 #![tactic(auto)]
 
 mod answer;

@@ -1,4 +1,4 @@
-// A session that is spoken to line by line, with its bench.
+// A session that takes lines, with its bench.
 ghost use Rattle.std.specs.Prelude.{◌≡◌, ◌⊎◌, ◌↔◌, ◌^◌, ◌-◌, true, false, All, IfOk, OnOk, IsErrOf};
 ghost use Rattle.market_file.specs.Standing.{IsReady};
 ghost use Rattle.session_lang.specs.Given.{GivesAt};
@@ -20,8 +20,11 @@ use std::alloc::{AllocError, Global};
 use watch_rounds::Picker;
 
 impl<P: Picker + Drop, B: Bench + Drop> LiveSession<P, B> {
-    /// The session of a market's objects, as `read_market` gives them, to which nothing was said yet. It has no actions.
-    /// It fails for want of memory alone.
+    /// Makes the session of a market as `read_market` returns it, without actions.
+    ///
+    /// # Errors
+    ///
+    /// `AllocError` where memory runs out.
     pub fn new(
         alloc: Global,
         market: NamedMarket,
@@ -43,9 +46,12 @@ impl<P: Picker + Drop, B: Bench + Drop> LiveSession<P, B> {
         })
     }
 
-    /// The session of a market's objects behind a script, to which nothing was said yet, and the commands of the script
-    /// outside of its blocks, none of which is done yet: `step` does them. The names are those of the market and of the
-    /// script, the actions those of the script's blocks. A text that is no script gives its first fault.
+    /// Makes the session of a market and a script. Returns it with the commands of the script outside blocks, none of which is done
+    /// yet: hand them to `step`. The names are those of the market and of the script, the actions those of the script.
+    ///
+    /// # Errors
+    ///
+    /// The first fault of the script, or `NoMemory`.
     pub fn open(
         alloc: Global,
         market: NamedMarket,
@@ -56,7 +62,7 @@ impl<P: Picker + Drop, B: Bench + Drop> LiveSession<P, B> {
         requires ready { IsReady market.names market.made.items }
         ensures opens { GivesAt (λ begun. (as_live begun.0, begun.1)) result
             (live_opened picker market.names market.today market.made.items script.now) }
-        // It goes on, and knows each of these commands.
+        // It is not stopped, and knows each of these commands.
         ensures running { IfOk result (λ begun. begun.0.running.standing.stopped ≡ false) }
         ensures known { IfOk result (λ begun. All (IsKnown begun.0.running.standing) begun.1) }
         ensures bench { IfOk result (λ begun. begun.0.bench ≡ bench) }
@@ -77,21 +83,24 @@ impl<P: Picker + Drop, B: Bench + Drop> LiveSession<P, B> {
         Ok((session, script.commands))
     }
 
-    /// What a line says is done, and what it writes is appended: the lines of its round, or that of its fault, which changes
-    /// nothing else. `line` is without what ends it. Of one that is longer than 65,536 bytes, any front that is longer says
-    /// the same. Lines are counted from 1.
+    /// Carries out a line and appends what it writes: the lines of its round, or its fault, which changes nothing else. `line` has
+    /// no newline. A line longer than 65,536 bytes may be cut to any longer prefix. Lines are counted from 1.
+    ///
+    /// # Errors
+    ///
+    /// Those of `Lines::say`.
     pub fn say(&mut self, line: &[u8], out: &mut Vec<u8>) -> Result<(), SayFault>
         ensures says { OnOk result (IsSaid P (said (record { calc = B.calc self.old.bench; at = P.at; after = P.after }) (as_live self.old) line.now)
             (as_live self.new) (record { lines = out.old.items; count = B.count self.old.bench; log = B.log self.old.bench })
             (record { lines = out.new.items; count = B.count self.new.bench; log = B.log self.new.bench })) }
         ensures calc { B.calc self.new.bench ≡ B.calc self.old.bench }
         ensures runs { OnOk result (self.new.running.standing.stopped ≡ false) }
-        // After want of memory the line is not counted, and a front of what it writes was appended.
+        // Out of memory, the line is not counted, and a prefix of what it writes was appended.
         ensures halts { IsErrOf result SayFault.NoMemory → Halts P (as_course (said (record { calc = B.calc self.old.bench; at = P.at; after = P.after }) (as_live self.old) line.now))
             (record { lines = out.old.items; count = B.count self.old.bench; log = B.log self.old.bench })
             (record { lines = out.new.items; count = B.count self.new.bench; log = B.log self.new.bench }) }
         ensures cut { IsErrOf result SayFault.NoMemory → IsCutShort P line.now (as_live self.old) (as_live self.new) }
-        // It is not tried in these cases exactly, and then changes nothing.
+        // It is not tried exactly in these cases. Then nothing has changed.
         ensures stopped { IsErrOf result SayFault.Stopped ↔ (self.old.running.standing.stopped ≡ true) }
         ensures many { IsErrOf result SayFault.TooManyLines
             ↔ ((self.old.running.standing.stopped ≡ false) × (self.old.beside.line ≡ 2 ^ 64 - 1)) }

@@ -1,4 +1,4 @@
-// A session for a script.
+// Makes sessions of a market and a script.
 ghost use Rattle.std.specs.Prelude.{◌≡◌, false, All, IfOk};
 ghost use Rattle.desk_terms.specs.Reading.{Calc};
 ghost use Rattle.desk_model.specs.Sound.{IsSound};
@@ -22,7 +22,7 @@ use session_rounds::WatchedSession;
 use std::alloc::Global;
 use watch_rounds::Picker;
 
-/// A market as it was read: the names of its objects, its evaluation date, and the objects in order of creation.
+/// A market as `read_market` returns it: the names of its objects, its evaluation date, and the objects in order of creation.
 #[derive(Drop)]
 pub struct NamedMarket {
     pub names: Names,
@@ -30,12 +30,13 @@ pub struct NamedMarket {
     pub made: MadeList,
 }
 
-/// The session of a market's objects that is ready for a script, and the commands of the script outside of its blocks,
-/// none of which is done yet. The names are those of the market and of the script, the actions those of the script's
-/// blocks. A text that is no script gives its first fault.
+/// Makes the session, without a bench, of a market and a script. Returns it with the commands of the script outside blocks, none
+/// of which is done yet. The names are those of the market and of the script, the actions those of the script. The session
+/// meets all that a step and a change require of it, and knows each of these commands.
 ///
-/// All that a step and a change want of their session and their command holds of it: it is not stopped, it knows each of
-/// these commands, and it is sound for every bench.
+/// # Errors
+///
+/// The first fault of the script, or `NoMemory`.
 pub fn session_for<P: Picker + Drop>(
     alloc: Global,
     market: NamedMarket,
@@ -60,9 +61,12 @@ pub fn session_for<P: Picker + Drop>(
 }
 
 impl<P: Picker + Drop, B: Bench + Drop> PricingSession<P, B> {
-    /// The session of a market's objects, as `read_market` gives them, that is ready for a script, and the commands of the
-    /// script outside of its blocks, none of which is done yet. The names are those of the market and of the script, the
-    /// actions those of the script's blocks. A text that is no script gives its first fault.
+    /// Makes the session of a market and a script. Returns it with the commands of the script outside blocks, none of which is done
+    /// yet: hand them to `step`. The names are those of the market and of the script, the actions those of the script.
+    ///
+    /// # Errors
+    ///
+    /// The first fault of the script, or `NoMemory`.
     pub fn open(
         alloc: Global,
         market: NamedMarket,
@@ -94,7 +98,7 @@ impl<P: Picker + Drop, B: Bench + Drop> PricingSession<P, B> {
     }
 }
 
-// The script of a text, whole.
+// Reads a script.
 pub(crate) fn read(alloc: Global, text: &[u8], names: &mut Names) -> Result<Script, ScriptFault>
     ensures gives { GivesAt (λ s. (s, names.new)) result (script_meaning names.old text.now) }
     ensures whole { IfOk result (λ s. IsScript names.new s) }

@@ -1,4 +1,4 @@
-// Whether what terms name is there.
+// Checks the objects in terms.
 ghost use Rattle.std.specs.Prelude.{◌≡◌, ◌↔◌, Some, IsTrue};
 ghost use Rattle.desk_terms.specs.Terms.{optional_reference, helper_references, part_references};
 ghost use Rattle.desk_model.specs.Market.{kind_at};
@@ -8,7 +8,7 @@ use desk_names::ObjId;
 use desk_terms::{HandleKind, Helper, Part, Terms, Wanted};
 use lazy_objects::Desk;
 
-// Whether each object that the terms name is live, and of the kind that is wanted there.
+// Returns whether each object in the terms is live and of the required kind.
 pub(crate) fn are_served(desk: &Desk, terms: &Terms) -> bool
     ensures { IsTrue result ↔ AreOfKind desk.now.market (Some terms.now) }
 {
@@ -39,7 +39,7 @@ pub(crate) fn are_served(desk: &Desk, terms: &Terms) -> bool
     }
 }
 
-// Whether an object is live, and of the kind that is wanted.
+// Returns whether an object is live and of the required kind.
 fn is_served(desk: &Desk, wanted: Wanted, object: ObjId) -> bool
     ensures { result ≡ serves_as (kind_at desk.now.market object) wanted }
 {
@@ -49,7 +49,7 @@ fn is_served(desk: &Desk, wanted: Wanted, object: ObjId) -> bool
     }
 }
 
-// The same of an object that need not be named.
+// Returns whether an object, if there is one, is live and of the required kind.
 fn is_any_served(desk: &Desk, wanted: Wanted, object: Option<ObjId>) -> bool
     ensures { IsTrue result ↔ Serve desk.now.market (optional_reference wanted object) }
 {
@@ -59,7 +59,7 @@ fn is_any_served(desk: &Desk, wanted: Wanted, object: Option<ObjId>) -> bool
     }
 }
 
-// Whether each helper has its quote.
+// Returns whether each helper has its quote.
 fn are_quoted(desk: &Desk, helpers: &[Helper]) -> bool
     ensures { IsTrue result ↔ Serve desk.now.market (helper_references helpers.now) }
 {
@@ -71,7 +71,7 @@ fn are_quoted(desk: &Desk, helpers: &[Helper]) -> bool
     true
 }
 
-// Whether each part is of an instrument.
+// Returns whether each part is an instrument.
 fn are_members(desk: &Desk, parts: &[Part]) -> bool
     ensures { IsTrue result ↔ Serve desk.now.market (part_references parts.now) }
 {

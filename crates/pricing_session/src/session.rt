@@ -25,22 +25,21 @@ use std::marker::Model;
 use std::ops::Deref;
 use watch_rounds::Picker;
 
-/// A session with the bench by which it prices, and what stands beside it. What is stored in it was computed by that bench.
+/// A session with the bench by which it prices, and data beside it. All its values were computed by that bench.
 pub struct BenchSession<P: Picker + Drop, B: Bench + Drop, L: Beside<P> + Drop> {
     pub(crate) session: WatchedSession<P>,
     pub(crate) bench: B,
-    /// What stands beside it: of a session that is spoken to, what was said.
+    /// The data beside it: the lines of a live session, or the number of actions.
     pub beside: L,
 }
 
-/// A session with the bench by which it prices, to which actions are added.
+/// A session with its bench that takes commands as values.
 pub type PricingSession<P, B> = BenchSession<P, B, ActionCount>;
 
-/// A session that is spoken to line by line, with the bench by which it prices: it makes objects and actions by what is said
-/// to it, and answers also by number.
+/// A session with its bench that takes lines. Lines make objects and actions. Calls by number ask, too.
 pub type LiveSession<P, B> = BenchSession<P, B, Lines>;
 
-// Who lets a session go calls this at each exit, and does not let its parts go one by one.
+// Each exit of an owner of a session calls this once, instead of dropping each field.
 impl<P: Picker + Drop, B: Bench + Drop, L: Beside<P> + Drop> Drop for BenchSession<P, B, L> {
     fn drop(self) {
         let BenchSession {
@@ -62,7 +61,7 @@ impl<P: Picker + Drop, B: Bench + Drop, L: Beside<P> + Drop> Model for BenchSess
     ghost invariant = { λ s. IsSound (B.calc s.bench) s.session.standing.state × L.stands s.session s.beside };
 }
 
-// What is read of its session is read of it.
+// The calls that read the session.
 impl<P: Picker + Drop, B: Bench + Drop, L: Beside<P> + Drop> Deref for BenchSession<P, B, L> {
     type Target = WatchedSession<P>;
 
@@ -74,8 +73,8 @@ impl<P: Picker + Drop, B: Bench + Drop, L: Beside<P> + Drop> Deref for BenchSess
 }
 
 impl<P: Picker + Drop, B: Bench + Drop, L: Beside<P> + Drop> BenchSession<P, B, L> {
-    /// Whether the session knows a command: its names and actions are among those of the session, and its numbers are
-    /// within their limits.
+    /// Returns whether the session knows a command: its names and actions are those of the session, and its numbers are within their
+    /// limits.
     pub fn knows(&self, command: &Command) -> bool
         ensures { IsTrue result ↔ IsKnown self.now.running.standing command.now }
     {
@@ -83,7 +82,7 @@ impl<P: Picker + Drop, B: Bench + Drop, L: Beside<P> + Drop> BenchSession<P, B, 
         is_known(self.names().len(), actions, command)
     }
 
-    /// The number of a name, where the session has its text. It takes no memory.
+    /// Returns the number of a name of the session. Takes no memory.
     pub fn name(&self, text: &[u8]) -> Option<NameId>
         ensures none { (result ≡ None) ↔ (has_text self.now.running.standing.names text.now ≡ false) }
         ensures place { IfSome result (λ name. name ≡ place_of self.now.running.standing.names text.now) }
@@ -91,9 +90,8 @@ impl<P: Picker + Drop, B: Bench + Drop, L: Beside<P> + Drop> BenchSession<P, B, 
         self.names().find(text)
     }
 
-    /// What an ask of the live lazy object that has a name answers where the object is frozen, late or current: its last
-    /// value, or that it has none. None exactly where it is none of these, or no such object has the name. Nothing is
-    /// computed, and it takes no memory.
+    /// Returns the result of an ask of the live lazy object of a name, if it is frozen, late or current: its last value, or that it
+    /// has none. `None` exactly if it is none of these, or there is no such object. Computes nothing and takes no memory.
     pub fn ask_held(&mut self, name: NameId) -> Option<Asked>
         ensures answer { result ≡ held_of self.old.running.standing name }
         ensures same { self.new ≡ self.old }
@@ -101,20 +99,23 @@ impl<P: Picker + Drop, B: Bench + Drop, L: Beside<P> + Drop> BenchSession<P, B, 
         self.session.session.ask_held(name)
     }
 
-    /// Does a quiet command by itself, and answers why it is refused, if it is: a refused command changes nothing. No
-    /// watcher runs, no line is written, nothing is computed and no memory is taken. The notices that it gives are
-    /// forgotten as the next step begins its round.
+    /// Carries out a quiet command by itself and returns why it is refused, if it is. A refused command changes nothing. No watcher
+    /// runs and no line is written. Computes nothing and takes no memory. Its notifications are forgotten when the next step begins.
+    ///
+    /// # Errors
+    ///
+    /// `Stopped`, `Unknown` or `NotQuiet`, exactly as `stopped` and the clauses after it say. Then nothing has changed.
     pub fn change(&mut self, command: &Command) -> Result<Option<Refusal>, ChangeFault>
         ensures turns { OnOk result ((calc : Calc) → self.new.running ≡ (taken (turn calc self.old.running.standing command.now) self.old.running).next) }
         ensures refusal { IfOk result (λ refusal. refusal ≡ result_err (resolve self.old.running.standing command.now)) }
         ensures refused { IfOk result (λ refusal. IfSome refusal (λ _. self.new.running.standing ≡ self.old.running.standing)) }
         ensures same { OnErr result (self.new ≡ self.old) }
-        // The bench is not called, and the session goes on with its names and its actions.
+        // The bench is not called, and the session keeps its names and its actions.
         ensures bench { self.new ≡ record self.old { running = self.new.running } }
         ensures stops { self.new.running.standing.stopped ≡ self.old.running.standing.stopped }
         ensures names { self.new.running.standing.names ≡ self.old.running.standing.names }
         ensures actions { self.new.running.standing.actions ≡ self.old.running.standing.actions }
-        // It is not tried in these cases exactly.
+        // It is not tried exactly in these cases.
         ensures stopped { IsErrOf result ChangeFault.Stopped ↔ (self.old.running.standing.stopped ≡ true) }
         ensures unknown { IsErrOf result ChangeFault.Unknown ↔ Misses self.old.running.standing command.now }
         ensures not_quiet { IsErrOf result ChangeFault.NotQuiet ↔ LeavesToAStep self.old.running.standing command.now }
@@ -131,8 +132,13 @@ impl<P: Picker + Drop, B: Bench + Drop, L: Beside<P> + Drop> BenchSession<P, B, 
         Ok(self.session.change(command))
     }
 
-    /// Runs the round of a command: the command with its notices, and the runs of the watchers that are due. Its lines are
-    /// appended.
+    /// Runs the round of a command: the command with its notifications, and the runs of the due watchers. Appends the lines of the
+    /// round.
+    ///
+    /// # Errors
+    ///
+    /// `Stopped` or `Unknown`, where nothing has changed, and `NoMemory` where memory runs out in the round. Then the session is
+    /// stopped.
     pub fn step(&mut self, command: &Command, lines: &mut Vec<u8>) -> Result<(), StepFault>
         ensures plays { OnOk result (Does P (round_of (record { calc = B.calc self.old.bench; at = P.at; after = P.after }) self.old.running command.now)
             self.new.running (record { lines = lines.old.items; count = B.count self.old.bench; log = B.log self.old.bench }) (record { lines = lines.new.items; count = B.count self.new.bench; log = B.log self.new.bench })) }
@@ -144,12 +150,11 @@ impl<P: Picker + Drop, B: Bench + Drop, L: Beside<P> + Drop> BenchSession<P, B, 
         ensures runs { OnOk result (self.new.running.standing.stopped ≡ false) }
         ensures ends { OnOk result (HasEnded self.new.running.round) }
         ensures stays { Stays (B.calc self.old.bench) self.old.running.standing self.new.running.standing }
-        // A command that takes no memory and is not refused, that makes no watcher due and calls for no `over` line, is done
-        // though memory is short.
+        // A command that takes no memory, is not refused, and makes no watcher due and no name over, is done even without free memory.
         ensures ready { Takes self.old.running.standing command.now
             → IsQuiet P (record { calc = B.calc self.old.bench; at = P.at; after = P.after }) (begun self.old.running) command.now
             → IsOk result }
-        // It is not tried in these cases exactly, and then changes nothing.
+        // It is not tried exactly in these cases. Then nothing has changed.
         ensures stopped { IsErrOf result StepFault.Stopped ↔ (self.old.running.standing.stopped ≡ true) }
         ensures unknown { IsErrOf result StepFault.Unknown ↔ Misses self.old.running.standing command.now }
         ensures same { IsErrOf result StepFault.Stopped ⊎ IsErrOf result StepFault.Unknown

@@ -1,4 +1,4 @@
-// Whom an object observes, and how it takes a notice.
+// The objects that an object observes, and its role in the graph.
 ghost use Rattle.std.specs.Prelude.{◌≡◌, ◌∷◌, ◌++◌, if◌then◌else◌, Some, IfOk};
 ghost use Rattle.desk_terms.specs.Terms.{moves, helper_references, part_references, optional_reference};
 ghost use Rattle.desk_terms.specs.declared.kind.Wanted.TheVariants.{Engine, Index};
@@ -13,7 +13,7 @@ use std::alloc::{AllocError, Global};
 /// The evaluation date.
 pub const TODAY: ObjId = ObjId(0);
 
-/// How an object with these terms takes a notice.
+/// Returns the role of an object with these terms: how it passes on a notification.
 pub fn role_of(terms: &Terms) -> Role
     ensures { result ≡ node_role (role_of (Some terms.now)) }
 {
@@ -31,7 +31,11 @@ pub fn role_of(terms: &Terms) -> Role
     }
 }
 
-/// The objects that an object with these terms observes, in order.
+/// Returns the objects that an object with these terms observes, in order.
+///
+/// # Errors
+///
+/// `AllocError` where memory runs out.
 pub fn watched(alloc: Global, terms: &Terms) -> Result<Vec<ObjId>, AllocError>
     ensures { IfOk result (λ objects. objects.items ≡ watched terms.now) }
 {
@@ -49,7 +53,7 @@ pub fn watched(alloc: Global, terms: &Terms) -> Result<Vec<ObjId>, AllocError>
     }
 }
 
-// The target of a handle, if it has one.
+// Returns the target of a handle, if it has one.
 fn linked(alloc: Global, target: Option<ObjId>) -> Result<Vec<ObjId>, AllocError>
     ensures { IfOk result (λ objects. objects.items ≡ linked target) }
 {
@@ -59,7 +63,7 @@ fn linked(alloc: Global, target: Option<ObjId>) -> Result<Vec<ObjId>, AllocError
     }
 }
 
-// The evaluation date, where a curve's start moves with it.
+// Returns the evaluation date, if the curve's start moves with it.
 fn moved_by(alloc: Global, start: CurveStart) -> Result<Vec<ObjId>, AllocError>
     ensures { IfOk result (λ objects. objects.items ≡ moved_by start) }
 {
@@ -69,7 +73,7 @@ fn moved_by(alloc: Global, start: CurveStart) -> Result<Vec<ObjId>, AllocError>
     }
 }
 
-// The evaluation date, where a curve's start moves with it, and the quotes of its helpers.
+// Returns the evaluation date, if the curve's start moves with it, and the quotes of its helpers.
 fn quotes(alloc: Global, start: CurveStart, helpers: &[Helper]) -> Result<Vec<ObjId>, AllocError>
     ensures { let quotes = named (helper_references helpers.now) in
         IfOk result (λ objects. objects.items ≡ if moves start then 0 ∷ quotes else quotes) }
@@ -81,7 +85,7 @@ fn quotes(alloc: Global, start: CurveStart, helpers: &[Helper]) -> Result<Vec<Ob
     Ok(quotes)
 }
 
-// The evaluation date, and the engine and the index of an instrument, where it has these.
+// Returns the evaluation date, and the engine and the index of an instrument, if it has them.
 fn priced_by(
     alloc: Global,
     engine: Option<ObjId>,
@@ -99,7 +103,7 @@ fn priced_by(
     Ok(objects)
 }
 
-// The members of these parts.
+// Returns the members of these parts.
 fn members(alloc: Global, parts: &[Part]) -> Result<Vec<ObjId>, AllocError>
     ensures { IfOk result (λ members. members.items ≡ named (part_references parts.now)) }
 {

@@ -12,7 +12,7 @@ use desk_model::Slot;
 use desk_names::ObjId;
 use desk_terms::Terms;
 
-/// The engine of an instrument, if it has one; none where something else stands.
+/// Returns the engine of an instrument. `None` if it has none, or the object is no instrument.
 pub fn engine_of(objects: &Objects, instrument: ObjId) -> Option<ObjId>
     ensures { result ≡ engine_in (changeable (terms_in (slice_index_or objects.now instrument Free))) }
 {
@@ -22,7 +22,7 @@ pub fn engine_of(objects: &Objects, instrument: ObjId) -> Option<ObjId>
     }
 }
 
-// The engine that terms hold.
+// Returns the engine in terms.
 fn engine_held(terms: &Terms) -> Option<ObjId>
     ensures { result ≡ engine_in (changeable (Some terms.now)) }
 {
@@ -40,7 +40,7 @@ fn engine_held(terms: &Terms) -> Option<ObjId>
     }
 }
 
-/// What stands at a number has another engine. It takes no memory.
+/// Sets the engine of the object in a slot. Takes no memory.
 pub fn set_in(slot: &mut Slot, engine: Option<ObjId>)
     ensures { (flows : FlowTerms) (held : Option ℕ) → terms_in slot.old ≡ Some (Flows flows held) → slot.new ≡ Live (Flows flows engine) }
 {
@@ -50,7 +50,7 @@ pub fn set_in(slot: &mut Slot, engine: Option<ObjId>)
     }
 }
 
-// Terms hold another engine.
+// Sets the engine in terms.
 fn set_held(terms: &mut Terms, engine: Option<ObjId>)
     ensures { (flows : FlowTerms) (held : Option ℕ) → terms.old ≡ Flows flows held → terms.new ≡ Flows flows engine }
 {

@@ -1,4 +1,4 @@
-// An index, and the rates that it stores.
+// An index and its fixings.
 ghost use Rattle.std.specs.Prelude.{◌≡◌, ◌↔◌, ◌<◌, ℤ, true, Some, Err, OnOk, OnErr, length, slice_index_or, slice_set};
 ghost use Rattle.flow_terms.specs.declared.indexes.IndexTerms.{IndexTerms};
 ghost use Rattle.flow_terms.specs.declared.fixings.FixFault.TheVariants.{Exists};
@@ -18,7 +18,7 @@ use desk_names::ObjId;
 use desk_terms::{FixFault, IndexUse, Terms};
 use fixed_amount::Rate;
 
-/// An index, as a price sees it; none where another object stands.
+/// Returns an index as a price uses it. `None` if the object is no index.
 pub fn index_of(objects: &Objects, object: ObjId) -> Option<IndexUse<'_>>
     ensures { index_reading result ≡ index_in object (terms_in (slice_index_or objects.now object Free)) }
 {
@@ -28,7 +28,7 @@ pub fn index_of(objects: &Objects, object: ObjId) -> Option<IndexUse<'_>>
     }
 }
 
-// An object as an index, where its terms are those of one.
+// Returns an object as an index, if its terms are those of one.
 fn index_held(object: ObjId, terms: &Terms) -> Option<IndexUse<'_>>
     ensures { index_reading result ≡ index_in object (Some terms.now) }
 {
@@ -50,7 +50,11 @@ fn index_held(object: ObjId, terms: &Terms) -> Option<IndexUse<'_>>
     }
 }
 
-/// What stands at a number stores a rate for a day that has none. After a refusal nothing is changed.
+/// Stores a fixing for a day without one, in the object of a slot.
+///
+/// # Errors
+///
+/// `FixFault::Exists` or `NoMemory`. Then nothing has changed.
 pub fn store_in(slot: &mut Slot, day: Day, rate: Rate) -> Result<(), FixFault>
     requires index { has_fixings (changeable (terms_in slot.old)) ≡ true }
     requires rate { IsRate rate }
@@ -64,7 +68,7 @@ pub fn store_in(slot: &mut Slot, day: Day, rate: Rate) -> Result<(), FixFault>
     }
 }
 
-// Terms store a rate.
+// Stores a fixing in terms.
 fn store_held(terms: &mut Terms, day: Day, rate: Rate) -> Result<(), FixFault>
     requires index { has_fixings (changeable (Some terms.old)) ≡ true }
     requires rate { IsRate rate }

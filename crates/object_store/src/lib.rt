@@ -1,8 +1,16 @@
-//! What is stored of the objects of a session by number: their terms, their last values and flags in the graph of observers,
-//! and what one ask remembers of them.
+//! The data of a session's objects by number: their terms, their last values, their flags in the graph of observers, and the
+//! memory of one ask.
 //!
-//! `Market`, `Objects`, `Store`, `Scratch`. Words of `specs/`: `market_in`, `state_in`, `objects_of`, `IsJoined`, `StoreView`,
-//! `ScratchView`.
+//! `Objects` has the terms and `Market` adds the evaluation date, `Store` has values and the graph, `Scratch` what one ask
+//! remembers. Words of `specs/`: `market_in`, `state_in`, `objects_of`, `IsJoined`, `StoreView`, `ScratchView`. Programs use a
+//! `Desk` (lazy_objects), which owns all of them:
+//!
+//! ```text
+//! let observed = watched(alloc, &terms)?;
+//! objects.add(terms, &mut store, &observed)?;
+//! store.changed(quote);                       // notifies the observers
+//! let (mark, is_current) = store.met(stock);
+//! ```
 #![tactic(auto)]
 
 mod edges;

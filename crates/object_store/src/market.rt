@@ -1,4 +1,4 @@
-// What an ask reads and does not write.
+// The data that an ask reads and does not write.
 use crate::objects::Objects;
 use day_number::Day;
 

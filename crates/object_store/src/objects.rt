@@ -1,4 +1,4 @@
-// The objects by number: their terms, and on a board of its own the values of quotes.
+// The objects by number: their terms, and the values of quotes on a board of their own.
 ghost use Rattle.std.specs.Prelude.{◌≡◌, ◌↔◌, ◌<◌, ◌^◌, ℕ, ℤ, Option, Err, ◌∷◌, ◌++◌, [], length, not, take, List, None, Some, false, true, is_some, IfOk, OnOk, OnErr, slice_index_or, slice_set};
 ghost use Rattle.std.specs.Option.{option_copied};
 ghost use Rattle.walks.specs.Walk.{Among};
@@ -35,7 +35,7 @@ use quote_board::Quotes;
 use std::alloc::{AllocError, Global};
 use std::marker::Model;
 
-/// What stands at each number. The values of quotes stand on the board alone.
+/// The objects by number. The values of quotes are on the board only.
 #[derive(Drop)]
 pub struct Objects {
     slots: Vec<Slot>,
@@ -55,7 +55,11 @@ impl Model for Objects {
 }
 
 impl Objects {
-    /// The evaluation date alone.
+    /// Makes the evaluation date as the only object.
+    ///
+    /// # Errors
+    ///
+    /// `AllocError` where memory runs out.
     pub fn new(alloc: Global) -> Result<Objects, AllocError>
         ensures { IfOk result (λ objects. objects ≡ Today ∷ []) }
     {
@@ -67,7 +71,11 @@ impl Objects {
         })
     }
 
-    /// One object more, of which nothing is stored. It observes these. After want of memory nothing is changed.
+    /// Adds an object without a value, which observes these objects.
+    ///
+    /// # Errors
+    ///
+    /// `AllocError` where memory runs out. Then nothing has changed.
     pub fn add(
         &mut self,
         terms: Terms,
@@ -92,7 +100,11 @@ impl Objects {
         Ok(())
     }
 
-    /// One watcher more, of which nothing is stored and which observes nothing. After want of memory nothing is changed.
+    /// Adds a watcher, which observes nothing.
+    ///
+    /// # Errors
+    ///
+    /// `AllocError` where memory runs out. Then nothing has changed.
     pub fn add_watcher(&mut self, store: &mut Store) -> Result<(), AllocError>
         requires room { length store.old.kept < 2 ^ 16 }
         ensures made { OnOk result (self.new ≡ self.old ++ (Watcher ∷ [])) }
@@ -106,29 +118,29 @@ impl Objects {
         Ok(())
     }
 
-    /// How many numbers were given, that of `today` among them.
+    /// Returns how many numbers were given, with that of `today`.
     pub fn len(&self) -> usize
         ensures { result ≡ length self.now }
     {
         self.slots.len()
     }
 
-    /// What an object is; none where no live object has the number.
+    /// Returns the kind of an object. `None` if no live object has the number.
     pub fn kind(&self, object: ObjId) -> Option<Kind>
         ensures { result ≡ kind_in (slice_index_or self.now object Free) }
     {
         kind_of(&self.slots, object)
     }
 
-    /// The terms of an object as they stand, with its links, members and fixings: those of a quote without its value, which
-    /// `quote` tells. None where no live object has the number, of `today`, and of a watcher.
+    /// Returns the current terms of an object, with its links, members and fixings. Those of a quote are without its value, which
+    /// `quote` returns. `None` for `today`, for a watcher, and if no live object has the number.
     pub fn terms(&self, object: ObjId) -> Option<&Terms>
         ensures { option_copied result ≡ bare (terms_in (slice_index_or self.now object Free)) }
     {
         terms_of(&self.slots, object)
     }
 
-    /// The terms of an object that is no quote.
+    /// Returns the terms of an object that is no quote.
     pub fn own_terms(&self, object: ObjId) -> &Terms
         requires { has_own_terms (slice_index_or self.now object Free) ≡ true }
         ensures { terms_in (slice_index_or self.now object Free) ≡ Some result.now }
@@ -139,7 +151,7 @@ impl Objects {
         }
     }
 
-    /// The value that a quote has; none where it has none. It takes no memory.
+    /// Returns the value of a quote, if it has one. Takes no memory.
     pub fn quote(&self, quote: ObjId) -> Option<Rate>
         requires { kind_in (slice_index_or self.now quote Free) ≡ Some kind.Quote }
         ensures { terms_in (slice_index_or self.now quote Free) ≡ Some (Quote result) }
@@ -147,7 +159,7 @@ impl Objects {
         self.board.get(quote)
     }
 
-    /// Sets or unsets a quote. Answers whether its value changed.
+    /// Sets or unsets a quote, and returns whether its value changed.
     pub fn set(&mut self, quote: ObjId, value: Option<Rate>) -> bool
         requires { has_quote (slice_index_or self.old quote Free) ≡ true }
         ensures changed { result ≡ not (holds_value value (slice_index_or self.old quote Free)) }
@@ -156,7 +168,7 @@ impl Objects {
         self.board.set(quote, value)
     }
 
-    /// An object that is no quote has other terms, which are no quote's.
+    /// Replaces the terms of an object that is no quote by others that are no quote's.
     pub fn replace(&mut self, object: ObjId, terms: Terms)
         requires within { object < length self.old }
         requires old { has_quote (slice_index_or self.old object Free) ≡ false }
@@ -166,7 +178,7 @@ impl Objects {
         self.slots[object.place()] = Slot::Live(terms);
     }
 
-    /// An instrument has another engine, or none.
+    /// Sets or removes the engine of an instrument.
     pub fn set_engine(&mut self, instrument: ObjId, engine: Option<ObjId>)
         requires { kind_in (slice_index_or self.old instrument Free) ≡ Some kind.Flows }
         ensures { (flows : FlowTerms) (held : Option ℕ) → terms_in (slice_index_or self.old instrument Free) ≡ Some (Flows flows held) → self.new ≡ slice_set self.old instrument (Live (Flows flows engine)) }
@@ -174,7 +186,11 @@ impl Objects {
         set_in(&mut self.slots[instrument.place()], engine);
     }
 
-    /// Stores the rate of an index for a day that has none. After a refusal nothing is changed.
+    /// Stores a fixing of an index for a day without one.
+    ///
+    /// # Errors
+    ///
+    /// `FixFault::Exists` or `NoMemory`. Then nothing has changed.
     pub fn store_fixing(&mut self, index: ObjId, day: Day, rate: Rate) -> Result<(), FixFault>
         requires index { has_fixings (changeable (terms_in (slice_index_or self.old index Free))) ≡ true }
         requires rate { IsRate rate }
@@ -185,7 +201,11 @@ impl Objects {
         store_in(&mut self.slots[index.place()], day, rate)
     }
 
-    /// A composite has a part more, at the end. After want of memory nothing is changed.
+    /// Appends a part to a composite.
+    ///
+    /// # Errors
+    ///
+    /// `AllocError` where memory runs out. Then nothing has changed.
     pub fn push_part(&mut self, composite: ObjId, part: Part) -> Result<(), AllocError>
         requires { kind_in (slice_index_or self.old composite Free) ≡ Some kind.Composite }
         ensures pushed { OnOk result ((parts : List Part) → terms_in (slice_index_or self.old composite Free) ≡ Some (Composite parts) → self.new ≡ slice_set self.old composite (Live (Composite (parts ++ part ∷ [])))) }
@@ -194,7 +214,7 @@ impl Objects {
         push_in(&mut self.slots[composite.place()], part)
     }
 
-    /// A composite keeps its first parts, as many as are given, and all where there are no more.
+    /// Keeps the first `len` parts of a composite, or all if there are no more.
     pub fn keep_parts(&mut self, composite: ObjId, len: usize)
         requires { kind_in (slice_index_or self.old composite Free) ≡ Some kind.Composite }
         ensures { (parts : List Part) → terms_in (slice_index_or self.old composite Free) ≡ Some (Composite parts) → self.new ≡ slice_set self.old composite (Live (Composite (take len parts))) }
@@ -202,7 +222,7 @@ impl Objects {
         keep_in(&mut self.slots[composite.place()], len);
     }
 
-    /// A composite has another part in a place, counted from 0. It takes no memory.
+    /// Replaces the part at a place, from 0, of a composite. Takes no memory.
     pub fn put_part(&mut self, composite: ObjId, at: usize, part: Part)
         requires composite { kind_in (slice_index_or self.old composite Free) ≡ Some kind.Composite }
         requires within { at < length (parts_in (slice_index_or self.old composite Free)) }
@@ -211,7 +231,7 @@ impl Objects {
         put_in(&mut self.slots[composite.place()], at, part);
     }
 
-    /// Takes an object out.
+    /// Removes an object.
     pub fn remove(&mut self, object: ObjId)
         requires within { object < length self.old }
         ensures { self.new ≡ slice_set self.old object Free }
@@ -221,7 +241,7 @@ impl Objects {
     }
 }
 
-// What stands at a number.
+// Returns the kind of the object with a number.
 fn kind_of(slots: &[Slot], object: ObjId) -> Option<Kind>
     ensures { result ≡ kind_in (slice_index_or slots.now object Free) }
 {
@@ -231,7 +251,7 @@ fn kind_of(slots: &[Slot], object: ObjId) -> Option<Kind>
     }
 }
 
-// What stands in a slot; none where its object was dropped.
+// Returns the kind of the object in a slot. `None` if it was dropped.
 fn kind_in(slot: &Slot) -> Option<Kind>
     ensures { result ≡ kind_in slot.now }
 {
@@ -243,7 +263,7 @@ fn kind_in(slot: &Slot) -> Option<Kind>
     }
 }
 
-// The terms that stand at a number, if any do.
+// Returns the terms of the object with a number, if it has any.
 fn terms_of(slots: &[Slot], object: ObjId) -> Option<&Terms>
     ensures { option_copied result ≡ terms_in (slice_index_or slots.now object Free) }
 {
@@ -253,7 +273,7 @@ fn terms_of(slots: &[Slot], object: ObjId) -> Option<&Terms>
     }
 }
 
-// The terms that stand in a slot, if any do.
+// Returns the terms in a slot, if there are any.
 fn terms_in(slot: &Slot) -> Option<&Terms>
     ensures { option_copied result ≡ terms_in slot.now }
 {
@@ -265,7 +285,7 @@ fn terms_in(slot: &Slot) -> Option<&Terms>
     }
 }
 
-// The value that a quote's terms have.
+// Returns the value in a quote's terms.
 fn quoted(terms: &Terms) -> Option<Option<Rate>>
     ensures { result ≡ quoted terms.now }
 {
@@ -283,7 +303,7 @@ fn quoted(terms: &Terms) -> Option<Option<Rate>>
     }
 }
 
-// Terms without the value of a quote.
+// Returns terms without the value of a quote.
 fn bare(terms: Terms) -> Terms
     ensures { result ≡ with_quote None terms }
 {
@@ -293,7 +313,7 @@ fn bare(terms: Terms) -> Terms
     }
 }
 
-// Makes room on the board for a quote, if there is one. The board stays as it was.
+// Makes room on the board for a quote, if there is one. The values on the board stay.
 fn make_room(
     board: &mut Quotes,
     quote: ObjId,
@@ -308,7 +328,7 @@ fn make_room(
     }
 }
 
-// Writes a quote on the board, if there is one. Nothing stands at its number before.
+// Puts a quote on the board, if there is one. Its number was not in use.
 fn put_any(board: &mut Quotes, quote: ObjId, value: Option<Option<Rate>>)
     requires new { entry board.old quote ≡ None }
     requires room { is_some value ≡ true → quote < length board.old }

@@ -1,4 +1,4 @@
-// The parts of a composite, one more at their end, and another in a place.
+// The parts of a composite: reads, appends and replaces them.
 ghost use Rattle.std.specs.Prelude.{◌≡◌, ◌<◌, ◌++◌, ◌∷◌, [], List, Some, OnOk, OnErr, length, take, slice_index_or, slice_set};
 ghost use Rattle.desk_terms.specs.declared.terms.Terms.TheVariants.{Composite};
 ghost use Rattle.desk_terms.specs.declared.terms.Part.{Part};
@@ -13,7 +13,7 @@ use desk_names::ObjId;
 use desk_terms::{Part, Terms};
 use std::alloc::AllocError;
 
-/// The parts of a composite; none where something else stands.
+/// Returns the parts of a composite. There are none if the object is no composite.
 pub fn parts_of(objects: &Objects, composite: ObjId) -> &[Part]
     ensures { result.now ≡ parts_in (slice_index_or objects.now composite Free) }
 {
@@ -23,7 +23,7 @@ pub fn parts_of(objects: &Objects, composite: ObjId) -> &[Part]
     }
 }
 
-// The parts that terms hold.
+// Returns the parts in terms.
 fn parts_held(terms: &Terms) -> &[Part]
     ensures { result.now ≡ parts_held (changeable (Some terms.now)) }
 {
@@ -41,7 +41,11 @@ fn parts_held(terms: &Terms) -> &[Part]
     }
 }
 
-/// What stands at a number has a part more. After want of memory nothing is changed.
+/// Appends a part to the object in a slot.
+///
+/// # Errors
+///
+/// `AllocError` where memory runs out. Then nothing has changed.
 pub fn push_in(slot: &mut Slot, part: Part) -> Result<(), AllocError>
     ensures pushed { OnOk result ((parts : List Part) → terms_in slot.old ≡ Some (Composite parts) → slot.new ≡ Live (Composite (parts ++ part ∷ []))) }
     ensures same { OnErr result (slot.new ≡ slot.old) }
@@ -52,7 +56,7 @@ pub fn push_in(slot: &mut Slot, part: Part) -> Result<(), AllocError>
     }
 }
 
-// Terms hold a part more.
+// Appends a part to terms.
 fn push_held(terms: &mut Terms, part: Part) -> Result<(), AllocError>
     ensures pushed { OnOk result ((parts : List Part) → terms.old ≡ Composite parts → terms.new ≡ Composite (parts ++ part ∷ [])) }
     ensures same { OnErr result (terms.new ≡ terms.old) }
@@ -71,7 +75,7 @@ fn push_held(terms: &mut Terms, part: Part) -> Result<(), AllocError>
     }
 }
 
-/// What stands at a number keeps its first parts, as many as are given. It takes no memory.
+/// Keeps the first `len` parts of the object in a slot. Takes no memory.
 pub fn keep_in(slot: &mut Slot, len: usize)
     ensures { (parts : List Part) → terms_in slot.old ≡ Some (Composite parts) → slot.new ≡ Live (Composite (take len parts)) }
 {
@@ -81,7 +85,7 @@ pub fn keep_in(slot: &mut Slot, len: usize)
     }
 }
 
-// Terms keep their first parts.
+// Keeps the first parts of terms.
 fn keep_held(terms: &mut Terms, len: usize)
     ensures { (parts : List Part) → terms.old ≡ Composite parts → terms.new ≡ Composite (take len parts) }
 {
@@ -99,7 +103,7 @@ fn keep_held(terms: &mut Terms, len: usize)
     }
 }
 
-/// What stands at a number has another part in a place. It takes no memory.
+/// Replaces a part of the object in a slot. Takes no memory.
 pub fn put_in(slot: &mut Slot, at: usize, part: Part)
     requires { at < length (parts_in slot.old) }
     ensures { (parts : List Part) → terms_in slot.old ≡ Some (Composite parts) → slot.new ≡ Live (Composite (slice_set parts at part)) }
@@ -110,7 +114,7 @@ pub fn put_in(slot: &mut Slot, at: usize, part: Part)
     }
 }
 
-// Terms hold another part in a place.
+// Replaces a part of terms.
 fn put_held(terms: &mut Terms, at: usize, part: Part)
     requires { at < length (parts_held (changeable (Some terms.old))) }
     ensures { (parts : List Part) → terms.old ≡ Composite parts → terms.new ≡ Composite (slice_set parts at part) }

@@ -1,5 +1,5 @@
-// What one ask remembers by object number. It is kept between asks, and cleared where an ask touched it, so that an ask
-// costs what it reads and not the whole market.
+// The memory of one ask, by object number. It is kept between asks and cleared where an ask touched it, so that an ask costs
+// what it reads and not the whole market.
 ghost use Rattle.std.specs.Prelude.{◌≡◌, ◌+◌, ◌<◌, ◌++◌, [], ◌∷◌, ℕ, None, Some, Option, length, OnOk, OnErr, slice_index_or, slice_set};
 ghost use Rattle.object_store.specs.Scratch.{AreTouched, AreClear};
 
@@ -10,7 +10,7 @@ use fixed_amount::Rate;
 use std::alloc::{AllocError, Global};
 use std::marker::Model;
 
-/// What quotes give, as far as it was worked out.
+/// The values of derived quotes and handles that an ask has worked out so far.
 #[derive(Drop)]
 pub struct Scratch {
     entries: Vec<Option<Entry>>,
@@ -34,7 +34,7 @@ impl Model for Scratch {
 }
 
 impl Scratch {
-    /// Nothing is remembered, of no object.
+    /// Starts with no object.
     pub fn new(alloc: Global) -> Scratch
         ensures entries { result.entries ≡ [] }
         ensures touched { result.touched ≡ [] }
@@ -46,12 +46,16 @@ impl Scratch {
         }
     }
 
-    /// What an ask takes memory from.
+    /// Returns the allocator of an ask.
     pub fn alloc(&self) -> Global {
         self.alloc
     }
 
-    /// Finds the room for one object more, where memory is not wanting.
+    /// Reserves room for one more object.
+    ///
+    /// # Errors
+    ///
+    /// `AllocError` where memory runs out.
     pub fn reserve(&mut self) -> Result<(), AllocError>
         ensures ok { OnOk result (0 < self.new.spare) }
         ensures entries { self.new.entries ≡ self.old.entries }
@@ -63,7 +67,7 @@ impl Scratch {
         Ok(())
     }
 
-    /// One object more, of which nothing is remembered.
+    /// Adds an object of which nothing is remembered.
     pub fn grow(&mut self)
         requires { 0 < self.old.spare }
         ensures entries { self.new.entries ≡ self.old.entries ++ None ∷ [] }
@@ -74,7 +78,7 @@ impl Scratch {
         self.entries.push_reserved(None);
     }
 
-    /// What is remembered of an object.
+    /// Returns what is remembered of an object.
     pub fn entry(&self, object: ObjId) -> Option<Entry>
         ensures { result ≡ slice_index_or self.now.entries object None }
     {
@@ -85,7 +89,11 @@ impl Scratch {
         }
     }
 
-    /// What an object gives is remembered.
+    /// Remembers what an object gives.
+    ///
+    /// # Errors
+    ///
+    /// `AllocError` where memory runs out.
     pub fn remember(&mut self, object: ObjId, entry: Entry) -> Result<(), AllocError>
         requires { object < length self.old.entries }
         ensures entries { OnOk result (self.new.entries ≡ slice_set self.old.entries object (Some entry)) }
@@ -96,7 +104,7 @@ impl Scratch {
         Ok(())
     }
 
-    /// Nothing is remembered of any object. It costs what was touched.
+    /// Forgets everything. The cost grows with the number of remembered objects.
     pub fn clear(&mut self)
         ensures { AreClear self.old self.new }
     {
@@ -105,7 +113,7 @@ impl Scratch {
     }
 }
 
-// Nothing is remembered of these objects.
+// Forgets these objects.
 fn clear_all(entries: &mut [Option<Entry>], touched: &[ObjId])
     requires within { AreTouched entries.old touched.now }
     ensures entries { (x : ℕ) → slice_index_or entries.new x None ≡ None }
@@ -116,7 +124,7 @@ fn clear_all(entries: &mut [Option<Entry>], touched: &[ObjId])
     }
 }
 
-// Nothing is remembered of an object.
+// Forgets an object.
 fn clear_one(entries: &mut [Option<Entry>], object: ObjId)
     requires { object < length entries.old }
     ensures { entries.new ≡ slice_set entries.old object None }

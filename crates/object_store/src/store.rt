@@ -1,5 +1,5 @@
-// What is stored of each object, and who observes whom: the flags stand in the graph of observers, the last values beside
-// it. Notices may be held back.
+// The values of objects and the graph of observers: the flags are in the graph, the last values beside it. Notifications may be
+// deferred.
 ghost use Rattle.std.specs.Prelude.{◌≡◌, ◌<◌, ◌^◌, ℕ, [], true, false, Some, None, length, is_some, OnOk, OnErr, slice_index_or, slice_set};
 ghost use Rattle.std.specs.Option.{option_copied};
 ghost use Rattle.walks.specs.Walk.{Among};
@@ -22,10 +22,10 @@ use std::alloc::{AllocError, Global};
 use std::marker::Model;
 use std::ops::Deref;
 
-/// What is stored of each object by number, the graph of observers, and whether its notices are held back.
+/// The last values by number, the graph of observers, and its deferral.
 #[derive(Drop)]
 pub struct Store {
-    /// The graph of observers, whose notices may be held back.
+    /// The graph of observers, whose notifications may be deferred.
     pub deferral: Deferral,
     lasts: Vec<Option<Value>>,
 }
@@ -45,7 +45,7 @@ impl Model for Store {
 impl Deref for Store {
     type Target = Graph;
 
-    /// The graph of observers.
+    /// Returns the graph of observers.
     fn deref(&self) -> &Graph
         ensures shape { shape_of result.now ≡ self.now.shape }
         ensures kept { (o : ℕ) → stored_at self.now o ≡ kept_as (node_at result.now o) (is_source result.now o) (stored_at self.now o).last }
@@ -55,7 +55,7 @@ impl Deref for Store {
 }
 
 impl Store {
-    /// Nothing is stored, of no object, and no notice is held back.
+    /// Starts without objects, and with deferral off.
     pub fn new(alloc: Global) -> Store
         ensures kept { result.kept ≡ [] }
         ensures switch { result.deferring ≡ false }
@@ -69,7 +69,11 @@ impl Store {
         }
     }
 
-    /// One object more, of which nothing is stored. It observes these. After want of memory nothing is changed.
+    /// Adds an object without a value, which observes these objects.
+    ///
+    /// # Errors
+    ///
+    /// `AllocError` where memory runs out. Then nothing has changed.
     pub fn add(&mut self, role: Role, named: &[ObjId]) -> Result<(), AllocError>
         requires room { length self.old.kept < 2 ^ 16 }
         requires live { (x : ℕ) → Among x named.now → is_some (role_at self.old.shape x) ≡ true }
@@ -82,7 +86,7 @@ impl Store {
         Ok(())
     }
 
-    /// Nothing is stored of an object any more; it observes nothing, and nothing observes it.
+    /// Forgets the value of an object and removes all its pairs from the graph.
     pub fn forget(&mut self, object: ObjId)
         requires { is_some (role_at self.old.shape object) ≡ true }
         ensures { TakesObject object self.old self.new }
@@ -91,14 +95,14 @@ impl Store {
         self.lasts[object.place()] = None;
     }
 
-    /// The last value of an object, if it has one.
+    /// Returns the last value of an object, if it has one.
     pub fn last(&self, object: ObjId) -> Option<&Value>
         ensures { option_copied result ≡ (slice_index_or self.now.kept object unpriced).last }
     {
         last_in(&self.lasts, object)
     }
 
-    /// A lazy object has this value, and it is current.
+    /// Stores the value of a lazy object, which is current from now on.
     #[inline(always)]
     pub fn keep(&mut self, object: ObjId, value: Value)
         requires { role_at self.old.shape object ≡ Some role.Lazy }
@@ -111,7 +115,7 @@ impl Store {
         self.lasts[object.place()] = Some(value);
     }
 
-    /// A lazy object is worth this money, and that is current.
+    /// Stores an amount as the value of a lazy object, which is current from now on.
     #[inline(always)]
     pub fn keep_money(&mut self, object: ObjId, amount: Amount)
         requires { role_at self.old.shape object ≡ Some role.Lazy }
@@ -124,7 +128,7 @@ impl Store {
         put_money(&mut self.lasts[object.place()], amount);
     }
 
-    /// An object is frozen no more; whether it was. Nobody is told.
+    /// Thaws an object and returns whether it was frozen. Notifies nobody.
     pub fn thaw(&mut self, object: ObjId) -> bool
         requires { role_at self.old.shape object ≡ Some role.Lazy }
         ensures answer { result ≡ (stored_at self.old object).frozen }
@@ -140,8 +144,8 @@ impl Store {
         flags.frozen
     }
 
-    /// An object was changed: those whom its notice reaches are not current. Where notices are held back, the object is
-    /// marked and nobody is told. It takes no memory, and costs what it tells.
+    /// Reports a change of an object: all that its notification reaches are out of date. While deferral is on, the object is marked
+    /// instead and nobody is notified. Takes no memory. The cost grows with the number of notified objects.
     pub fn changed(&mut self, object: ObjId)
         requires { is_some (role_at self.old.shape object) ≡ true }
         ensures switch { self.new.deferring ≡ self.old.deferring }
@@ -151,7 +155,7 @@ impl Store {
         self.deferral.changed(object);
     }
 
-    /// Whether an object is frozen.
+    /// Returns whether an object is frozen.
     pub fn is_frozen(&self, object: ObjId) -> bool
         ensures { result ≡ (slice_index_or self.now.kept object unpriced).frozen }
     {
@@ -161,15 +165,15 @@ impl Store {
         self.deferral.graph.flags(object).frozen
     }
 
-    /// Whether an object answers its last value where another needs it.
+    /// Returns whether an object that depends on this one uses its last value without asking it.
     pub fn is_at_hand(&self, object: ObjId) -> bool
         ensures { result ≡ is_at_hand self.now.kept object }
     {
         self.is_current(object) || self.is_frozen(object)
     }
 
-    /// How an ask meets an object: the mark of its answer (frozen, late, held or fresh), and whether its value is current. It
-    /// costs what lies beneath; nothing where no object is frozen or holds its notice back.
+    /// Returns the mark of an ask of this object (frozen, late, held or fresh), and whether its value is current. The cost grows
+    /// with its dependencies. It is constant if no object is frozen or a deferred source.
     #[inline(always)]
     pub fn met(&mut self, object: ObjId) -> (Mark, bool)
         requires { is_some (role_at self.old.shape object) ≡ true }
@@ -187,7 +191,7 @@ impl Store {
     }
 }
 
-// Money is the last value, where it stands already in its place.
+// Makes an amount the last value, in its place if there is one.
 #[inline(always)]
 fn put_money(last: &mut Option<Value>, amount: Amount)
     ensures { last.new ≡ Some (Money amount) }
@@ -199,7 +203,7 @@ fn put_money(last: &mut Option<Value>, amount: Amount)
     }
 }
 
-// The last value of an object, if it has one.
+// Returns the last value of an object, if it has one.
 fn last_in(lasts: &[Option<Value>], object: ObjId) -> Option<&Value>
     ensures { option_copied result ≡ slice_index_or lasts.now object None }
 {
@@ -209,7 +213,7 @@ fn last_in(lasts: &[Option<Value>], object: ObjId) -> Option<&Value>
     }
 }
 
-// Flags, of which this one says whether the object is frozen.
+// Returns flags of which the one for frozen is set or cleared.
 fn frozen_as(flags: Flags, on: bool) -> Flags
     ensures { result ≡ record flags { frozen = on } }
 {

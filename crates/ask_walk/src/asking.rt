@@ -1,4 +1,4 @@
-// An ask: what it uses and has no current value is computed, by an explicit stack.
+// An ask: recomputes what it uses and is out of date, with a stack of its own.
 ghost use Rattle.std.specs.Prelude.{◌≡◌, ◌≢◌, ◌⊎◌, ◌<◌, ◌^◌, true, false, length, None, Some, Ok, Err, IsOk, IfOk, OnErr, [], ◌∷◌, List, is_none, slice_index_or, is_some};
 ghost use Rattle.desk_terms.specs.declared.terms.Terms.{Terms};
 ghost use Rattle.desk_terms.specs.Bench.{counted, logged};
@@ -30,8 +30,8 @@ use object_store::{Market, Scratch, Store, index_of};
 use std::alloc::{AllocError, Global};
 use std::mem;
 
-/// What is kept of the objects of a market: what is stored of each, and what an ask works with: what it remembers, room for
-/// the inputs of a price, and room for those that wait.
+/// The values of a market's objects and the buffers of an ask: what it remembers, the inputs of a price, and the objects that
+/// wait for others.
 #[derive(Drop)]
 pub struct Books {
     pub store: Store,
@@ -40,18 +40,22 @@ pub struct Books {
     pub waiting: Vec<Begun>,
 }
 
-/// What an ask comes to before anything is computed.
+/// The result of an ask before anything is computed.
 #[derive(Clone, Copy)]
 pub enum AtOnce {
-    /// This is its answer.
+    /// The object is frozen, late or current, and this is the result.
     Answers(Asked),
-    /// The object is to be computed; the answer has this mark.
+    /// The object has to be computed, and the result will have this mark.
     Walks(Mark),
 }
 
 impl Books {
-    /// Asks a lazy object. It computes only what it uses and has no current value, and works each derived quote out at most
-    /// once.
+    /// Asks for the value of a lazy object. Recomputes only what it uses and is out of date, and works out each derived quote at
+    /// most once.
+    ///
+    /// # Errors
+    ///
+    /// `AllocError` where memory runs out. Then objects that were recomputed keep their values.
     pub fn ask<B: Bench>(
         &mut self,
         market: &Market,
@@ -83,8 +87,7 @@ impl Books {
         }
     }
 
-    /// What an ask of an object comes to without a computation: its answer, exactly where the object is frozen, late or
-    /// current. It takes no memory.
+    /// Returns the result of an ask without a computation, exactly if the object is frozen, late or current. Takes no memory.
     #[inline(always)]
     pub fn at_once(&mut self, object: ObjId) -> AtOnce
         requires there { is_some (role_at self.old.store.shape object) ≡ true }
@@ -107,8 +110,12 @@ impl Books {
         }
     }
 
-    /// What an object gives where another names it: a quote its rate, a handle what its target gives, a lazy object itself.
-    /// Each derived quote is worked out at most once.
+    /// Returns what an object gives to those that name it: a quote its rate, a handle what its target gives, a lazy object itself.
+    /// Works out each derived quote at most once.
+    ///
+    /// # Errors
+    ///
+    /// `AllocError` where memory runs out.
     pub fn given(&mut self, market: &Market, object: ObjId) -> Result<Entry, AllocError>
         requires linked { IsLinked (market_in market.now) }
         requires within { object < length market.now.objects }
@@ -122,8 +129,7 @@ impl Books {
         entry
     }
 
-    // The walk of an ask, of an object that is neither frozen nor late nor current. Those that wait stand where those of the
-    // last walk did, which costs no memory but for more of them.
+    // Walks from an object that is neither frozen nor late nor current. The stack reuses the memory of the last walk.
     pub(crate) fn walk<B: Bench>(
         &mut self,
         market: &Market,
@@ -180,7 +186,7 @@ impl Books {
         }
     }
 
-    /// Nothing is remembered of any object, and the inputs of the last price are let go.
+    /// Forgets what an ask remembered, and frees the inputs of the last price.
     pub(crate) fn clear(&mut self)
         ensures scratch { AreClear self.old.scratch self.new.scratch }
         ensures store { self.new.store ≡ self.old.store }
@@ -190,7 +196,7 @@ impl Books {
     }
 }
 
-// An answer without a computation: the last value of the object, or that it has none.
+// Returns the last value of the object as a result, or that it has none.
 fn last_answer(store: &Store, object: ObjId, mark: Mark) -> Asked
     ensures { result ≡ record { cause = lacking object (slice_index_or store.now.kept object unpriced).last; mark = mark; runs = 0 } }
 {
@@ -200,7 +206,11 @@ fn last_answer(store: &Store, object: ObjId, mark: Mark) -> Asked
     }
 }
 
-/// One computation: the value is stored, or the cause is answered.
+/// Computes one object. Stores its value, or returns the cause of a refusal.
+///
+/// # Errors
+///
+/// `AllocError` where memory runs out.
 #[inline(always)]
 pub fn compute<'a, B: Bench>(
     alloc: Global,
@@ -240,7 +250,7 @@ pub fn compute<'a, B: Bench>(
     }
 }
 
-// The index that terms name, as their price sees it.
+// Returns the index in terms as a price uses it.
 fn index_named<'a>(market: &'a Market, terms: &Terms) -> Option<IndexUse<'a>>
     ensures { index_reading result ≡ index_at (market_in market.now) (named_index terms.now) }
 {
@@ -261,7 +271,11 @@ fn index_named<'a>(market: &'a Market, terms: &Terms) -> Option<IndexUse<'a>>
     }
 }
 
-/// The price of a composite of this sum: it is stored, or the cause is answered.
+/// Prices a composite from its sum, in units of 10^-6. Stores the price, or returns the cause of a refusal.
+///
+/// # Errors
+///
+/// `AllocError` where memory runs out.
 #[inline(always)]
 pub fn total<B: Bench>(
     store: &mut Store,
@@ -291,7 +305,7 @@ pub fn total<B: Bench>(
     }
 }
 
-/// An answer.
+/// Makes the result of an ask.
 pub fn answered(cause: Option<Cause>, mark: Mark, runs: u64) -> Asked
     ensures { result ≡ record { cause = cause; mark = mark; runs = runs } }
 {

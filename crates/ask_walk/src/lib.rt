@@ -1,7 +1,13 @@
-//! The walk of an ask: it computes what an object uses and has no current value, by a stack of its own, and so does a
-//! recalculation over the object's inputs.
+//! The walk of an ask: recomputes what an object uses and is out of date, with a stack of its own. A recalculation does the
+//! same for the inputs of its object.
 //!
-//! `Books`, with `ask`, `at_once` and `recalc`; `AtOnce`, `Recalced`. Words of `specs/`: `Asks`, `Stops`, `RecalcEnds`, `RecalcStops`.
+//! `Books` with `ask`, `at_once` and `recalc`, and their results `AtOnce` and `Recalced`. Words of `specs/`: `Asks`, `Stops`,
+//! `RecalcEnds`, `RecalcStops`. Programs use a `Desk` (lazy_objects).
+//!
+//! ```text
+//! let asked = books.ask(&market, stock, &mut bench)?;
+//! let again = books.at_once(stock);      // AtOnce::Answers(..)
+//! ```
 #![tactic(auto)]
 
 mod asking;

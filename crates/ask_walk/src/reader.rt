@@ -1,4 +1,4 @@
-// What objects give where others name them: a quote at once, all else by a stack and at most once.
+// The values that objects give to those that name them: of a quote at once, of all others with a stack and at most once.
 ghost use Rattle.std.specs.Prelude.{◌≡◌, ◌<◌, length, None, Some, IfOk, slice_index_or};
 ghost use Rattle.desk_model.specs.Market.{terms_in};
 ghost use Rattle.desk_model.specs.declared.slot.Slot.TheVariants.{Free};
@@ -16,16 +16,20 @@ use fixed_amount::Rate;
 use object_store::{Market, Objects, Scratch};
 use std::alloc::AllocError;
 
-/// What one look at an object tells.
+/// The result of one look at an object.
 #[derive(Clone, Copy)]
 pub enum Look {
-    /// What it gives.
+    /// The object gives this.
     Is(Entry),
     /// This object has to be read first.
     First(ObjId),
 }
 
-/// What an object gives where another names it. What one look tells is answered at once; what took more is remembered.
+/// Returns what an object gives to those that name it. What takes more than one look is remembered.
+///
+/// # Errors
+///
+/// `AllocError` where memory runs out.
 pub fn read(market: &Market, scratch: &mut Scratch, object: ObjId) -> Result<Entry, AllocError>
     requires linked { IsLinked (market_in market.now) }
     requires within { object < length market.now.objects }
@@ -44,7 +48,7 @@ pub fn read(market: &Market, scratch: &mut Scratch, object: ObjId) -> Result<Ent
     }
 }
 
-// Whose entry an object gives: that of what a handle, an index or an engine names, else its own.
+// Follows handles, indexes and engines by one step: returns the object that they name, else the object itself.
 fn passed_to(objects: &Objects, object: ObjId) -> ObjId
     ensures { result ≡ passed_to object (terms_in (slice_index_or objects.now object Free)) }
 {
@@ -68,7 +72,7 @@ fn passed_to(objects: &Objects, object: ObjId) -> ObjId
     }
 }
 
-// What an object gives that is not remembered. What is read for it is, and so is this.
+// Returns what an object gives that is not remembered, and remembers it with all that was read for it.
 fn read_through(market: &Market, scratch: &mut Scratch, object: ObjId) -> Result<Entry, AllocError>
     requires linked { IsLinked (market_in market.now) }
     requires within { object < length market.now.objects }
@@ -94,7 +98,7 @@ fn read_through(market: &Market, scratch: &mut Scratch, object: ObjId) -> Result
     }
 }
 
-// What an object gives over what is remembered, or the first object that has to be read before.
+// Returns what an object gives by what is remembered, or the first object that has to be read before.
 #[inline(always)]
 fn look_at(objects: &Objects, scratch: &Scratch, object: ObjId) -> Look
     ensures { result ≡ given_by (recalled scratch.now.entries) object (terms_in (slice_index_or objects.now object Free)) }
@@ -116,7 +120,7 @@ fn look_at(objects: &Objects, scratch: &Scratch, object: ObjId) -> Look
     }
 }
 
-// What a quote with this value gives.
+// Returns what a quote with this value gives.
 fn quoted(object: ObjId, value: Option<Rate>) -> Entry
     ensures { result ≡ quote_entry object value }
 {
@@ -126,7 +130,7 @@ fn quoted(object: ObjId, value: Option<Rate>) -> Entry
     }
 }
 
-// What an object that is no quote gives, with these terms.
+// Returns what an object with these terms gives, which is no quote.
 fn given_by(scratch: &Scratch, object: ObjId, terms: &Terms) -> Look
     requires { quoted terms.now ≡ None }
     ensures { result ≡ given_by (recalled scratch.now.entries) object (Some terms.now) }
@@ -152,7 +156,7 @@ fn given_by(scratch: &Scratch, object: ObjId, terms: &Terms) -> Look
     }
 }
 
-// What another object gives.
+// Returns what another object gives.
 fn passed(scratch: &Scratch, object: ObjId) -> Look
     ensures { result ≡ and_is (recalled scratch.now.entries object) object }
 {
@@ -162,7 +166,7 @@ fn passed(scratch: &Scratch, object: ObjId) -> Look
     }
 }
 
-// The sum or difference of what two objects give.
+// Returns the sum or difference of what two objects give.
 fn summed(scratch: &Scratch, object: ObjId, minus: bool, first: ObjId, second: ObjId) -> Look
     ensures { result ≡ and_sum object minus (recalled scratch.now.entries first) first (recalled scratch.now.entries second) second }
 {
@@ -175,7 +179,7 @@ fn summed(scratch: &Scratch, object: ObjId, minus: bool, first: ObjId, second: O
     }
 }
 
-// The sum or difference of what two inputs give.
+// Returns the sum or difference of two inputs.
 fn derived(object: ObjId, minus: bool, first: &Entry, second: &Entry) -> Entry
     ensures { result ≡ derived_entry object minus first.now second.now }
 {
@@ -190,7 +194,7 @@ fn derived(object: ObjId, minus: bool, first: &Entry, second: &Entry) -> Entry
     }
 }
 
-// The sum or difference of two rates.
+// Returns the sum or difference of two rates.
 fn combined(object: ObjId, minus: bool, first: Rate, second: Rate) -> Entry
     ensures { result ≡ rate_entry object (if minus then first -ℤ second else first +ℤ second) }
 {
@@ -201,7 +205,7 @@ fn combined(object: ObjId, minus: bool, first: Rate, second: Rate) -> Entry
     }
 }
 
-// A rate of these units, or that there is none.
+// Returns a rate of these units, or that there is none.
 fn rated(object: ObjId, units: i64) -> Entry
     ensures { result ≡ rate_entry object units }
 {

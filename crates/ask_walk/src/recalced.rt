@@ -1,12 +1,12 @@
-// The answer to a recalculation.
+// The result of a recalculation.
 use desk_names::ObjId;
 use desk_terms::Asked;
 
-/// How a recalculation went.
+/// The result of a recalculation.
 #[derive(Clone, Copy, Debug, PartialEq, Eq)]
 pub enum Recalced {
-    /// A deferred source makes the object late: the least such is named, and nothing was done.
+    /// This deferred source, the least such, makes the object late. Nothing has changed.
     Deferred(ObjId),
-    /// The object was computed, or refused by a cause.
+    /// The object was computed, or its computation was refused.
     Done(Asked),
 }

@@ -1,4 +1,4 @@
-// A recalculation: an object is priced over its inputs, whatever its flags say.
+// Recalculations: an object is priced from its inputs, whatever its flags are.
 ghost use Rattle.std.specs.Prelude.{◌≡◌, true, false, length, is_some, Some, Ok, Err, IfOk, OnErr};
 ghost use Rattle.desk_model.specs.State.{is_late};
 ghost use Rattle.object_store.specs.Market.{market_in, state_in, state_after};
@@ -18,8 +18,12 @@ use object_store::{Market, Store};
 use std::alloc::AllocError;
 
 impl Books {
-    /// Recalculates a lazy object, whatever its flags say: it is priced over its inputs, and its observers are told, or it
-    /// holds its notice back (QuantLib's `LazyObject::recalculate`). It is refused where a deferred source makes it late.
+    /// Recalculates a lazy object from its inputs, whatever its flags are, and notifies its observers, at once or deferred
+    /// (QuantLib's `LazyObject::recalculate`). Does nothing if a deferred source makes the object late.
+    ///
+    /// # Errors
+    ///
+    /// `AllocError` where memory runs out. Then inputs that were recomputed keep their values.
     pub fn recalc<B: Bench>(
         &mut self,
         market: &Market,
@@ -49,7 +53,7 @@ impl Books {
         }
     }
 
-    // A recalculation of an object that is not late.
+    // Recalculates an object that is not late.
     fn rerun<B: Bench>(
         &mut self,
         market: &Market,
@@ -75,8 +79,8 @@ impl Books {
         Ok(answer)
     }
 
-    // Prices a lazy object over its inputs: those that are not at hand are asked for in turn. A value is stored, and nobody
-    // is told.
+    // Prices a lazy object from its inputs, of which those without a usable value are asked first. Stores a value, and notifies
+    // nobody.
     fn reprice<B: Bench>(
         &mut self,
         market: &Market,
@@ -115,7 +119,7 @@ impl Books {
     }
 }
 
-// An object that was refused is not current.
+// Marks an object as out of date if it was refused.
 fn outdate_refused(store: &mut Store, object: ObjId, refused: bool)
     requires { is_some (role_at store.old.shape object) ≡ true }
     ensures { store.new ≡ refused_as object refused store.old }

@@ -1,4 +1,4 @@
-// One turn of an ask at an object: the object at which it stands, what is read of it, and what is done there.
+// One step of an ask at an object: reads its inputs, and computes it if they all have values.
 ghost use Rattle.std.specs.Prelude.{◌≡◌, ◌≢◌, List, true, Some, IfOk, OnErr, pos, ◌≤◌, ◌+◌, ◌*◌, ◌^◌, ◌+ℤ◌, ◌*ℤ◌, unsigned_abs, OnOk, [], ◌∷◌, ◌++◌};
 ghost use Rattle.desk_terms.specs.declared.terms.Terms.TheVariants.{Composite};
 ghost use Rattle.desk_terms.specs.declared.terms.Part.{Part};
@@ -32,8 +32,8 @@ use fixed_amount::Amount;
 use object_store::{Market, Scratch, Store};
 use std::alloc::{AllocError, Global};
 
-/// An object at which an ask stands or that waits for another: how many of its members were read, if it is a composite, and
-/// the sum of their values times their weights, in units of 10^-6. Of any other object all is read at once.
+/// The state of an ask at an object: of a composite, how many of its members were read, and the sum of their values times their
+/// weights, in units of 10^-6. The inputs of any other object are read in one step.
 #[derive(Clone, Copy)]
 pub struct Begun {
     pub object: ObjId,
@@ -41,7 +41,7 @@ pub struct Begun {
     pub sum: i128,
 }
 
-// An object of which nothing was read.
+// Starts at an object of which nothing was read.
 #[inline(always)]
 pub fn begin(object: ObjId) -> Begun
     ensures { result ≡ record { object = object; read = 0; sum = pos 0 } }
@@ -53,7 +53,7 @@ pub fn begin(object: ObjId) -> Begun
     }
 }
 
-// What waits, member by member: a copy of the whole takes the gap between its members along.
+// Copies the state field by field, since a copy of the whole takes its padding along.
 #[inline(always)]
 pub fn left(begun: &Begun) -> Begun
     ensures { result ≡ begun.now }
@@ -65,18 +65,18 @@ pub fn left(begun: &Begun) -> Begun
     }
 }
 
-/// What an ask does next at an object.
+/// The next step of an ask at an object.
 #[derive(Clone, Copy)]
 pub enum Step {
-    /// Its price takes the inputs that were read.
+    /// Compute its price from the inputs that were read.
     Ready,
     /// This object has to be computed first.
     First(ObjId),
-    /// The ask ends by this cause.
+    /// End the ask with this cause.
     Stops(Cause),
 }
 
-// The value of another object is an input more.
+// Appends the value of another object to the inputs.
 #[inline(always)]
 fn push_value(alloc: Global, value: &Value, inputs: &mut InputList) -> Result<(), AllocError>
     ensures { OnOk result (inputs.new ≡ inputs.old ++ input_of value.now ∷ []) }
@@ -90,7 +90,7 @@ fn push_value(alloc: Global, value: &Value, inputs: &mut InputList) -> Result<()
     }
 }
 
-// The last value of an object that is at hand, or that it has none; none where it has to be computed first.
+// Returns the last value of an object, or that it has none. `None` if it has to be computed first.
 #[inline(always)]
 fn answer(store: &Store, object: ObjId) -> Option<Result<&Value, Cause>>
     ensures { answered result ≡ answered_of (is_at_hand store.now.kept object) (answer_of store.now.kept object) }
@@ -104,7 +104,7 @@ fn answer(store: &Store, object: ObjId) -> Option<Result<&Value, Cause>>
     }
 }
 
-// That an object has no last value. It stays apart, since most that are read have one.
+// Returns that an object has no last value. It is a function of its own, since most objects have one.
 #[inline(never)]
 fn unpriced(object: ObjId) -> Cause
     ensures { result ≡ Unpriced object }
@@ -112,7 +112,7 @@ fn unpriced(object: ObjId) -> Cause
     Cause::Unpriced(object)
 }
 
-// What an ask does next at a composite of these parts, of which the first were read. It reads on behind them.
+// Returns the next step at a composite of these parts, after those that were read. Reads on from there.
 #[inline(always)]
 fn next_member(store: &Store, parts: &[Part], begun: &mut Begun) -> Step
     requires range { ArePartsInRange parts.now }
@@ -145,7 +145,7 @@ fn next_member(store: &Store, parts: &[Part], begun: &mut Begun) -> Step
     Step::Ready
 }
 
-// A sum and a weight times the value of a member, which is nothing where it is no money.
+// Adds a weight times the value of a member, which counts 0 if it is no amount.
 #[inline(always)]
 fn sum_with(sum: i128, weight: i64, value: &Value) -> i128
     requires sum { unsigned_abs sum ≤ 4096 * 10 ^ 32 }
@@ -159,7 +159,7 @@ fn sum_with(sum: i128, weight: i64, value: &Value) -> i128
     }
 }
 
-// A weight times an amount.
+// Returns a weight times an amount.
 #[inline(always)]
 fn times(weight: i64, amount: Amount) -> i128
     requires { unsigned_abs weight ≤ 1_000_000 }
@@ -169,7 +169,7 @@ fn times(weight: i64, amount: Amount) -> i128
     weight as i128 * amount.0
 }
 
-// A sum of products, and one product more. At most 4,096 of them are summed: 4.1 * 10^35 of the 1.7 * 10^38 that 128 bits hold.
+// Adds a product to a sum of at most 4,096 products: 4.1 * 10^35 of the 1.7 * 10^38 that 128 bits hold.
 #[inline(always)]
 fn sum_of(sum: i128, product: i128) -> i128
     requires sum { unsigned_abs sum ≤ 4096 * 10 ^ 32 }
@@ -180,7 +180,7 @@ fn sum_of(sum: i128, product: i128) -> i128
     sum + product
 }
 
-// What an ask does next where a price takes these entries.
+// Returns the next step where a price takes these entries.
 #[inline(always)]
 fn next_entries(
     alloc: Global,
@@ -207,7 +207,7 @@ fn next_entries(
     Ok(Step::Ready)
 }
 
-// What an ask does next at a lazy object that is no composite. The inputs are those that its price takes, where it is ready.
+// Returns the next step at a lazy object that is no composite. Where it is ready, `inputs` are those of its price.
 #[inline(always)]
 fn next(
     market: &Market,
@@ -258,20 +258,20 @@ fn next(
     }
 }
 
-/// What one turn of an ask did at an object.
+/// The result of one step of an ask at an object.
 #[derive(Clone, Copy)]
 pub enum Turn {
-    /// An entry refuses by this cause.
+    /// An input refuses with this cause.
     Stops(Cause),
     /// The object waits for this one.
     Waits(ObjId),
-    /// The object was computed, or refused by this cause.
+    /// The object was computed, or refused with this cause.
     Ran(Option<Cause>),
 }
 
 impl Books {
-    // One turn at an object, of which so much was read. A composite has an arm of its own: its members' values are summed as
-    // they are read, and the bench is asked for the price of the sum.
+    // Takes one step at an object. A composite has an arm of its own: the values of its members are summed as they are read, and
+    // the bench is asked for the price of the sum.
     #[inline(always)]
     pub(crate) fn turn<B: Bench>(
         &mut self,
@@ -312,7 +312,7 @@ impl Books {
         }
     }
 
-    // One turn at an object that is no composite: all that its price takes is read at once.
+    // Takes one step at an object that is no composite: all its inputs are read at once.
     #[inline(never)]
     fn single_turn<B: Bench>(
         &mut self,

@@ -1,4 +1,4 @@
-// What the prices of curves and of flows take, in order.
+// The inputs of the prices of curves and of flows, in order.
 ghost use Rattle.std.specs.Prelude.{◌≡◌, ◌<◌, ℕ, length, [], ◌∷◌, Some, IfSome, IfOk};
 ghost use Rattle.walks.specs.Walk.{Among};
 ghost use Rattle.desk_terms.specs.Terms.{helper_references, optional_reference};
@@ -17,7 +17,11 @@ use desk_terms::{Cause, FlowTerms, Helper, expired, needs_forecast};
 use object_store::{Market, Scratch, index_of};
 use std::alloc::AllocError;
 
-/// What the price of a curve takes: what the quotes of its helpers give, in order.
+/// Returns the inputs of a curve: what the quotes of its helpers give, in order.
+///
+/// # Errors
+///
+/// `AllocError` where memory runs out.
 pub fn helper_entries(
     market: &Market,
     scratch: &mut Scratch,
@@ -38,8 +42,12 @@ pub fn helper_entries(
     Ok(entries)
 }
 
-/// What the price of an instrument takes: nothing where its flows are all paid, else its engine's curve, and its index's
-/// curve exactly where a rate has to be forecast.
+/// Returns the inputs of an instrument: none if all its flows are paid, else its engine's curve, and its index's curve exactly if
+/// a rate has to be forecast.
+///
+/// # Errors
+///
+/// `AllocError` where memory runs out.
 pub fn flow_entries(
     market: &Market,
     scratch: &mut Scratch,
@@ -72,8 +80,11 @@ pub fn flow_entries(
     Ok(entries)
 }
 
-/// What the price of an instrument takes, where that is one thing alone: none where its flows are all paid, and where a rate
-/// has to be forecast.
+/// Returns the input of an instrument, if it has exactly one. `None` if all its flows are paid, or a rate has to be forecast.
+///
+/// # Errors
+///
+/// `AllocError` where memory runs out.
 pub fn only_entry(
     market: &Market,
     scratch: &mut Scratch,
@@ -103,7 +114,7 @@ pub fn only_entry(
     }
 }
 
-// The index of flows, where a rate has to be forecast.
+// Returns the index of flows, if a rate has to be forecast.
 fn forecast_index(market: &Market, flows: &FlowTerms) -> Option<ObjId>
     requires { Serve (market_in market.now) (optional_reference Index flows.now.index) }
     ensures { result ≡ forecast_index (market_in market.now) flows.now flows.now.index }

@@ -1,4 +1,4 @@
-// What lies beneath a node and holds its notice back.
+// Walks down to the frozen nodes and marked sources that a node depends on.
 ghost use Rattle.std.specs.Prelude.{◌≡◌, ◌↔◌, ◌<◌, ◌≤◌, ◌+◌, ◌^◌, ℕ, List, [], length, Some, true, IsTrue, if◌then◌else◌};
 ghost use Rattle.walks.specs.Walk.{Among};
 ghost use Rattle.edge_lists.specs.EdgesView.{IsWhole, subject_lists};
@@ -18,8 +18,8 @@ use desk_names::ObjId;
 use edge_lists::Edges;
 use wave_queue::Wave;
 
-/// The least marked source that is a node, or lies beneath it by the edges of nodes that are no watchers, on a path whose
-/// inner nodes are not frozen. The free wave is filled with what lies beneath; each of that is looked at once.
+/// Returns the least marked source that is the node or that it depends on, on a path whose inner nodes are not frozen. Edges of
+/// watchers do not count. Fills the free wave with the dependencies, each of which is visited once.
 pub fn least_beneath(
     edges: &Edges,
     nodes: &[Option<Node>],
@@ -44,8 +44,8 @@ pub fn least_beneath(
     least
 }
 
-/// Whether neither a node nor any node beneath it, by the edges of nodes that are no watchers, is frozen or a marked source.
-/// The free wave is filled with what lies beneath, until such a node is met.
+/// Returns whether neither the node nor any node that it depends on is frozen or a marked source. Edges of watchers do not count.
+/// Fills the free wave with the dependencies, up to the first such node.
 pub fn is_clear(
     edges: &Edges,
     nodes: &[Option<Node>],
@@ -71,7 +71,7 @@ pub fn is_clear(
     true
 }
 
-// The lesser of a source found before and a node, if the node is a source.
+// Returns the lesser of the least source so far and a node, if the node is a source.
 fn least_with(least: Option<ObjId>, sources: &NodeSet, node: ObjId) -> Option<ObjId>
     requires { node < length sources.now.marks }
     ensures { result ≡ (if is_marked sources.now.marks node then Some (lesser least node) else least) }
@@ -83,7 +83,7 @@ fn least_with(least: Option<ObjId>, sources: &NodeSet, node: ObjId) -> Option<Ob
     }
 }
 
-// Puts the edges of a node last, each that is not marked, if the walk from another goes on beneath it.
+// Appends the unmarked subjects of a node, if the walk goes on below it.
 fn go_down(edges: &Edges, nodes: &[Option<Node>], from: ObjId, node: ObjId, wave: &mut Wave)
     requires whole { IsWhole edges.now }
     requires nodes { length nodes.now ≡ length edges.now.nodes }
@@ -99,7 +99,7 @@ fn go_down(edges: &Edges, nodes: &[Option<Node>], from: ObjId, node: ObjId, wave
     }
 }
 
-// Whether a walk to what is exposed goes on beneath a node: it begins there, or the node is not frozen.
+// Returns whether the walk goes on below a node: it begins there, or the node is not frozen.
 fn goes_beneath(nodes: &[Option<Node>], from: ObjId, node: ObjId) -> bool
     requires { node < length nodes.now }
     ensures { result ≡ goes_beneath nodes.now from node }
@@ -107,7 +107,7 @@ fn goes_beneath(nodes: &[Option<Node>], from: ObjId, node: ObjId) -> bool
     node == from || !is_frozen(&nodes[node.place()])
 }
 
-/// Whether the pairs in which a node observes are edges.
+/// Returns whether the pairs in which a node observes are edges.
 pub fn has_edges(node: &Option<Node>) -> bool
     ensures { (subjects : List ℕ) → edges_as node.now subjects ≡ (if result then subjects else []) }
 {
@@ -122,7 +122,7 @@ pub fn has_edges(node: &Option<Node>) -> bool
     }
 }
 
-/// Whether a node is frozen.
+/// Returns whether a node is frozen.
 pub fn is_frozen(node: &Option<Node>) -> bool
     ensures { result ≡ frozen_of node.now }
 {
@@ -132,7 +132,7 @@ pub fn is_frozen(node: &Option<Node>) -> bool
     }
 }
 
-// Whether a node is frozen or a source.
+// Returns whether a node is frozen or a source.
 fn is_held_back(nodes: &[Option<Node>], sources: &NodeSet, node: ObjId) -> bool
     requires within { node < length nodes.now }
     requires sources { length sources.now.marks ≡ length nodes.now }
@@ -141,7 +141,7 @@ fn is_held_back(nodes: &[Option<Node>], sources: &NodeSet, node: ObjId) -> bool
     is_frozen(&nodes[node.place()]) || sources.contains(node)
 }
 
-/// How many nodes are frozen, once one of them is frozen or is so no more.
+/// Returns the count of frozen nodes after one of them changed.
 pub fn recounted(count: usize, was: bool, is: bool) -> usize
     requires some { was ≡ true → 0 < count }
     requires room { count ≤ 2 ^ 16 }

@@ -1,4 +1,4 @@
-// Whether one node leads to another, by a walk down from the one and a walk up from the other, an edge of each by turns.
+// Searches a path between two nodes by a walk down from one and a walk up from the other, one edge of each in turn.
 ghost use Rattle.std.specs.Prelude.{◌≡◌, ◌↔◌, ◌<◌, ◌≤◌, ℕ, [], true, false, length, IsTrue, IfSome, None, OnOk};
 ghost use Rattle.edge_lists.specs.EdgesView.{IsWhole, subject_lists};
 ghost use Rattle.observer_graph.specs.Walks.{Leads, edges_in};
@@ -11,8 +11,8 @@ use edge_lists::{EdgeId, Edges};
 use std::alloc::AllocError;
 use wave_queue::Wave;
 
-/// Whether a node is another, or the other lies beneath it by the edges of nodes that are no watchers. Two empty waves
-/// are filled with what lies beneath the one and with what lies above the other, until one of them is whole.
+/// Returns whether `from` is `to` or depends on it. Edges of watchers do not count. Fills two empty waves with the dependencies of
+/// `from` and the dependents of `to`, until one of them is complete.
 pub fn leads_by_turns(
     edges: &Edges,
     nodes: &[Option<Node>],
@@ -43,7 +43,11 @@ pub fn leads_by_turns(
     up.is_marked(from)
 }
 
-/// Finds room in two empty waves for so many nodes, where memory is not wanting.
+/// Reserves room in two empty waves for so many nodes.
+///
+/// # Errors
+///
+/// `AllocError` where memory runs out.
 pub fn make_room(down: &mut Wave, up: &mut Wave, nodes: usize) -> Result<(), AllocError>
     requires { nodes ≤ 65536 }
     ensures down { (n : ℕ) → IsFree n down.old → IsFree n down.new }
@@ -55,8 +59,7 @@ pub fn make_room(down: &mut Wave, up: &mut Wave, nodes: usize) -> Result<(), All
     up.grow(nodes as u32)
 }
 
-// One step down: the subject of the next pair is met, or else the next node that waits is looked at. Whether there was
-// a step to take.
+// Takes one step down: visits the subject of the next pair, or else the next waiting node. Returns whether there was a step.
 fn step_down(
     edges: &Edges,
     nodes: &[Option<Node>],
@@ -94,8 +97,8 @@ fn step_down(
     }
 }
 
-// One step up: the observer of the next pair is met, unless it is a watcher, or else the next node that waits is looked
-// at. Whether there was a step to take.
+// Takes one step up: visits the observer of the next pair, unless it is a watcher, or else the next waiting node. Returns whether
+// there was a step.
 fn step_up(
     edges: &Edges,
     nodes: &[Option<Node>],

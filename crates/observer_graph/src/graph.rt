@@ -1,4 +1,4 @@
-// The graph of observers and its calls.
+// The graph of observers.
 ghost use Rattle.std.specs.Prelude.{◌≡◌, ◌↔◌, ◌<◌, ◌≤◌, ◌+◌, ℕ, [], ◌∷◌, length, max, true, IsTrue, IfOk, IfSome, IfNone, OnOk, OnErr, is_some, if◌then◌else◌};
 ghost use Rattle.walks.specs.Walk.{Among};
 ghost use Rattle.observer_graph.specs.GraphView.{IsLive, IsLazy, IsPair, IsWhole, node_at, flags_of, flags_at, is_source};
@@ -21,12 +21,11 @@ use std::collections::VecDeque;
 use std::marker::Model;
 use wave_queue::Wave;
 
-/// How many numbers a graph gives at most.
+/// The greatest count of numbers that a graph gives.
 pub const MOST_NODES: usize = 65_536;
 
-/// Nodes with their roles and flags, the pairs of a subject and one of its observers, each once, spare places for some
-/// pairs more, and the marked sources, from which the next notice starts. A clause sees a `GraphView`. No call but
-/// `watch_spare` lowers the number of spare places.
+/// Nodes with their roles and flags, the pairs of a subject and an observer, each once, spare places for more pairs, and the
+/// marked sources of the next notification. Clauses see a `GraphView`. Only `watch_spare` lowers the number of spare places.
 #[derive(Drop)]
 pub struct Graph {
     nodes: Vec<Option<Node>>,
@@ -34,11 +33,11 @@ pub struct Graph {
     sources: NodeSet,
     // How many nodes are frozen.
     frozen: usize,
-    // The watchers that were told and not handed out since, by creation. There is room for every node.
+    // The notified watchers that were not returned since, by creation. There is room for every node.
     noticed: VecDeque<ObjId>,
-    // Those whom a new node observes, during a call; empty between calls.
+    // The subjects of a new node, during a call. Empty between calls.
     wave: NodeSet,
-    // What lies beneath a node and what lies above one, during a call; empty between calls.
+    // The dependencies of a node and the dependents of one, during a call. Empty between calls.
     down: Wave,
     up: Wave,
 }
@@ -69,7 +68,7 @@ impl Model for Graph {
 }
 
 impl Graph {
-    /// No nodes. Later calls take memory from the allocator given here.
+    /// Starts without nodes. Later calls allocate from this allocator.
     pub fn new(alloc: Global) -> Graph
         ensures { result ≡ record { nodes = []; subjects = []; sources = []; noticed = []; spare = 0 } }
     {
@@ -85,8 +84,11 @@ impl Graph {
         }
     }
 
-    /// A new node, numbered next. It observes nothing, is no source, and its flags are off. After want of memory
-    /// the graph is as it was.
+    /// Adds a node and returns its number. It observes nothing, is no source, and its flags are off.
+    ///
+    /// # Errors
+    ///
+    /// `AllocError` where memory runs out. Then the graph is as before.
     pub fn add(&mut self, role: Role) -> Result<ObjId, AllocError>
         requires { length self.old.nodes < MOST_NODES }
         ensures number { IfOk result (λ node. node ≡ length self.old.nodes) }
@@ -111,8 +113,11 @@ impl Graph {
         Ok(node)
     }
 
-    /// A new node, numbered next, which observes these; one that is named twice is observed once. It is no source,
-    /// and its flags are off. After want of memory the graph is as it was.
+    /// Adds a node that observes these subjects, each once, and returns its number. It is no source, and its flags are off.
+    ///
+    /// # Errors
+    ///
+    /// `AllocError` where memory runs out. Then the graph is as before.
     pub fn add_watching(&mut self, role: Role, subjects: &[ObjId]) -> Result<ObjId, AllocError>
         requires room { length self.old.nodes < MOST_NODES }
         requires live { (x : ℕ) → Among x subjects.now → IsLive self.old x }
@@ -141,7 +146,11 @@ impl Graph {
         Ok(node)
     }
 
-    /// The observer observes the subject too; no spare place is used. After want of memory the graph is as it was.
+    /// Makes the observer observe the subject, without use of a spare place.
+    ///
+    /// # Errors
+    ///
+    /// `AllocError` where memory runs out. Then the graph is as before.
     pub fn watch(&mut self, subject: ObjId, observer: ObjId) -> Result<(), AllocError>
         requires subject { IsLive self.old subject }
         requires observer { IsLive self.old observer }
@@ -156,7 +165,11 @@ impl Graph {
         linked
     }
 
-    /// Finds spare places, so that there are at least so many. After want of memory the graph is as it was.
+    /// Raises the number of spare places to at least `pairs`.
+    ///
+    /// # Errors
+    ///
+    /// `AllocError` where memory runs out. Then the graph is as before.
     pub fn reserve(&mut self, pairs: u32) -> Result<(), AllocError>
         ensures ok { OnOk result (self.new ≡ record self.old { spare = max self.old.spare pairs }) }
         ensures err { OnErr result (self.new ≡ self.old) }
@@ -166,7 +179,7 @@ impl Graph {
         found
     }
 
-    /// The observer observes the subject too, by one of the spare places. Takes no memory.
+    /// Makes the observer observe the subject, in a spare place. Takes no memory.
     pub fn watch_spare(&mut self, subject: ObjId, observer: ObjId)
         requires room { 0 < self.old.spare }
         requires subject { IsLive self.old subject }
@@ -180,7 +193,7 @@ impl Graph {
         self.edges.whole();
     }
 
-    /// The observer does not observe the subject; whether it did, which leaves a spare place. Takes no memory.
+    /// Removes a pair, which leaves a spare place, and returns whether there was one. Takes no memory.
     pub fn unwatch(&mut self, subject: ObjId, observer: ObjId) -> bool
         requires subject { IsLive self.old subject }
         requires observer { IsLive self.old observer }
@@ -193,8 +206,7 @@ impl Graph {
         was
     }
 
-    /// The node is gone, with every pair in which it stands, its mark as a source and what it was told. Each of these
-    /// pairs leaves a spare place. Takes no memory.
+    /// Removes a node with all its pairs, its mark as a source and its notifications. Each pair leaves a spare place. Takes no memory.
     pub fn remove(&mut self, node: ObjId)
         requires { IsLive self.old node }
         ensures { TakesNode self.old self.new node }
@@ -208,9 +220,8 @@ impl Graph {
         self.nodes[node.place()] = None;
     }
 
-    /// Whether a node is another, or the other lies beneath it by the edges of nodes that are no watchers. Takes no
-    /// memory, and time in proportion to the lesser of what lies beneath the node and what lies above the other: none
-    /// where nothing observes the other.
+    /// Returns whether `from` is `to` or depends on it. Edges of watchers do not count. Takes no memory. The time is proportional to
+    /// the lesser of the dependencies of `from` and the dependents of `to`, and constant if nothing observes `to`.
     pub fn reaches(&mut self, from: ObjId, to: ObjId) -> bool
         requires from { IsLive self.old from }
         requires to { IsLive self.old to }
@@ -231,8 +242,8 @@ impl Graph {
         answer
     }
 
-    /// The first by creation of the watchers that were told and not handed out since; it is forgotten. None where
-    /// there is none. Takes no memory, and moves none of the others.
+    /// Takes the first notified watcher, by creation, and forgets its notification. `None` if there is none. Takes no memory, and
+    /// moves none of the others.
     pub fn next_told(&mut self) -> Option<ObjId>
         ensures order { IsRising self.old.noticed }
         ensures none { IfNone result ((self.old.noticed ≡ []) × (self.new ≡ self.old)) }
@@ -242,8 +253,8 @@ impl Graph {
         self.noticed.pop_front()
     }
 
-    /// Whether a subject and an observer are a pair. Takes no memory, and time in proportion to the fewer of the
-    /// subjects of the observer and the observers of the subject.
+    /// Returns whether the observer observes the subject. Takes no memory. The time is proportional to the fewer of the subjects of
+    /// the observer and the observers of the subject.
     pub fn has_pair(&self, subject: ObjId, observer: ObjId) -> bool
         requires subject { IsLive self.now subject }
         requires observer { IsLive self.now observer }
@@ -252,7 +263,7 @@ impl Graph {
         self.edges.has_pair(subject, observer)
     }
 
-    /// Whether some pair has a node as its observer. Takes no memory.
+    /// Returns whether a node observes any other. Takes no memory.
     pub fn has_subject(&self, node: ObjId) -> bool
         requires { IsLive self.now node }
         ensures { IsTrue result ↔ ((x : ℕ) × IsPair self.now x node) }
@@ -260,7 +271,7 @@ impl Graph {
         self.edges.first_subject(node).is_some()
     }
 
-    /// The least observer of a node that is no watcher, if it has any. Takes time in proportion to its observers.
+    /// Returns the least observer of a node, watchers aside. The time is proportional to its observers.
     pub fn least_observer(&self, node: ObjId) -> Option<ObjId>
         requires { IsLive self.now node }
         ensures { IsLeast (IsUser self.now node) result }
@@ -268,7 +279,7 @@ impl Graph {
         least_user_of(&self.edges, node, &self.nodes)
     }
 
-    /// Whether a live node has this number.
+    /// Returns whether a live node has this number.
     pub fn is_live(&self, node: ObjId) -> bool
         ensures { result ≡ is_some (node_at self.now node) }
     {
@@ -279,7 +290,7 @@ impl Graph {
         }
     }
 
-    /// Whether a node is lazy; no node is that does not live.
+    /// Returns whether a node is live and lazy.
     pub fn is_lazy(&self, node: ObjId) -> bool
         ensures { IsTrue result ↔ IsLazy (node_at self.now node) }
     {
@@ -290,7 +301,7 @@ impl Graph {
         }
     }
 
-    /// Whether a node is current; no node is that does not live.
+    /// Returns whether a node is live and current.
     pub fn is_current(&self, node: ObjId) -> bool
         ensures { result ≡ (flags_at self.now node).current }
     {
@@ -301,7 +312,7 @@ impl Graph {
         }
     }
 
-    /// The flags of a node; all are off on a node that is not lazy.
+    /// Returns the flags of a node. All are off on a node that is not lazy.
     pub fn flags(&self, node: ObjId) -> Flags
         requires { IsLive self.now node }
         ensures { result ≡ flags_at self.now node }
@@ -312,7 +323,7 @@ impl Graph {
         }
     }
 
-    /// Sets the flags of a lazy node. Nobody is told. Takes no memory.
+    /// Sets the flags of a lazy node. Notifies nobody and takes no memory.
     #[inline(always)]
     pub fn set_flags(&mut self, node: ObjId, flags: Flags)
         requires { IsLazy (node_at self.old node) }
@@ -323,7 +334,7 @@ impl Graph {
         set_flags_of(&mut self.nodes[node.place()], flags);
     }
 
-    /// A lazy node is current. Nobody is told. Takes no memory.
+    /// Marks a lazy node as current. Notifies nobody and takes no memory.
     #[inline(always)]
     pub fn settle(&mut self, node: ObjId)
         requires { IsLazy (node_at self.old node) }
@@ -332,7 +343,7 @@ impl Graph {
         settle_one(&mut self.nodes[node.place()]);
     }
 
-    /// The node is not current, whatever its role. Nobody is told. Takes no memory.
+    /// Marks a node as out of date, whatever its role. Notifies nobody and takes no memory.
     pub fn outdate(&mut self, node: ObjId)
         requires { IsLive self.old node }
         ensures { self.new ≡ with_stale node self.old }
@@ -340,7 +351,7 @@ impl Graph {
         unsettle_one(&mut self.nodes[node.place()]);
     }
 
-    /// The next notice starts from this node too. Takes no memory.
+    /// Marks a node as a source of the next notification. Takes no memory.
     pub fn mark_source(&mut self, node: ObjId)
         requires { IsLive self.old node }
         ensures { self.new ≡ with_source node self.old }
@@ -348,7 +359,7 @@ impl Graph {
         self.sources.insert(node);
     }
 
-    /// Whether the next notice starts from a node; from none that does not live.
+    /// Returns whether a node is live and a marked source.
     pub fn is_source(&self, node: ObjId) -> bool
         ensures { result ≡ is_source self.now node }
     {
@@ -358,7 +369,7 @@ impl Graph {
         self.sources.contains(node)
     }
 
-    /// The next notice does not start from this node. Takes no memory, and time in proportion to the sources.
+    /// Removes the mark of a source. Takes no memory. The time is proportional to the sources.
     pub fn unmark(&mut self, node: ObjId)
         requires { IsLive self.old node }
         ensures { self.new ≡ without_source node self.old }
@@ -366,8 +377,8 @@ impl Graph {
         self.sources.remove(node);
     }
 
-    /// The least marked source that is a node, or lies beneath it on a path whose inner nodes are not frozen. Takes no
-    /// memory, and time in proportion to what lies beneath; where no node is marked, none.
+    /// Returns the least marked source that is the node or that it depends on, on a path whose inner nodes are not frozen. Takes no
+    /// memory. The time is proportional to its dependencies, and constant if no node is marked.
     pub fn least_source(&mut self, node: ObjId) -> Option<ObjId>
         requires { IsLive self.old node }
         ensures answer { IsLeast (IsLateOf self.old node) result }
@@ -387,8 +398,8 @@ impl Graph {
         least
     }
 
-    /// Whether neither a node nor any node beneath it is frozen or a marked source. Takes no memory, and time in
-    /// proportion to what lies beneath; where no node is frozen or marked, none.
+    /// Returns whether neither the node nor any node that it depends on is frozen or a marked source. Takes no memory. The time is
+    /// proportional to its dependencies, and constant if no node is frozen or marked.
     pub fn all_clear(&mut self, node: ObjId) -> bool
         requires { IsLive self.old node }
         ensures answer { IsTrue result ↔ IsClear self.old node }
@@ -408,8 +419,8 @@ impl Graph {
         clear
     }
 
-    /// How a node stands to who asks for it. Takes no memory, and time in proportion to what lies beneath; where no node is
-    /// frozen or marked, none.
+    /// Returns how a node appears to an ask. Takes no memory. The time is proportional to its dependencies, and constant if no node
+    /// is frozen or marked.
     #[inline(always)]
     pub fn standing(&mut self, node: ObjId) -> Standing
         requires { IsLive self.old node }
@@ -422,7 +433,7 @@ impl Graph {
         self.standing_beneath(node)
     }
 
-    // The same by what lies beneath the node.
+    // Returns the same by a walk over the node's dependencies.
     #[inline(never)]
     fn standing_beneath(&mut self, node: ObjId) -> Standing
         requires { IsLive self.old node }
@@ -442,10 +453,9 @@ impl Graph {
         }
     }
 
-    /// A notice from all marked sources together: whom it reaches is no longer current, each watcher among them is
-    /// remembered as told, and no source stays marked.
-    /// Who is told, and who passes it on, goes by the flags before the call. Takes no memory, and time in
-    /// proportion to the sources, to those who are told and to their pairs.
+    /// Sends a notification from all marked sources together. Each node that it reaches is out of date, each watcher among them is
+    /// remembered, and no source stays marked. The flags before the call decide whom it reaches. Takes no memory. The time is
+    /// proportional to the sources, to the notified nodes and to their pairs.
     pub fn tell(&mut self)
         ensures { Tells self.old self.new }
     {
@@ -461,7 +471,7 @@ impl Graph {
     }
 }
 
-// A live node is current.
+// Marks a live node as current.
 fn settle_one(node: &mut Option<Node>)
     ensures { node.new ≡ flagged (record (flags_of node.old) { current = true }) node.old }
 {
@@ -470,7 +480,7 @@ fn settle_one(node: &mut Option<Node>)
     }
 }
 
-// A live node has these flags.
+// Sets the flags of a live node.
 fn set_flags_of(node: &mut Option<Node>, flags: Flags)
     ensures { node.new ≡ flagged flags node.old }
 {

@@ -1,7 +1,17 @@
-//! Who observes whom, and whom a notice reaches: the graph of observers (QuantLib's `Observable` and `LazyObject`).
-//! Nodes are numbered from 0 in order of creation. A subject and one of its observers are a pair, each pair there once.
+//! The graph of observers: who observes whom, and which nodes a notification reaches (QuantLib's `Observable` and `LazyObject`).
+//! Nodes are numbered from 0 in order of creation. There is at most one pair of a subject and an observer.
 //!
-//! `Graph`, `Role`, `Flags`, `Standing`. Words of `specs/`: `GraphView`, `IsPair`, `IsTold`, `Reaches`, `IsLateOf`, `IsClear`.
+//! `Graph`, with `Role` and `Flags` of a node and its `Standing`. Words of `specs/`: `GraphView`, `IsPair`, `IsTold`, `Reaches`,
+//! `IsLateOf`, `IsClear`.
+//!
+//! ```text
+//! let mut graph = Graph::new(alloc);
+//! let quote = graph.add(Role::Source)?;
+//! let stock = graph.add_watching(Role::Lazy, &[quote])?;
+//! graph.settle(stock);
+//! graph.mark_source(quote);
+//! graph.tell();                          // now graph.is_current(stock) is false
+//! ```
 #![tactic(auto)]
 
 mod beneath;

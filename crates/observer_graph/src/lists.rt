@@ -1,11 +1,11 @@
-// Lists of nodes in which each stands once.
+// Lists of distinct nodes.
 ghost use Rattle.std.specs.Prelude.{◌≡◌, ◌↔◌, ◌==◌, position, ◌+◌, ℕ, length, IsTrue, vec_capacity};
 ghost use Rattle.walks.specs.Walk.{Among, IsOnce};
 ghost use Rattle.observer_graph.specs.Notice.{lesser};
 
 use desk_names::ObjId;
 
-/// Takes a node out of a list; whether it was there.
+/// Removes a node from a list and returns whether it was there.
 pub fn take_out(list: &mut Vec<ObjId>, node: ObjId) -> bool
     requires once { IsOnce list.old.items }
     ensures was { IsTrue result ↔ Among node list.old.items }
@@ -23,14 +23,14 @@ pub fn take_out(list: &mut Vec<ObjId>, node: ObjId) -> bool
     }
 }
 
-// The first place of a node in a list.
+// Returns the first place of a node in a list.
 fn place_of(list: &[ObjId], node: ObjId) -> Option<usize>
     ensures { result ≡ position (λ x. x == node) list.now }
 {
     list.iter().position(|other| *other == node)
 }
 
-/// The lesser of two nodes, if there are two.
+/// Returns the lesser of two nodes, or the node if there is only one.
 pub fn lesser(least: Option<ObjId>, node: ObjId) -> ObjId
     ensures { result ≡ lesser least node }
 {

@@ -1,4 +1,4 @@
-// Sets of nodes that keep the order in which the nodes came, with room for every node.
+// Sets of nodes in the order in which the nodes were inserted, with room for every node.
 ghost use Rattle.std.specs.Prelude.{◌≡◌, ◌⊎◌, ◌↔◌, ◌<◌, ◌++◌, ℕ, [], ◌∷◌, false, true, length, IsTrue, OnOk, OnErr, slice_set};
 ghost use Rattle.walks.specs.Walk.{Among};
 ghost use Rattle.observer_graph.specs.Lists.{is_marked, IsSet, Extends};
@@ -8,8 +8,8 @@ use desk_names::ObjId;
 use std::alloc::{AllocError, Global};
 use std::marker::Model;
 
-/// A set of nodes. A clause sees the list of them in the order in which they came, a mark for each node, and for how
-/// many nodes more there is room.
+/// A set of nodes. Clauses see the list of them in the order of insertion, a mark for each node, and for how many more nodes there
+/// is room.
 #[derive(Drop)]
 pub struct NodeSet {
     marks: Vec<bool>,
@@ -32,7 +32,7 @@ impl Model for NodeSet {
 }
 
 impl NodeSet {
-    /// The empty set, with room for no node.
+    /// Makes an empty set, with room for no node.
     pub fn new(alloc: Global) -> NodeSet
         ensures marks { result.marks ≡ [] }
         ensures items { result.items ≡ [] }
@@ -43,7 +43,11 @@ impl NodeSet {
         }
     }
 
-    /// Finds the room for one node more, where memory is not wanting.
+    /// Reserves room for one more node.
+    ///
+    /// # Errors
+    ///
+    /// `AllocError` where memory runs out.
     pub fn reserve(&mut self) -> Result<(), AllocError>
         ensures ok { OnOk result (0 < self.new.spare) }
         ensures marks { self.new.marks ≡ self.old.marks }
@@ -55,7 +59,7 @@ impl NodeSet {
         Ok(())
     }
 
-    /// One node more may be put in.
+    /// Raises the numbers of nodes that may be inserted by one.
     pub fn grow(&mut self)
         requires { 0 < self.old.spare }
         ensures marks { self.new.marks ≡ self.old.marks ++ false ∷ [] }
@@ -64,7 +68,7 @@ impl NodeSet {
         self.marks.push_reserved(false);
     }
 
-    /// The nodes in the order in which they came.
+    /// Returns the nodes in order of insertion.
     pub fn items(&self) -> &[ObjId]
         ensures items { result.now ≡ self.now.items }
         ensures set { IsSet self.now.marks self.now.items }
@@ -72,7 +76,7 @@ impl NodeSet {
         &self.items
     }
 
-    /// Whether a node is in the set.
+    /// Returns whether a node is in the set.
     pub fn contains(&self, node: ObjId) -> bool
         requires { node < length self.now.marks }
         ensures marks { result ≡ is_marked self.now.marks node }
@@ -81,7 +85,7 @@ impl NodeSet {
         self.marks[node.place()]
     }
 
-    /// Puts a node last, unless it is in the set.
+    /// Appends a node, unless it is in the set.
     pub fn insert(&mut self, node: ObjId)
         requires { node < length self.old.marks }
         ensures marks { self.new.marks ≡ slice_set self.old.marks node true }
@@ -93,7 +97,7 @@ impl NodeSet {
         }
     }
 
-    /// Puts each of these nodes last that is not in the set.
+    /// Appends each of these nodes that is not in the set.
     pub fn insert_all(&mut self, nodes: &[ObjId])
         requires { (o : ℕ) → Among o nodes.now → o < length self.old.marks }
         ensures { Extends self.old self.new (λ o. Among o nodes.now) }
@@ -103,7 +107,7 @@ impl NodeSet {
         }
     }
 
-    /// Takes a node out, if it is in the set.
+    /// Removes a node, if it is in the set.
     pub fn remove(&mut self, node: ObjId)
         requires { node < length self.old.marks }
         ensures { self.new.marks ≡ slice_set self.old.marks node false }
@@ -114,7 +118,7 @@ impl NodeSet {
         }
     }
 
-    /// Takes all nodes out, in time in proportion to their number.
+    /// Removes all nodes, in time proportional to their number.
     pub fn clear(&mut self)
         ensures marks { (o : ℕ) → is_marked self.new.marks o ≡ false }
         ensures len { length self.new.marks ≡ length self.old.marks }
@@ -126,7 +130,7 @@ impl NodeSet {
     }
 }
 
-// The marks of these nodes are taken back.
+// Clears the marks of these nodes.
 fn unmark_all(marks: &mut [bool], nodes: &[ObjId])
     requires { IsSet marks.old nodes.now }
     ensures marks { (o : ℕ) → is_marked marks.new o ≡ false }

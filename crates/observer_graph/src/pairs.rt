@@ -1,4 +1,4 @@
-// What a graph does with its pairs: a new node that observes others, and the least of those who use a node.
+// Adds a node that observes others, and finds the least user of a node.
 ghost use Rattle.std.specs.Prelude.{◌≡◌, ◌⊎◌, ◌↔◌, ◌<◌, ◌≤◌, ◌+◌, ℕ, length, slice_index_or, None, IfOk, OnOk, OnErr};
 ghost use Rattle.walks.specs.Walk.{Among, IsOnce};
 ghost use Rattle.edge_lists.specs.EdgesView.{IsLive, IsPair, IsWhole, SameNodes, with_node};
@@ -11,7 +11,11 @@ use desk_names::ObjId;
 use edge_lists::Edges;
 use std::alloc::AllocError;
 
-/// One node more, numbered next, which observes these; after want of memory the pairs are as they were.
+/// Adds a node that observes these and returns its number.
+///
+/// # Errors
+///
+/// `AllocError` where memory runs out. Then the pairs are as before.
 pub fn add_linked(edges: &mut Edges, named: &[ObjId]) -> Result<ObjId, AllocError>
     requires whole { IsWhole edges.old }
     requires room { length edges.old.nodes < 65536 }
@@ -30,7 +34,7 @@ pub fn add_linked(edges: &mut Edges, named: &[ObjId]) -> Result<ObjId, AllocErro
     Ok(node)
 }
 
-/// The least observer of a node that is no watcher, if it has any. Takes time in proportion to its observers.
+/// Returns the least observer of a node, watchers aside. The time is proportional to its observers.
 pub fn least_user_of(edges: &Edges, node: ObjId, nodes: &[Option<Node>]) -> Option<ObjId>
     requires node { node < length edges.now.nodes }
     requires within { (o : ℕ) → IsPair edges.now node o → o < length nodes.now }
@@ -48,7 +52,7 @@ pub fn least_user_of(edges: &Edges, node: ObjId, nodes: &[Option<Node>]) -> Opti
     least
 }
 
-// A node in no pair observes these, by room that was found before.
+// Makes a node without pairs observe these, in room that was reserved.
 fn link_all(edges: &mut Edges, node: ObjId, named: &[ObjId])
     requires live { IsLive edges.old node }
     requires named { (x : ℕ) → Among x named.now → IsLive edges.old x }

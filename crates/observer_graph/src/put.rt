@@ -1,4 +1,4 @@
-// What a node reads, put into a worklist.
+// Appends the subjects of a node to a worklist.
 ghost use Rattle.std.specs.Prelude.{◌≡◌, ◌<◌, ◌≤◌, ℕ, length, true};
 ghost use Rattle.walks.specs.Walk.{Among};
 ghost use Rattle.edge_lists.specs.EdgesView.{IsPair, IsWhole};
@@ -12,7 +12,7 @@ use desk_names::ObjId;
 use edge_lists::Edges;
 use wave_queue::Wave;
 
-/// Puts the edges of a node last, each that is not marked: what it observes, unless it is a watcher.
+/// Appends the unmarked subjects of a node, unless it is a watcher.
 pub fn put_edges(edges: &Edges, nodes: &[Option<Node>], node: ObjId, wave: &mut Wave)
     requires whole { IsWhole edges.now }
     requires nodes { length nodes.now ≡ length edges.now.nodes }
@@ -26,7 +26,7 @@ pub fn put_edges(edges: &Edges, nodes: &[Option<Node>], node: ObjId, wave: &mut 
     }
 }
 
-// Puts the subjects of a node last, each that is not marked.
+// Appends the unmarked subjects of a node.
 fn put_subjects(edges: &Edges, node: ObjId, wave: &mut Wave)
     requires node { node < length edges.now.nodes }
     requires within { (x : ℕ) → IsPair edges.now x node → x < length wave.old.marks }

@@ -1,5 +1,5 @@
-// Rising lists of nodes. Both ends are near: the first is taken out, and a node that was made before all others is put in,
-// without a search and without a move of the others.
+// Rising lists of nodes. Both ends are quick: the first node is removed, and a node older than all others is inserted, without
+// a search and without moving the others.
 ghost use Rattle.std.specs.Prelude.{◌≡◌, ◌↔◌, ◌<◌, ◌≤◌, ℕ, [], ◌∷◌, true, length, IsTrue, OnOk};
 ghost use Rattle.std.specs.VecDeque.{deque_len, deque_capacity};
 ghost use Rattle.observer_graph.specs.Noticed.{IsRising, IsPlace, with_number, without, is_at};
@@ -8,7 +8,7 @@ use desk_names::ObjId;
 use std::alloc::AllocError;
 use std::collections::VecDeque;
 
-/// Puts a node in its place, unless it is there.
+/// Inserts a node in its place, unless it is there.
 #[inline(never)]
 pub fn put_in(nodes: &mut VecDeque<ObjId>, entry: ObjId)
     requires rising { IsRising nodes.old.items }
@@ -29,7 +29,7 @@ pub fn put_in(nodes: &mut VecDeque<ObjId>, entry: ObjId)
     }
 }
 
-/// Takes a node out, if it is there.
+/// Removes a node, if it is there.
 pub fn take_out(nodes: &mut VecDeque<ObjId>, node: ObjId)
     requires rising { IsRising nodes.old.items }
     ensures items { nodes.new.items ≡ without node nodes.old.items }
@@ -44,7 +44,7 @@ pub fn take_out(nodes: &mut VecDeque<ObjId>, node: ObjId)
     }
 }
 
-// Whether a node stands at a place.
+// Returns whether a node is at a place.
 fn is_at(nodes: &VecDeque<ObjId>, at: usize, node: ObjId) -> bool
     ensures { result ≡ is_at nodes.now.items at node }
 {
@@ -54,7 +54,7 @@ fn is_at(nodes: &VecDeque<ObjId>, at: usize, node: ObjId) -> bool
     }
 }
 
-// Whether all of them were created after a node.
+// Returns whether all nodes of the list are younger than a node.
 fn comes_first(nodes: &VecDeque<ObjId>, node: ObjId) -> bool
     ensures { result ≡ true → with_number node nodes.now.items ≡ node ∷ nodes.now.items }
 {
@@ -64,7 +64,7 @@ fn comes_first(nodes: &VecDeque<ObjId>, node: ObjId) -> bool
     }
 }
 
-// How many of them were created before a node.
+// Returns how many nodes of the list are older than a node.
 fn place_of(nodes: &VecDeque<ObjId>, node: ObjId) -> usize
     requires { IsRising nodes.now.items }
     ensures { IsPlace nodes.now.items node result }
@@ -82,7 +82,11 @@ fn place_of(nodes: &VecDeque<ObjId>, node: ObjId) -> usize
     low
 }
 
-/// Finds the room for so many nodes, where memory is not wanting.
+/// Reserves room for so many nodes.
+///
+/// # Errors
+///
+/// `AllocError` where memory runs out.
 pub fn reserve_for(nodes: &mut VecDeque<ObjId>, room: usize) -> Result<(), AllocError>
     ensures items { nodes.new.items ≡ nodes.old.items }
     ensures more { deque_capacity nodes.old ≤ deque_capacity nodes.new }

@@ -1,4 +1,4 @@
-// Whom a notice reaches: a worklist that is filled until no node waits, and what becomes of them.
+// Sends notifications: a worklist that is filled until no node waits, and the effect on each node.
 ghost use Rattle.std.specs.Prelude.{◌≡◌, ◌↔◌, ◌⊎◌, ◌<◌, ◌≤◌, ◌+◌, ℕ, Bool, List, [], Option, IfNone, IfSome, is_some, length, true, None, Some, slice_index_or};
 ghost use Rattle.std.specs.VecDeque.{deque_capacity};
 ghost use Rattle.walks.specs.Walk.{Among};
@@ -22,9 +22,9 @@ use edge_lists::{EdgeId, Edges};
 use std::collections::VecDeque;
 use wave_queue::Wave;
 
-/// A notice from the sources: those whom it reaches are no longer current, and the watchers among them are remembered. The
-/// free wave is filled with those of them that pass it on to someone. Each pair of a source and of each that passes the
-/// notice on is looked at once; those of a source that is told and passes it on are looked at twice.
+/// Sends a notification from the sources: each node that it reaches is out of date, and the watchers among them are remembered.
+/// Fills the free wave with the nodes that pass it on to someone. Visits each pair of a source and of a node that passes it on
+/// once, and those of a source that is notified and passes it on twice.
 pub fn tell_all(
     edges: &Edges,
     nodes: &mut [Option<Node>],
@@ -53,7 +53,7 @@ pub fn tell_all(
     pass_on(edges, nodes, sources, wave, noticed);
 }
 
-// The observers of each source are told.
+// Notifies the observers of each source.
 fn tell_first(
     edges: &Edges,
     nodes: &mut [Option<Node>],
@@ -82,7 +82,7 @@ fn tell_first(
     }
 }
 
-// The observers of each that waits are told, until none waits.
+// Notifies the observers of each waiting node, until none waits.
 fn pass_on(
     edges: &Edges,
     nodes: &mut [Option<Node>],
@@ -114,7 +114,7 @@ fn pass_on(
     }
 }
 
-// The node that is carried, or else the first that waits, and the first of its pairs.
+// Returns the carried node, or else the first that waits, with the first of its pairs.
 fn next_of(
     edges: &Edges,
     carried: Option<ObjId>,
@@ -138,7 +138,7 @@ fn next_of(
     }
 }
 
-// A node that waited, and the first of its pairs.
+// Returns a node that waited, with the first of its pairs.
 fn aim(edges: &Edges, popped: Option<ObjId>, first: &mut Option<EdgeId>) -> Option<ObjId>
     requires { IfSome popped (λ o. o < length edges.now.nodes) }
     ensures same { result ≡ popped }
@@ -153,7 +153,7 @@ fn aim(edges: &Edges, popped: Option<ObjId>, first: &mut Option<EdgeId>) -> Opti
     }
 }
 
-// The observers of a node are told. The last of them may be carried, which then does not wait: it is the one to go on from.
+// Notifies the observers of a node. The last of them may be carried: it is the next node to go on from, and does not wait.
 #[inline(always)]
 fn tell_observers(
     edges: &Edges,
@@ -196,15 +196,15 @@ fn tell_observers(
     carried
 }
 
-// Whether a node may be carried: no pair is left behind it.
+// Returns whether a node may be carried: no pair follows it.
 fn ends_walk(carries: bool, next: &Option<EdgeId>) -> bool
     ensures { result ≡ true → (carries ≡ true) × (next.now ≡ None) }
 {
     carries && next.is_none()
 }
 
-// A node is told: it is remembered if it is a watcher, is no longer current, and waits if it passes the notice on to
-// someone, and was not marked; the last one is carried in place of that.
+// Notifies a node: it is out of date, is remembered if it is a watcher, and waits if it passes the notification on to someone and
+// was not marked. The last node is carried instead.
 #[inline(always)]
 fn tell_one(
     edges: &Edges,
@@ -240,7 +240,7 @@ fn tell_one(
     put_passing(edges, goes_on, told, is_last, first, wave)
 }
 
-// A node that passes the notice on to someone, and is not marked, is carried if it is the last one, and else waits.
+// Carries an unmarked node that passes the notification on to someone, if it is the last, and else lets it wait.
 fn put_passing(
     edges: &Edges,
     goes_on: bool,
@@ -267,7 +267,7 @@ fn put_passing(
     }
 }
 
-// A node that is not marked is carried if it is the last one, and else waits.
+// Carries an unmarked node if it is the last, and else lets it wait.
 fn carry_or_put(told: ObjId, is_last: bool, wave: &mut Wave) -> Option<ObjId>
     requires { told < length wave.old.marks }
     ensures puts { Puts wave.old (carrying result wave.new) (λ o. o ≡ told) }
@@ -284,7 +284,7 @@ fn carry_or_put(told: ObjId, is_last: bool, wave: &mut Wave) -> Option<ObjId>
     }
 }
 
-// A node is marked; it is carried, if it was not.
+// Marks a node, and carries it if it was not marked.
 fn carry(told: ObjId, wave: &mut Wave) -> Option<ObjId>
     requires { told < length wave.old.marks }
     ensures puts { Puts wave.old (carrying result wave.new) (λ o. o ≡ told) }
@@ -295,7 +295,7 @@ fn carry(told: ObjId, wave: &mut Wave) -> Option<ObjId>
     if wave.mark(told) { Some(told) } else { None }
 }
 
-// The first pair by which a node that is told passes the notice on, if it does and someone observes it.
+// Returns the first pair by which a notified node passes the notification on, if it does and someone observes it.
 fn first_passed(edges: &Edges, goes_on: bool, told: ObjId) -> Option<EdgeId>
     requires { told < length edges.now.nodes }
     ensures some { is_some result ≡ true → goes_on ≡ true }
@@ -309,7 +309,7 @@ fn first_passed(edges: &Edges, goes_on: bool, told: ObjId) -> Option<EdgeId>
     }
 }
 
-// A node that is told is no longer current, and is remembered if it is a watcher; whether it passes the notice on.
+// Marks a notified node as out of date, remembers it if it is a watcher, and returns whether it passes the notification on.
 #[inline(always)]
 fn take_notice(node: &mut Option<Node>, told: ObjId, noticed: &mut VecDeque<ObjId>) -> bool
     requires rising { IsRising noticed.old.items }
@@ -334,7 +334,7 @@ fn take_notice(node: &mut Option<Node>, told: ObjId, noticed: &mut VecDeque<ObjI
     }
 }
 
-// The same of a live node. It stays apart, since most that are told are lazy.
+// Does the same for a live node. It is a function of its own, since most notified nodes are lazy.
 #[inline(never)]
 fn take_live(live: &mut Node, told: ObjId, noticed: &mut VecDeque<ObjId>) -> bool
     requires rising { IsRising noticed.old.items }
@@ -353,7 +353,7 @@ fn take_live(live: &mut Node, told: ObjId, noticed: &mut VecDeque<ObjId>) -> boo
     goes_on
 }
 
-// Whether a node that is told passes the notice on.
+// Returns whether a notified node passes the notification on.
 fn passes(live: &Node) -> bool
     ensures { result ≡ passes_as live.now.role live.now.flags }
 {
@@ -365,14 +365,14 @@ fn passes(live: &Node) -> bool
     }
 }
 
-// Whether a lazy node that is told passes the notice on.
+// Returns whether a notified lazy node passes the notification on.
 fn passes_lazy(flags: &Flags) -> bool
     ensures { result ≡ passes_as Lazy flags.now }
 {
     !flags.frozen && (flags.current || flags.forward)
 }
 
-/// A node is no longer current.
+/// Marks a node as out of date.
 pub fn unsettle_one(node: &mut Option<Node>)
     ensures { node.new ≡ unsettled node.old }
 {

@@ -1,4 +1,4 @@
-// The pairs and their calls.
+// The pairs of subjects and observers.
 ghost use Rattle.std.specs.Prelude.{◌≡◌, ◌<◌, ◌≤◌, ◌+◌, ℕ, length, IsTrue, IfOk, OnOk, OnErr, ◌↔◌, true, is_some, max, slice_index_or, slice_set, if◌then◌else◌};
 ghost use Rattle.edge_lists.specs.declared.edge.Side.TheVariants.{Subject, Observer};
 ghost use Rattle.edge_lists.specs.Ends.{heads_at};
@@ -13,21 +13,21 @@ use slab::Slab;
 use std::alloc::{AllocError, Global};
 use std::marker::Model;
 
-/// How many numbers of nodes are given at most.
+/// The greatest count of node numbers.
 pub const MOST_NODES: usize = 65_536;
 
-/// Pairs of a subject and one of its observers, each once, over nodes that live, and spare places for some more. Nodes
-/// are numbered from 0 in order of creation, and no number is given twice. A clause sees an `EdgesView`.
+/// Pairs of a subject and an observer, each once, over live nodes, with spare places for more. Nodes are numbered from 0 in order
+/// of creation, and no number is given twice. Clauses see an `EdgesView`.
 pub struct Edges {
     slots: Slab<Edge>,
     nodes: Vec<Option<Heads>>,
-    // For each node a number that none of its observers passes.
+    // For each node a number that none of its observers exceeds.
     newest: Vec<u32>,
-    // For how many pairs there is room that `link_spare` alone may take.
+    // For how many pairs there is room that only `link_spare` may take.
     spare: usize,
 }
 
-// One call at each exit of who lets it go.
+// Each exit of an owner calls this once.
 impl Drop for Edges {
     fn drop(self) {
         let Edges {
@@ -59,7 +59,7 @@ impl Model for Edges {
 }
 
 impl Edges {
-    /// No nodes and no pairs. Later calls take memory from the allocator given here.
+    /// Starts without nodes and pairs. Later calls allocate from this allocator.
     pub fn new(alloc: Global) -> Edges
         ensures { result ≡ no_pairs }
     {
@@ -71,7 +71,11 @@ impl Edges {
         }
     }
 
-    /// A node more, numbered next, in no pair. After want of memory nothing changed.
+    /// Adds a node without pairs and returns its number.
+    ///
+    /// # Errors
+    ///
+    /// `AllocError` where memory runs out. Then nothing has changed.
     pub fn add_node(&mut self) -> Result<ObjId, AllocError>
         requires { length self.old.nodes < MOST_NODES }
         ensures number { IfOk result (λ node. node ≡ length self.old.nodes) }
@@ -88,14 +92,14 @@ impl Edges {
         Ok(node)
     }
 
-    /// How many numbers were given.
+    /// Returns how many numbers were given.
     pub fn len(&self) -> usize
         ensures { result ≡ length self.now.nodes }
     {
         self.nodes.len()
     }
 
-    /// Whether a node lives.
+    /// Returns whether a node is live.
     pub fn is_live(&self, node: ObjId) -> bool
         ensures { result ≡ is_some (heads_at self.now.nodes node) }
     {
@@ -106,7 +110,11 @@ impl Edges {
         }
     }
 
-    /// Finds spare places, so that there are at least so many. After want of memory nothing changed.
+    /// Raises the number of spare places to at least `pairs`.
+    ///
+    /// # Errors
+    ///
+    /// `AllocError` where memory runs out. Then nothing has changed.
     pub fn reserve(&mut self, pairs: u32) -> Result<(), AllocError>
         ensures ok { OnOk result (self.new ≡ record self.old { spare = max self.old.spare pairs }) }
         ensures err { OnErr result (self.new ≡ self.old) }
@@ -117,7 +125,11 @@ impl Edges {
         Ok(())
     }
 
-    /// A node more, numbered next, in no pair, and so many spare places more. After want of memory nothing changed.
+    /// Adds a node without pairs and so many spare places, and returns the node's number.
+    ///
+    /// # Errors
+    ///
+    /// `AllocError` where memory runs out. Then nothing has changed.
     pub fn add_node_and_spare(&mut self, pairs: usize) -> Result<ObjId, AllocError>
         requires nodes { length self.old.nodes < MOST_NODES }
         requires pairs { pairs ≤ 65536 }
@@ -139,7 +151,11 @@ impl Edges {
         Ok(node)
     }
 
-    /// The observer observes the subject too; no spare place is used. After want of memory nothing changed.
+    /// Makes the observer observe the subject, without use of a spare place.
+    ///
+    /// # Errors
+    ///
+    /// `AllocError` where memory runs out. Then nothing has changed.
     pub fn link(&mut self, subject: ObjId, observer: ObjId) -> Result<(), AllocError>
         requires subject { IsLive self.old subject }
         requires observer { IsLive self.old observer }
@@ -154,7 +170,7 @@ impl Edges {
         Ok(())
     }
 
-    /// The observer observes the subject too, by one of the spare places. Takes no memory.
+    /// Makes the observer observe the subject, in a spare place. Takes no memory.
     pub fn link_spare(&mut self, subject: ObjId, observer: ObjId)
         requires room { 0 < self.old.spare }
         requires subject { IsLive self.old subject }
@@ -168,8 +184,8 @@ impl Edges {
         self.spare -= 1;
     }
 
-    /// The observer does not observe the subject; whether it did, which leaves a spare place. Takes no memory, and time
-    /// in proportion to the fewer of the subjects of the observer and the observers of the subject.
+    /// Removes a pair, which leaves a spare place, and returns whether there was one. Takes no memory. The time is proportional to the
+    /// fewer of the subjects of the observer and the observers of the subject.
     pub fn unlink(&mut self, subject: ObjId, observer: ObjId) -> bool
         requires subject { IsLive self.old subject }
         requires observer { IsLive self.old observer }
@@ -185,8 +201,7 @@ impl Edges {
         was
     }
 
-    /// The node is gone, with every pair in which it stands; each of them leaves a spare place. Takes no memory, and
-    /// time in proportion to these pairs.
+    /// Removes a node with all its pairs, each of which leaves a spare place. Takes no memory. The time is proportional to its pairs.
     pub fn drop_node(&mut self, node: ObjId)
         requires { IsLive self.old node }
         ensures node { TakesNode self.old self.new node }
@@ -198,8 +213,8 @@ impl Edges {
         self.spare += before - self.slots.len();
     }
 
-    /// Whether the observer observes the subject. Takes time in proportion to the fewer of the subjects of the observer and
-    /// the observers of the subject, and none where the observer was created after all that ever observed the subject.
+    /// Returns whether the observer observes the subject. The time is proportional to the fewer of the subjects of the observer and the
+    /// observers of the subject, and constant if the observer is younger than all that ever observed the subject.
     pub fn has_pair(&self, subject: ObjId, observer: ObjId) -> bool
         requires { IsLive self.now observer }
         ensures { IsTrue result ↔ IsPair self.now subject observer }
@@ -213,7 +228,7 @@ impl Edges {
         }
     }
 
-    /// The first pair of which the node is the subject, if there is one; a dropped node is in none.
+    /// Returns the first pair of which the node is the subject, if there is one. A removed node has none.
     pub fn first_observer(&self, node: ObjId) -> Option<EdgeId>
         requires { node < length self.now.nodes }
         ensures { GivesAll Subject self.now.slots node result }
@@ -221,7 +236,7 @@ impl Edges {
         first_at(&self.nodes, Side::Subject, node)
     }
 
-    /// The next pair with the same subject, if there is one.
+    /// Returns the next pair with the same subject, if there is one.
     pub fn next_observer(&self, edge: EdgeId) -> Option<EdgeId>
         requires { IsThere self.now edge }
         ensures { GoesOn Subject self.now.slots edge result }
@@ -229,7 +244,7 @@ impl Edges {
         self.slots[edge.key()].subject.after
     }
 
-    /// The first pair of which the node is the observer, if there is one; a dropped node is in none.
+    /// Returns the first pair of which the node is the observer, if there is one. A removed node has none.
     pub fn first_subject(&self, node: ObjId) -> Option<EdgeId>
         requires { node < length self.now.nodes }
         ensures { GivesAll Observer self.now.slots node result }
@@ -237,7 +252,7 @@ impl Edges {
         first_at(&self.nodes, Side::Observer, node)
     }
 
-    /// The subject and the observer of a pair.
+    /// Returns the subject and the observer of a pair.
     pub fn ends(&self, edge: EdgeId) -> (ObjId, ObjId)
         requires { IsThere self.now edge }
         ensures { IsEdge self.now.slots edge result.0 result.1 }
@@ -246,7 +261,7 @@ impl Edges {
         (pair.subject.node, pair.observer.node)
     }
 
-    /// The observer of a pair, and the next pair with the same subject, if there is one: one look at a slot.
+    /// Returns the observer of a pair, and the next pair with the same subject, if there is one. It looks at the slot once.
     pub fn observer_and_next(&self, edge: EdgeId) -> (ObjId, Option<EdgeId>)
         requires { IsThere self.now edge }
         ensures observer { HasObserver self.now edge result.0 }
@@ -256,7 +271,7 @@ impl Edges {
         (pair.observer.node, pair.subject.after)
     }
 
-    /// The subject of a pair, and the next pair with the same observer, if there is one: one look at a slot.
+    /// Returns the subject of a pair, and the next pair with the same observer, if there is one. It looks at the slot once.
     pub fn subject_and_next(&self, edge: EdgeId) -> (ObjId, Option<EdgeId>)
         requires { IsThere self.now edge }
         ensures subject { HasSubject self.now edge result.0 }
@@ -266,7 +281,7 @@ impl Edges {
         (pair.subject.node, pair.observer.after)
     }
 
-    /// What holds of all pairs between two calls.
+    /// A law, which does nothing: the invariant of all pairs between two calls.
     pub fn whole(&self)
         ensures { IsWhole self.now }
     {
@@ -274,7 +289,7 @@ impl Edges {
     }
 }
 
-// Whether a node has a greater number than each observer of a subject.
+// Returns whether a node has a greater number than each observer of a subject.
 fn is_newer(newest: &Vec<u32>, subject: ObjId, observer: ObjId) -> bool
     ensures { result ≡ true → slice_index_or newest.now.items subject 0 < observer }
 {
@@ -284,7 +299,7 @@ fn is_newer(newest: &Vec<u32>, subject: ObjId, observer: ObjId) -> bool
     }
 }
 
-// A node observes a subject, too.
+// Raises the bound of a subject to the number of a new observer.
 fn raise(newest: &mut Vec<u32>, subject: ObjId, observer: ObjId)
     requires { subject < length newest.old.items }
     ensures { newest.new.items

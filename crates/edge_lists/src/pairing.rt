@@ -1,4 +1,4 @@
-// Pairs put in and taken out.
+// Adds and removes pairs.
 ghost use Rattle.std.specs.Prelude.{◌≡◌, ◌≢◌, ◌⊎◌, ◌↔◌, ◌+◌, ◌≤◌, ◌^◌, ℕ, None, IsSome, IsTrue, MatchOption, OnOk, is_some, if◌then◌else◌};
 ghost use Rattle.slab.specs.Slab.{ContainsKey, HasRoomFor, slab_len};
 ghost use Rattle.edge_lists.specs.declared.edge.Side.TheVariants.{Subject};
@@ -11,7 +11,7 @@ use desk_names::ObjId;
 use slab::Slab;
 use std::alloc::AllocError;
 
-/// How many slots the names of pairs can tell apart.
+/// How many slots the numbers of pairs can tell apart.
 const MOST_SLOTS: usize = 4_294_967_296;
 
 /// Puts a pair into a free slot.
@@ -50,7 +50,7 @@ pub(crate) fn put_in(
     link_in(slots, nodes, Side::Observer, edge, observer);
 }
 
-/// Takes the pair of a slot out.
+/// Removes the pair of a slot.
 pub(crate) fn take_out(slots: &mut Slab<Edge>, nodes: &mut [Option<Heads>], edge: EdgeId)
     requires stands { Stands slots.old nodes.old }
     requires held { ContainsKey slots.old edge }
@@ -66,9 +66,9 @@ pub(crate) fn take_out(slots: &mut Slab<Edge>, nodes: &mut [Option<Heads>], edge
     slots.remove(edge.key());
 }
 
-/// Finds room for so many pairs, and for half as many again, so that calls that ask for one pair more each time copy the
-/// slots seldom. The slots are copied before they grow, so that they stay as they were where memory is wanting, or where
-/// they would have more numbers than there are names of pairs.
+/// Reserves room for so many pairs and half as many again, so that calls that need one more pair each time copy the slots seldom.
+/// The slots are copied before they grow, so that nothing has changed where memory runs out, or where there are no more numbers
+/// of pairs.
 pub(crate) fn make_room(slots: &mut Slab<Edge>, pairs: usize) -> Result<(), AllocError>
     requires { slots.old.capacity ≤ 2 ^ 32 }
     ensures room { OnOk result (HasRoomFor slots.new pairs) }
@@ -88,8 +88,8 @@ pub(crate) fn make_room(slots: &mut Slab<Edge>, pairs: usize) -> Result<(), Allo
     Ok(())
 }
 
-/// The slot of a pair, if it is there: the subjects of the observer and the observers of the subject are looked through
-/// by turns, as long as there are more of both.
+/// Returns the slot of a pair, if it exists. Looks through the subjects of the observer and the observers of the subject in turn,
+/// as long as both have more.
 pub(crate) fn find(
     slots: &Slab<Edge>,
     nodes: &[Option<Heads>],
@@ -121,7 +121,7 @@ pub(crate) fn find(
     None
 }
 
-// The first pair of which a node is the subject; none where no node has the number.
+// Returns the first pair of which a node is the subject. `None` if no node has the number.
 fn first_of_any(nodes: &[Option<Heads>], subject: ObjId) -> Option<EdgeId>
     ensures { result ≡ first_of Subject (heads_at nodes.now subject) }
 {
@@ -132,7 +132,7 @@ fn first_of_any(nodes: &[Option<Heads>], subject: ObjId) -> Option<EdgeId>
     }
 }
 
-/// Takes a pair out; whether it was there.
+/// Removes a pair and returns whether it existed.
 pub(crate) fn take_pair(
     slots: &mut Slab<Edge>,
     nodes: &mut [Option<Heads>],
@@ -158,7 +158,7 @@ pub(crate) fn take_pair(
     }
 }
 
-/// Takes every pair out in which a node is at this side.
+/// Removes every pair in which a node is at this side.
 pub(crate) fn take_all(slots: &mut Slab<Edge>, nodes: &mut [Option<Heads>], side: Side, node: ObjId)
     requires stands { Stands slots.old nodes.old }
     requires live { IsSome (heads_at nodes.old node) }
@@ -174,7 +174,7 @@ pub(crate) fn take_all(slots: &mut Slab<Edge>, nodes: &mut [Option<Heads>], side
     }
 }
 
-/// Takes a node away, with every pair in which it stands.
+/// Removes a node with all its pairs.
 pub(crate) fn take_node(slots: &mut Slab<Edge>, nodes: &mut [Option<Heads>], node: ObjId)
     requires stands { Stands slots.old nodes.old }
     requires live { IsSome (heads_at nodes.old node) }

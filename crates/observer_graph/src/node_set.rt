@@ -59,7 +59,7 @@ impl NodeSet {
         Ok(())
     }
 
-    /// Raises the numbers of nodes that may be inserted by one.
+    /// Raises the number of nodes that may be inserted by one.
     pub fn grow(&mut self)
         requires { 0 < self.old.spare }
         ensures marks { self.new.marks ≡ self.old.marks ++ false ∷ [] }

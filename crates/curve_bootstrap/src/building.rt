@@ -1,4 +1,4 @@
-// A curve from its terms.
+// Builds a curve from its terms.
 ghost use Rattle.std.specs.Prelude.{◌≡◌, ◌≤◌, pos, length, false, [], ◌<ℤ◌, IfOk, IfSome, IfNone, Some, None, Ok, Err};
 ghost use Rattle.std.specs.List.{All};
 ghost use Rattle.day_number.specs.declared.conventions.Convention.TheVariants.{Following};
@@ -28,11 +28,15 @@ use fixed_amount::{Discount, Rate};
 use holiday_calendars::Calendar;
 use std::alloc::Global;
 
-/// The curve of terms on an evaluation date, by the rates of the helpers in their order. The reference day is the date
-/// with the settlement days added, or the curve's own day as it is, which may be a holiday; every helper starts there. The factor at a helper's end is the least whole number of
-/// units from 1 to 4 * 10^12 at which the helper is worth 1 or more on the curve so far. That the reference day, or the day
-/// that the first helper's tenor leads to, is out of range is told without memory, and so is why a first deposit has no
-/// node.
+/// Builds the curve of these terms on an evaluation date, from the rates of its helpers in order (QuantLib's
+/// `PiecewiseYieldCurve` over discount factors). The reference day is the date plus the settlement days, or the curve's own day,
+/// which may be a holiday. Every helper starts there. The factor at a helper's end is the least whole number of units of 10^-12,
+/// from 1 to 4 * 10^12, at which the helper is worth at least 1 on the curve so far.
+///
+/// # Errors
+///
+/// `BuildFault` for the first helper that has no node, or `NoMemory` where memory runs out. A reference day or an end of the first
+/// helper's tenor out of range, and the fault of a first deposit, are found without memory.
 pub fn build(
     alloc: Global,
     owner: ObjId,
@@ -55,8 +59,11 @@ pub fn build(
     }
 }
 
-/// The same curve, by what is kept of the curves that were built before. What is made of its helpers anew is kept, too;
-/// where memory is wanting for that, it is built without.
+/// Builds the same curve from the coupons of curves that were built before. New coupons are kept, if there is memory for them.
+///
+/// # Errors
+///
+/// Those of `build`.
 pub fn build_by(
     alloc: Global,
     owner: ObjId,
@@ -77,7 +84,7 @@ pub fn build_by(
     }
 }
 
-// The curve from a reference day, by what is kept.
+// Builds the curve from a reference day with kept coupons.
 fn built_by(
     alloc: Global,
     owner: ObjId,
@@ -98,7 +105,7 @@ fn built_by(
     }
 }
 
-// The reference day, where there is one: so many business days on from the evaluation date, or the curve's own.
+// Returns the reference day, if it is in range: so many business days after the evaluation date, or the curve's own.
 fn reference_day(terms: &CurveTerms, today: Day) -> Option<Day>
     ensures { result ≡ due.reference_day terms.now today }
 {
@@ -108,7 +115,7 @@ fn reference_day(terms: &CurveTerms, today: Day) -> Option<Day>
     }
 }
 
-// The day so many business days on from the evaluation date, where there is one.
+// Returns the day so many business days after the evaluation date, if it is in range.
 fn settled_day(cal: &Calendar, settlement: u8, today: Day) -> Option<Day>
     ensures { result ≡ advanced (is_business_day cal.now) Days Following false today (pos settlement) }
 {
@@ -116,7 +123,7 @@ fn settled_day(cal: &Calendar, settlement: u8, today: Day) -> Option<Day>
     advance(cal, today, on, Unit::Days, Convention::Following, false).ok()
 }
 
-// The curve from a reference day, by plans of its helpers.
+// Builds the curve from a reference day with the plans of its helpers.
 fn built(
     alloc: Global,
     owner: ObjId,
@@ -147,7 +154,7 @@ fn built(
     }
 }
 
-// The nodes of all helpers.
+// Returns the nodes of all helpers.
 fn nodes_from(
     alloc: Global,
     calendar: &Calendar,
@@ -193,7 +200,7 @@ fn nodes_from(
     Ok(nodes)
 }
 
-// The node of one helper behind others, by its coupons where they are kept.
+// Returns the node of one helper after others, from its coupons where they are kept.
 fn next_node(
     alloc: Global,
     calendar: &Calendar,
@@ -220,7 +227,7 @@ fn next_node(
     }
 }
 
-// The node of one helper behind others, by coupons that are made anew.
+// Returns the node of one helper after others, from new coupons.
 fn fresh_node(
     alloc: Global,
     calendar: &Calendar,
@@ -245,7 +252,7 @@ fn fresh_node(
     }
 }
 
-// The node of a deposit behind others.
+// Returns the node of a deposit after others.
 fn deposit_node(
     calendar: &Calendar,
     from: &CurveNode,
@@ -263,7 +270,7 @@ fn deposit_node(
     let Some(end) = deposit_end(calendar, from.day, helper) else {
         return Err(HelperFault::DateRange);
     };
-    // The order comes first: an end may lie before a reference day that is a holiday.
+    // The order is checked first, since an end may be before a reference day that is a holiday.
     if is_not_after(end, last.day) {
         return Err(HelperFault::Pillar);
     }
@@ -271,7 +278,7 @@ fn deposit_node(
     node_by(from, nodes, last, rate, &[only])
 }
 
-// The node of a par swap behind others.
+// Returns the node of a par swap after others.
 fn swap_node(
     alloc: Global,
     calendar: &Calendar,
@@ -296,7 +303,7 @@ fn swap_node(
     }
 }
 
-// The node of one helper by its coupons.
+// Returns the node of one helper from its coupons.
 fn node_by(
     from: &CurveNode,
     nodes: &[CurveNode],
@@ -317,7 +324,7 @@ fn node_by(
     }
 }
 
-// The day of the last coupon.
+// Returns the day of the last coupon.
 pub(crate) fn end_of(reference: Day, coupons: &[Coupon]) -> Day
     ensures { result ≡ due.end_of reference coupons.now }
 {

@@ -1,5 +1,5 @@
-// What a helper is worth over 1, by the factor at its end: at most 10^10 * 801 * 16 * 10^24 and 4 * 10^12 * 1.2 * 10^16 in size,
-// which 128 bits hold with a quarter to spare.
+// The value of a helper less 1, by the factor at its end: at most 10^10 * 801 * 16 * 10^24 and 4 * 10^12 * 1.2 * 10^16 in size, which
+// 128 bits hold with a quarter to spare.
 ghost use Rattle.std.specs.Prelude.{◌≡◌, length, ◌≤◌, ◌*◌, ◌^◌, pos, ◌≤ℤ◌, ◌<ℤ◌, ◌+ℤ◌, ◌-ℤ◌, ◌*ℤ◌, unsigned_abs};
 ghost use Rattle.curve_points.specs.Segment.{one, most};
 ghost use Rattle.curve_bootstrap.specs.Coupon.{AreAfter, AreUpTo};
@@ -21,7 +21,7 @@ pub(crate) const MOST_FACTOR: i128 = 4_000_000_000_000;
 /// The discount factor 1, in the same units.
 pub(crate) const ONE: i128 = 1_000_000_000_000;
 
-/// What a helper is worth over 1 with a factor at its end, where `settled` is the value of the coupons before.
+/// Returns the value of a helper less 1 for a factor at its end, where `settled` is the value of the coupons before.
 pub(crate) fn excess_at(
     last: &CurveNode,
     end: Day,
@@ -44,7 +44,7 @@ pub(crate) fn excess_at(
     weighed(x, rate, coupons_total)
 }
 
-// The whole of a sum: the factor at the end, the coupons at the rate, less 1.
+// Returns a whole sum: the factor at the end and the coupons at the rate, less 1.
 fn weighed(x: i128, rate: i128, coupons: i128) -> i128
     requires low { pos 0 ≤ℤ x }
     requires high { x ≤ℤ most }
@@ -56,7 +56,7 @@ fn weighed(x: i128, rate: i128, coupons: i128) -> i128
     x * WHOLE + interest(rate, coupons) - ONE * WHOLE
 }
 
-/// Coupons at a rate.
+/// Returns the value of coupons at a rate.
 pub(crate) fn interest(rate: i128, coupons: i128) -> i128
     requires coupons { pos 0 ≤ℤ coupons }
     requires coupons_high { coupons ≤ℤ pos (801 * (16 * 10 ^ 24)) }

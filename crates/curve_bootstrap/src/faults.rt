@@ -5,49 +5,48 @@ ghost use Rattle.curve_bootstrap.specs.Built.{numbered};
 use std::alloc::{AllocError, AllocFailed};
 use thiserror::Error;
 
-/// Why a helper has no node. The first that holds, in this order, is the answer; want of memory may come in its place.
+/// Why a helper has no node: the first of these that applies. `NoMemory` may come in place of each.
 #[derive(Clone, Copy, PartialEq, Eq)]
 pub enum HelperFault {
-    /// A day leaves the range.
+    /// A day is out of range.
     DateRange,
-    /// Its end is not after the end of the helper before it, or, of the first, not after the reference day.
+    /// Its end is not after the end of the helper before it, or, for the first, not after the reference day.
     Pillar,
-    /// Its rate is beyond 10 either way.
+    /// Its rate is beyond 10 (1,000 per cent) in size.
     RateRange,
-    /// Its rate is so far below zero that its coupons outweigh what is paid at the end.
+    /// Its rate is so far below zero that its coupons outweigh the payment at the end.
     Negative,
     /// No factor from one unit to 4 fits it.
     Discount,
-    /// Memory is wanting.
+    /// Memory ran out.
     NoMemory,
 }
 
-/// Why a curve is not built. Helpers are counted from 1; the first that is refused decides. Want of memory may come in
-/// place of each, but not where the reference day or the day that the first helper's tenor leads to is out of range, nor
-/// in place of a fault of a first deposit.
+/// Why a curve is not built. Helpers are counted from 1, and the first that is refused decides. `NoMemory` may come in place of
+/// each, except where the reference day or the end of the first helper's tenor is out of range, and for a fault of a first deposit.
 #[derive(Clone, Copy, Debug, PartialEq, Eq, Error)]
 pub enum BuildFault {
-    /// The helper's end is not after the end of the one before it, or, of the first, not after the reference day.
+    /// The helper's end is not after the end of the one before it, or, for the first, not after the reference day.
     #[error("the end of helper {0} is not after the one before it")]
     Pillar(u32),
     /// No discount factor from one unit to 4 fits the helper.
     #[error("no discount factor fits helper {0}")]
     Discount(u32),
-    /// The helper's rate is so far below zero that its coupons outweigh what is paid at the end.
+    /// The helper's rate is so far below zero that its coupons outweigh the payment at the end.
     #[error("the negative rate of helper {0} outweighs its notional")]
     Negative(u32),
-    /// A rate is beyond 10 either way.
+    /// A rate is beyond 10 (1,000 per cent) in size.
     #[error("a rate is beyond 10")]
     RateRange,
-    /// A day leaves the range from 1901-01-01 to 2199-12-31.
+    /// A day is out of the range from 1901-01-01 to 2199-12-31.
     #[error("a day is out of range")]
     DateRange,
-    /// Memory is wanting.
+    /// Memory ran out.
     #[error("out of memory")]
     NoMemory,
 }
 
-/// A helper's fault with the helper's number.
+/// Returns a helper's fault with the helper's number.
 pub(crate) fn numbered(fault: HelperFault, k: u32) -> BuildFault
     ensures { result ≡ numbered k fault }
 {

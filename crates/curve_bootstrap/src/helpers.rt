@@ -1,4 +1,4 @@
-// The coupons of a helper.
+// Makes the coupons of a helper.
 ghost use Rattle.std.specs.Prelude.{◌≡◌, ◌≤ℤ◌, pos, IfOk, IfNone, Some, None, Ok, Err};
 ghost use Rattle.std.specs.List.Sorted.{IsStrictlySortedBy};
 ghost use Rattle.std.specs.Ordering.{int_cmp};
@@ -21,7 +21,7 @@ use schedule_rules::{Plan, PlanFault, Rule, make};
 use std::alloc::Global;
 use year_parts::Counter;
 
-/// The end of a deposit that starts at the reference day: the day that its tenor leads to, where there is one.
+/// Returns the end of a deposit that starts at the reference day, if it is in range.
 pub(crate) fn deposit_end(calendar: &Calendar, reference: Day, helper: &Helper) -> Option<Day>
     requires { IsTenor helper.now.tenor }
     ensures { result ≡ due.led_by calendar.now reference helper.now None }
@@ -40,7 +40,7 @@ pub(crate) fn deposit_end(calendar: &Calendar, reference: Day, helper: &Helper) 
     }
 }
 
-/// The coupon of a period.
+/// Returns the coupon of a period.
 pub(crate) fn coupon(counter: Counter, calendar: &Calendar, from: Day, to: Day) -> Coupon
     requires { from ≤ℤ to }
     ensures { result ≡ record { day = to; parts = pos (frac counter (is_business_day calendar.now) from to) } }
@@ -51,8 +51,7 @@ pub(crate) fn coupon(counter: Counter, calendar: &Calendar, from: Day, to: Day) 
     }
 }
 
-/// The coupons of a par swap that starts at the reference day. That its end is no day of the range is told without
-/// memory.
+/// Returns the coupons of a par swap that starts at the reference day. An end out of range is found without memory.
 pub(crate) fn swap_coupons(
     alloc: Global,
     calendar: &Calendar,
@@ -89,7 +88,7 @@ pub(crate) fn swap_coupons(
     }
 }
 
-// What a fault of a schedule is for a helper whose terms are in range.
+// Returns the fault of a helper whose terms are in range for a fault of its schedule.
 fn refused_by(fault: PlanFault) -> HelperFault
     requires { due.Comes fault }
     ensures { result ≡ due.fault_of fault }
@@ -103,7 +102,7 @@ fn refused_by(fault: PlanFault) -> HelperFault
     }
 }
 
-// The end of a swap, not adjusted, where it is adjusted to a day.
+// Returns the unadjusted end of a swap, if its adjusted end is in range.
 fn swap_end(calendar: &Calendar, reference: Day, helper: &Helper) -> Option<Day>
     requires { IsOfMonths helper.now.tenor }
     ensures { result ≡ due.swap_end calendar.now reference helper.now }
@@ -115,7 +114,7 @@ fn swap_end(calendar: &Calendar, reference: Day, helper: &Helper) -> Option<Day>
     }
 }
 
-// The day a tenor of months later, not adjusted.
+// Returns the unadjusted day a tenor of months later.
 fn moved(day: Day, tenor: Tenor) -> Option<Day>
     requires { IsOfMonths tenor }
     ensures { result ≡ units_on tenor.unit day tenor.count }
@@ -127,7 +126,7 @@ fn moved(day: Day, tenor: Tenor) -> Option<Day>
     }
 }
 
-// A coupon for each period of a schedule.
+// Returns a coupon for each period of a schedule.
 fn period_coupons(
     alloc: Global,
     counter: Counter,

@@ -1,9 +1,13 @@
-//! A discount curve from the rates of its helpers, one node after the other: each the least factor at which its helper
-//! is worth 1 or more.
+//! Discount curves from the rates of their helpers, one node after the other (bootstrap). Each node is the least factor at which its
+//! helper is worth at least 1.
 //!
-//! `build`, `BuildFault`; `build_by` with `CurvePlans`, what is kept of curves from one price to the next; `par_rate`, `ParRate`,
-//! `HelperFault`. Functions whose names end in `law` do nothing: their contracts are what is proved of the
-//! definitions.
+//! `build` and `BuildFault`; `build_by` with `CurvePlans`, which keeps coupons from one build to the next; `par_rate`, `ParRate`
+//! and `HelperFault`. Functions whose names end in `law` do nothing: their contracts are what is proved of the definitions.
+//!
+//! ```text
+//! let curve = build(alloc, owner, &terms, today, &rates)?;
+//! let par = par_rate(alloc, &calendar, &curve, &helper)?;
+//! ```
 #![tactic(auto)]
 
 mod building;

@@ -1,4 +1,4 @@
-// The node of a helper whose coupons are known.
+// The node of a helper with known coupons.
 ghost use Rattle.std.specs.Prelude.{◌≡◌, true, ℕ, suc, length, ◌≤◌, ◌*◌, ◌^◌, pos, ◌≤ℤ◌, ◌<ℤ◌, ◌-ℤ◌, ◌+ℤ◌, unsigned_abs, int_le, IfOk};
 ghost use Rattle.std.specs.List.{AllWithin};
 ghost use Rattle.curve_points.specs.Curve.{IsRisingFrom};
@@ -15,7 +15,7 @@ use curve_points::CurveNode;
 use day_number::Day;
 use fixed_amount::{Discount, Rate};
 
-/// The factor at the end of a helper that pays coupons for a rate, behind the nodes so far.
+/// Returns the factor at the end of a helper with these coupons, after the nodes so far.
 pub(crate) fn node(
     from: &CurveNode,
     nodes: &[CurveNode],
@@ -49,7 +49,7 @@ pub(crate) fn node(
     }
 }
 
-// How many of the first coupons are paid on a day or before.
+// Returns how many of the first coupons are paid until a day.
 fn reached_by(coupons: &[Coupon], day: Day, from: Day) -> usize
     requires { AreOrdered from coupons.now }
     ensures bound { result ≤ length coupons.now }
@@ -62,21 +62,21 @@ fn reached_by(coupons: &[Coupon], day: Day, from: Day) -> usize
         { coupon.day <= day },
     )
 }
-/// Whether a day is not after another.
+/// Returns whether a day is not after another.
 pub(crate) fn is_not_after(day: Day, other: Day) -> bool
     ensures { result ≡ int_le day other }
 {
     day <= other
 }
 
-// The units of a rate.
+// Returns the units of a rate.
 fn units_of(rate: Rate) -> i128
     ensures { result ≡ rate }
 {
     i128::from(rate.units())
 }
 
-// Whether a rate below zero takes as much as the whole.
+// Returns whether coupons at a rate below zero take at least the whole payment.
 fn is_negative_sum(rate: i128, parts: i128) -> bool
     requires parts { pos 0 ≤ℤ parts }
     requires high { parts ≤ℤ pos (801 * (2 * 10 ^ 12)) }
@@ -86,13 +86,13 @@ fn is_negative_sum(rate: i128, parts: i128) -> bool
     rate < 0 && rate * parts <= -WHOLE
 }
 
-// The greatest discount factor, for products with an excess that is cut.
+// The greatest discount factor, for products with a shortened excess.
 const MOST_UNITS: u128 = 4_000_000_000_000;
 
-// What an excess is divided by, so that its product with a discount factor fits 128 bits: 2^44.
+// The divisor that shortens an excess, so that its product with a discount factor fits 128 bits: 2^44.
 const CUT: u128 = 17_592_186_044_416;
 
-// The factor at which the excess, which rises, turns: where it nearly always does, or else found by halving.
+// Returns the factor at which the rising excess changes its sign: a near guess, or else the result of bisection.
 fn least_root(
     last: &CurveNode,
     end: Day,
@@ -126,7 +126,7 @@ fn least_root(
     Some(factor_of(root))
 }
 
-// Where the excess turns if only the last coupon is paid behind the nodes. Any factor will do.
+// Returns the factor where the excess changes its sign if only the last coupon is paid after the nodes. It is only a guess.
 fn near_root(rate: i128, settled: i128, coupons: &[Coupon]) -> i128
     requires settled { pos 0 ≤ℤ settled }
     requires settled_high { settled ≤ℤ pos (801 * (8 * 10 ^ 24)) }
@@ -144,7 +144,7 @@ fn near_root(rate: i128, settled: i128, coupons: &[Coupon]) -> i128
     root
 }
 
-// The parts of the last coupon, or 0.
+// Returns the parts of the last coupon, or 0.
 fn last_parts(coupons: &[Coupon]) -> i128
     ensures low { pos 0 ≤ℤ result }
     ensures high { result ≤ℤ pos (2 * 10 ^ 12) }
@@ -155,7 +155,7 @@ fn last_parts(coupons: &[Coupon]) -> i128
     }
 }
 
-// Whether an excess that rises turns at a factor.
+// Returns whether a rising excess changes its sign at a factor.
 fn is_root(
     last: &CurveNode,
     end: Day,
@@ -184,7 +184,7 @@ fn is_root(
     true
 }
 
-// The discount factor of so many units.
+// Returns the discount factor of so many units.
 fn factor_of(root: i128) -> Discount
     requires low { pos 1 ≤ℤ root }
     requires high { root ≤ℤ most }
@@ -193,8 +193,8 @@ fn factor_of(root: i128) -> Discount
     Discount(root as i64)
 }
 
-// The place at which the excess turns between 0 and the greatest factor. A guess is tried first, then places ever farther
-// from it, and then the middle of what is left.
+// Returns where the excess changes its sign between 0 and the greatest factor. Tries a guess, then places farther and farther from
+// it, and then the middle of what is left.
 fn halved(
     last: &CurveNode,
     end: Day,
@@ -229,8 +229,7 @@ fn halved(
     high
 }
 
-// A place near which an excess turns, as if it rose evenly from one at 0 to another at the greatest factor. Any answer will
-// do.
+// Returns a guess where an excess changes its sign, as if it rose evenly from 0 to the greatest factor. Any result is right.
 fn guess_of(below: i128, above: i128) -> i128 {
     let below = below.unsigned_abs() / CUT;
     let all = below + above.unsigned_abs() / CUT;
@@ -240,8 +239,8 @@ fn guess_of(below: i128, above: i128) -> i128 {
     i128::try_from(MOST_UNITS * below / all).unwrap_or(0)
 }
 
-// A number strictly between two that differ by more than 1: a guess, then ever farther from it on the side where it lies
-// not between them, or else their middle. The guess and a neighbour are nearly always the last two.
+// Returns a number strictly between two that differ by more than 1: a guess, then one farther from it if the guess is not between
+// them, or else their middle. The guess and a neighbour are nearly always the last two.
 fn tried(low: i128, high: i128, guess: i128) -> i128
     requires low { pos 0 ≤ℤ low }
     requires apart { (low +ℤ pos 1) <ℤ high }
@@ -258,7 +257,7 @@ fn tried(low: i128, high: i128, guess: i128) -> i128
     mean(low, high)
 }
 
-// A number strictly between two that differ by more than 1.
+// Returns a number strictly between two that differ by more than 1.
 fn mean(low: i128, high: i128) -> i128
     requires low { pos 0 ≤ℤ low }
     requires apart { (low +ℤ pos 1) <ℤ high }

@@ -1,4 +1,4 @@
-// The rate at which a helper is worth 1 on a curve.
+// Par rates: the rate at which a helper is worth 1 on a curve.
 ghost use Rattle.std.specs.Prelude.{◌≡◌, ◌≤◌, ◌*◌, ◌^◌, ◌≤ℤ◌, ◌-ℤ◌, ◌*ℤ◌, pos, unsigned_abs, Some, None, Ok, IfOk};
 ghost use Rattle.day_number.specs.Tenor.{IsTenor};
 ghost use Rattle.curve_points.specs.Segment.{one};
@@ -23,16 +23,20 @@ use fixed_amount::{Discount, Rate, Rounding, div_round};
 use holiday_calendars::Calendar;
 use std::alloc::Global;
 
-/// The rate at which a helper is worth 1 on a curve, which is within 10 either way, and the day on which the helper ends.
+/// The rate at which a helper is worth 1 on a curve, at most 10 in size, and the day on which the helper ends.
 #[derive(Clone, Copy)]
 pub struct ParRate {
     pub end: Day,
     pub rate: Rate,
 }
 
-/// The par rate of a helper that starts at the reference day of a curve, over a calendar. `DateRange` where a day of the helper leaves
-/// the range, `Pillar` where its end is not after its start, `Discount` where the curve does not reach its end, `RateRange` where its
-/// coupons are for no part of a year or the rate is beyond 10 either way.
+/// Returns the par rate of a helper that starts at the reference day of a curve.
+///
+/// # Errors
+///
+/// `DateRange` where a day of the helper is out of range, `Pillar` where its end is not after its start, `Discount` where the
+/// curve ends before the helper, `RateRange` where its coupons are for no part of a year or the rate is beyond 10 in size, and
+/// `NoMemory` where memory runs out.
 pub fn par_rate(
     alloc: Global,
     calendar: &Calendar,
@@ -49,7 +53,7 @@ pub fn par_rate(
     }
 }
 
-// The par rate of a deposit.
+// Returns the par rate of a deposit.
 fn deposit_par(
     calendar: &Calendar,
     curve: &CurveValue,
@@ -63,7 +67,7 @@ fn deposit_par(
     let Some(end) = deposit_end(calendar, reference, helper) else {
         return Err(HelperFault::DateRange);
     };
-    // An end may lie before a reference day that is a holiday.
+    // An end may be before a reference day that is a holiday.
     if is_not_after(end, reference) {
         return Err(HelperFault::Pillar);
     }
@@ -71,7 +75,7 @@ fn deposit_par(
     par_to(curve, end, &[only])
 }
 
-// The par rate of a swap.
+// Returns the par rate of a swap.
 fn swap_par(
     alloc: Global,
     calendar: &Calendar,
@@ -92,7 +96,7 @@ fn swap_par(
     }
 }
 
-// The par rate of coupons that end on a day.
+// Returns the par rate of coupons that end on a day.
 fn par_to(curve: &CurveValue, end: Day, coupons: &[Coupon]) -> Result<ParRate, HelperFault>
     requires { AreCoupons curve.now.reference end coupons.now }
     ensures value { result ≡ par.par_to curve.now end coupons.now }
@@ -112,7 +116,7 @@ fn par_to(curve: &CurveValue, end: Day, coupons: &[Coupon]) -> Result<ParRate, H
     }
 }
 
-// The par rate by the factor at the end, and what the coupons are worth at a rate of 1.
+// Returns the par rate from the factor at the end and the value of the coupons at a rate of 1.
 fn par_at(end: Day, last: Discount, worth: i128) -> Result<ParRate, HelperFault>
     ensures value { result ≡ par.par_at end (Ok last) worth }
     ensures range { IfOk result IsWithinTen }
@@ -123,14 +127,14 @@ fn par_at(end: Day, last: Discount, worth: i128) -> Result<ParRate, HelperFault>
     within_ten(end, div_round(unpaid(last), worth, Rounding::Closest))
 }
 
-// What is not paid at the end, times the units of a rate of 1 for a whole year.
+// Returns 1 less the factor at the end, times the units of a rate of 1 for a whole year.
 fn unpaid(last: Discount) -> i128
     ensures { result ≡ (one -ℤ last) *ℤ whole }
 {
     (i128::from(ONE) - wide(last)) * WHOLE
 }
 
-// A rate of so many units on a day, where it is within 10 either way.
+// Returns a rate of so many units with its day, if it is at most 10 in size.
 fn within_ten(end: Day, units: i128) -> Result<ParRate, HelperFault>
     ensures value { result ≡ par.within_ten end units }
     ensures range { IfOk result IsWithinTen }

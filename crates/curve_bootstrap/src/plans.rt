@@ -1,4 +1,4 @@
-// The coupons of a curve's helpers, kept as long as its reference day stands.
+// The coupons of a curve's helpers, kept as long as its reference day stays.
 ghost use Rattle.std.specs.Prelude.{◌≡◌, ◌≤◌, length, true, ℤ, Some, None, IfOk, IfSome};
 ghost use Rattle.std.specs.List.{All};
 ghost use Rattle.day_number.specs.Tenor.{IsTenor};
@@ -16,19 +16,19 @@ use holiday_calendars::{Base, Calendar};
 use std::alloc::{AllocError, Global};
 use std::marker::Model;
 
-// How many plans are kept at most.
+// The greatest number of plans that are kept.
 const MOST_PLANS: usize = 1024;
 
-/// The coupons of one helper, where they are kept.
+/// A helper and its coupons.
 #[derive(Drop)]
 pub struct HelperPlan {
     /// The helper.
     pub helper: Helper,
-    /// Its coupons; none where it is refused, or where memory was wanting.
+    /// Its coupons. None if it is refused, or memory ran out.
     pub coupons: Option<Vec<Coupon>>,
 }
 
-/// The coupons of helpers over a calendar from a reference day. A clause sees it as that day.
+/// The coupons of helpers over a calendar from a reference day. Clauses see that day.
 #[derive(Drop)]
 pub(crate) struct CurvePlan {
     calendar: Calendar,
@@ -48,18 +48,18 @@ impl Model for CurvePlan {
     ghost invariant = { λ p. All (IsPlan p.calendar p.reference) p.helpers.items };
 }
 
-// The plan of a curve's own number.
+// A plan with the number of its curve.
 #[derive(Drop)]
 struct OwnPlan {
     owner: ObjId,
     plan: CurvePlan,
 }
 
-/// The coupons of curves that were built: for a curve those from its last reference day, and for 1,024 curves at most. What
-/// is kept is compared with the terms before it is used, so that a curve built by it is the curve of its terms.
+/// The coupons of the curves that were built, from their last reference days, for at most 1,024 curves. They are compared with the
+/// terms before they are used, so that a curve built from them is the curve of its terms.
 #[derive(Drop)]
 pub struct CurvePlans {
-    // By the curves' numbers; none before the first is kept.
+    // By the curves' numbers. `None` before the first is kept.
     plans: Option<Vec<OwnPlan>>,
 }
 
@@ -69,12 +69,12 @@ impl CurvePlans {
     ghost use Rattle.curve_terms.specs.Terms.{IsHelper};
     ghost use Rattle.curve_bootstrap.specs.Kept.{IsPlan};
 
-    /// No plans, which take no memory.
+    /// Starts without plans, which takes no memory.
     pub fn new() -> CurvePlans {
         CurvePlans { plans: None }
     }
 
-    // The coupons of helpers over a calendar from a day, as they are kept for a curve.
+    // Returns the kept coupons of helpers over a calendar from a day, for a curve.
     pub(crate) fn helpers_of(
         &self,
         owner: ObjId,
@@ -89,7 +89,7 @@ impl CurvePlans {
         }
     }
 
-    // Keeps a curve's coupons from a day, where they are not kept yet. What memory is wanting for is not kept.
+    // Keeps a curve's coupons from a day, if they are not kept yet and there is memory.
     pub(crate) fn keep(&mut self, alloc: Global, owner: ObjId, terms: &CurveTerms, reference: Day)
         requires { All IsHelper terms.now.helpers }
     {
@@ -105,7 +105,7 @@ impl CurvePlans {
     }
 }
 
-// The same among plans.
+// Returns the same from a list of plans.
 fn helpers_in<'a>(
     plans: &'a [OwnPlan],
     owner: ObjId,
@@ -121,7 +121,7 @@ fn helpers_in<'a>(
     helpers_from(&plans[at].plan, calendar, reference)
 }
 
-// The coupons of a plan, where it is one over a calendar from a day.
+// Returns the coupons of a plan, if it is one over a calendar from a day.
 fn helpers_from<'a>(
     plan: &'a CurvePlan,
     calendar: &Calendar,
@@ -156,7 +156,7 @@ fn keep_in(
     }
 }
 
-// Puts a plan at its place: over that of its own curve, over another where no more are kept, and else between the others.
+// Puts a plan at its place: over that of its own curve, over another if no more are kept, and else between the others.
 fn put(plans: &mut Vec<OwnPlan>, at: usize, own: OwnPlan)
     requires { at ≤ length plans.old.items }
 {
@@ -170,26 +170,26 @@ fn put(plans: &mut Vec<OwnPlan>, at: usize, own: OwnPlan)
     }
 }
 
-// How many plans are of curves of lower numbers.
+// Returns how many plans are of curves with lower numbers.
 fn place_of(plans: &[OwnPlan], owner: ObjId) -> usize
     ensures { result ≤ length plans.now }
 {
     plans.partition_point(|own: &OwnPlan| own.owner < owner)
 }
 
-// Whether a plan of these terms from this day is kept at a place. Any answer will do.
+// Returns whether a plan of these terms from this day is at a place. Any result is right.
 fn is_kept(plans: &[OwnPlan], at: usize, owner: ObjId, terms: &CurveTerms, reference: Day) -> bool {
     at < plans.len() && plans[at].owner == owner && is_plan_of(&plans[at].plan, terms, reference)
 }
 
-// Whether a plan is one of these terms from this day. Any answer will do.
+// Returns whether a plan is one of these terms from this day. Any result is right.
 fn is_plan_of(plan: &CurvePlan, terms: &CurveTerms, reference: Day) -> bool {
     plan.reference == reference
         && is_same(&plan.calendar, &terms.cal)
         && are_of(&plan.helpers, terms.helpers.items())
 }
 
-// Whether plans are those of helpers in their order. Any answer will do.
+// Returns whether plans are those of helpers in order. Any result is right.
 fn are_of(plans: &[HelperPlan], helpers: &[Helper]) -> bool {
     if plans.len() != helpers.len() {
         return false;
@@ -202,7 +202,7 @@ fn are_of(plans: &[HelperPlan], helpers: &[Helper]) -> bool {
     true
 }
 
-// Whether two helpers are the same.
+// Returns whether two helpers are equal.
 fn is_same_helper(one: &Helper, other: &Helper) -> bool
     ensures { result ≡ true → one.now ≡ other.now }
 {
@@ -212,42 +212,42 @@ fn is_same_helper(one: &Helper, other: &Helper) -> bool
     are_all(tenors, days, rest)
 }
 
-// Whether all three hold.
+// Returns whether all three are true.
 fn are_all(first: bool, second: bool, third: bool) -> bool
     ensures { result ≡ true → (first ≡ true) × (second ≡ true) × (third ≡ true) }
 {
     first && second && third
 }
 
-// Whether two helpers run as long and pay as often.
+// Returns whether two helpers have equal tenors and frequencies.
 fn same_tenors(one: &Helper, other: &Helper) -> bool
     ensures { result ≡ true → (one.now.tenor ≡ other.now.tenor) × (one.now.every ≡ other.now.every) }
 {
     same_tenor(one.tenor, other.tenor) && same_period(one.every, other.every)
 }
 
-// Whether the days of two helpers go by the same rules.
+// Returns whether two helpers have equal rules for days.
 fn same_days(one: &Helper, other: &Helper) -> bool
     ensures { result ≡ true → (one.now.conv ≡ other.now.conv) × (one.now.eom ≡ other.now.eom) }
 {
     one.conv == other.conv && one.eom == other.eom
 }
 
-// Whether two helpers count days alike and have the same quote.
+// Returns whether two helpers have equal day counters and the same quote.
 fn same_rest(one: &Helper, other: &Helper) -> bool
     ensures { result ≡ true → (one.now.counter ≡ other.now.counter) × (one.now.quote ≡ other.now.quote) }
 {
     one.counter == other.counter && one.quote == other.quote
 }
 
-// Whether two tenors are the same.
+// Returns whether two tenors are equal.
 fn same_tenor(one: Tenor, other: Tenor) -> bool
     ensures { result ≡ true → one ≡ other }
 {
     one == other
 }
 
-// Whether two periods are the same, or there is neither.
+// Returns whether two periods are equal, or there is neither.
 fn same_period(one: Option<Tenor>, other: Option<Tenor>) -> bool
     ensures { result ≡ true → one ≡ other }
 {
@@ -258,7 +258,7 @@ fn same_period(one: Option<Tenor>, other: Option<Tenor>) -> bool
     }
 }
 
-// Whether two calendars are known to be the same: of those that list days or have parts none is.
+// Returns whether two calendars are known to be equal. Those that list days or have parts are not compared.
 fn is_same(one: &Calendar, other: &Calendar) -> bool
     ensures { result ≡ true → one.now ≡ other.now }
 {
@@ -270,7 +270,7 @@ fn is_same(one: &Calendar, other: &Calendar) -> bool
     }
 }
 
-/// The coupons that are kept of a helper at a place, where it is the same helper.
+/// Returns the kept coupons of a helper at a place, if they are of an equal helper.
 pub(crate) fn kept_coupons<'a>(
     plans: &'a [HelperPlan],
     at: usize,
@@ -290,7 +290,7 @@ pub(crate) fn kept_coupons<'a>(
     }
 }
 
-// The coupons in a plan.
+// Returns the coupons in a plan.
 fn coupons_in(plan: &HelperPlan) -> Option<&[Coupon]>
     ensures { (calendar : CalendarValue) (reference : ℤ) → IsPlan calendar reference plan.now
         → IfSome result (λ coupons. AreKept calendar reference plan.now.helper coupons.now) }
@@ -301,7 +301,7 @@ fn coupons_in(plan: &HelperPlan) -> Option<&[Coupon]>
     }
 }
 
-// The plan of terms from a day.
+// Makes the plan of terms from a day.
 fn plan_of(alloc: Global, terms: &CurveTerms, reference: Day) -> Result<CurvePlan, AllocError>
     requires { All IsHelper terms.now.helpers }
 {
@@ -314,7 +314,7 @@ fn plan_of(alloc: Global, terms: &CurveTerms, reference: Day) -> Result<CurvePla
     })
 }
 
-// The plans of helpers from a day.
+// Makes the plans of helpers from a day.
 fn helper_plans(
     alloc: Global,
     calendar: &Calendar,
@@ -331,7 +331,7 @@ fn helper_plans(
     Ok(plans)
 }
 
-// The plan of a helper from a day.
+// Makes the plan of a helper from a day.
 fn helper_plan(alloc: Global, calendar: &Calendar, reference: Day, helper: &Helper) -> HelperPlan
     requires { IsHelper helper.now }
     ensures { IsPlan calendar.now reference result }
@@ -342,7 +342,7 @@ fn helper_plan(alloc: Global, calendar: &Calendar, reference: Day, helper: &Help
     }
 }
 
-// The coupons of a helper from a day; none where it is refused, and where memory is wanting.
+// Returns the coupons of a helper from a day. None if it is refused, or memory ran out.
 fn coupons_of(
     alloc: Global,
     calendar: &Calendar,
@@ -358,7 +358,7 @@ fn coupons_of(
     }
 }
 
-// The coupons of a swap from a day; none where it is refused, and where memory is wanting.
+// Returns the coupons of a swap from a day. None if it is refused, or memory ran out.
 fn swap_kept(
     alloc: Global,
     calendar: &Calendar,
@@ -377,7 +377,7 @@ fn swap_kept(
     }
 }
 
-// The coupon of a deposit from a day; none where it does not end after that, and where memory is wanting.
+// Returns the coupon of a deposit from a day. None if it does not end after that day, or memory ran out.
 fn deposit_coupon(
     alloc: Global,
     calendar: &Calendar,

@@ -12,7 +12,7 @@ use curve_points::{CurveNode, factor_between, factor_beyond_near};
 use day_number::Day;
 use fixed_amount::Discount;
 
-/// The parts of all coupons.
+/// Returns the parts of all coupons.
 #[tactic(auto, using(crate::proofs::SumLemmas::total_more, crate::proofs::SumLemmas::total_none))]
 pub(crate) fn parts_total(coupons: &[Coupon]) -> i128
     requires few { length coupons.now ≤ 801 }
@@ -27,7 +27,7 @@ pub(crate) fn parts_total(coupons: &[Coupon]) -> i128
     sum
 }
 
-/// The parts of a coupon.
+/// Returns the parts of a coupon.
 pub(crate) fn parts_in(coupon: &Coupon) -> i128
     ensures value { result ≡ coupon.now.parts }
     ensures low { pos 0 ≤ℤ result }
@@ -36,7 +36,7 @@ pub(crate) fn parts_in(coupon: &Coupon) -> i128
     i128::from(coupon.parts.0)
 }
 
-/// The units of a discount factor, for products.
+/// Returns the units of a discount factor, for products.
 pub(crate) fn wide(factor: Discount) -> i128
     ensures value { result ≡ factor }
     ensures low { pos 1 ≤ℤ result }
@@ -45,7 +45,7 @@ pub(crate) fn wide(factor: Discount) -> i128
     i128::from(factor.units())
 }
 
-/// The value of coupons that the nodes so far reach.
+/// Returns the value of the coupons within the nodes so far.
 #[tactic(auto, using(crate::proofs::SumLemmas::total_more, crate::proofs::SumLemmas::total_none))]
 pub(crate) fn settled_total(from: &CurveNode, nodes: &[CurveNode], coupons: &[Coupon]) -> i128
     requires few { length coupons.now ≤ 801 }
@@ -63,7 +63,7 @@ pub(crate) fn settled_total(from: &CurveNode, nodes: &[CurveNode], coupons: &[Co
     sum
 }
 
-// The value of a coupon where the nodes so far reach it, else 0.
+// Returns the value of a coupon within the nodes so far, else 0.
 fn settled_in(from: &CurveNode, nodes: &[CurveNode], coupon: &Coupon, guess: &mut usize) -> i128
     requires rising { IsRisingFrom from.now.day nodes.now }
     requires after { from.now.day <ℤ coupon.now.day }
@@ -75,7 +75,7 @@ fn settled_in(from: &CurveNode, nodes: &[CurveNode], coupon: &Coupon, guess: &mu
     product(parts_in(coupon), factor)
 }
 
-// The factor at a day where the nodes so far reach it, else 0.
+// Returns the factor on a day within the nodes so far, else 0.
 fn reached_factor(from: &CurveNode, nodes: &[CurveNode], day: Day, guess: &mut usize) -> i128
     requires rising { IsRisingFrom from.now.day nodes.now }
     requires after { from.now.day <ℤ day }
@@ -89,7 +89,7 @@ fn reached_factor(from: &CurveNode, nodes: &[CurveNode], day: Day, guess: &mut u
     }
 }
 
-/// The value of coupons behind the last node, with a factor at the end.
+/// Returns the value of the coupons after the last node, for a factor at the end.
 #[tactic(auto, using(crate::proofs::SumLemmas::total_more, crate::proofs::SumLemmas::total_none))]
 pub(crate) fn open_total(last: &CurveNode, end: Day, x: i128, coupons: &[Coupon]) -> i128
     requires few { length coupons.now ≤ 801 }
@@ -108,7 +108,7 @@ pub(crate) fn open_total(last: &CurveNode, end: Day, x: i128, coupons: &[Coupon]
     sum
 }
 
-// The value of a coupon behind the last node, with a factor at the end.
+// Returns the value of a coupon after the last node, for a factor at the end.
 fn open_in(last: &CurveNode, end: Day, x: i128, coupon: &Coupon) -> i128
     requires after { last.now.day <ℤ coupon.now.day }
     requires up_to { coupon.now.day ≤ℤ end }
@@ -122,7 +122,7 @@ fn open_in(last: &CurveNode, end: Day, x: i128, coupon: &Coupon) -> i128
     product(parts_in(coupon), factor)
 }
 
-// Parts times a factor.
+// Returns parts times a factor.
 fn product(parts: i128, factor: i128) -> i128
     requires parts { pos 0 ≤ℤ parts }
     requires parts_high { parts ≤ℤ pos (2 * 10 ^ 12) }

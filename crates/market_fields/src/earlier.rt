@@ -1,4 +1,4 @@
-// What stands earlier in a market.
+// The part of a market before an object's table.
 ghost use Rattle.std.specs.Prelude.{◌≡◌, IfOk};
 ghost use Rattle.desk_names.specs.Name.{IsName};
 ghost use Rattle.market_tables.specs.Given.{Gives, Says};
@@ -12,15 +12,15 @@ use market_calendars::Calendars;
 use market_tables::{MarketKind, NameText, TableFault};
 use std::alloc::Global;
 
-/// An object that was named, with its kind.
+/// A named object with its kind.
 #[derive(Clone, Copy)]
 pub struct Named {
     pub object: ObjId,
     pub kind: Kind,
 }
 
-/// The names so far, the kind of each object so far, `today` first, the terms of each object but `today`, the
-/// calendars, and the version of the market's format.
+/// The part of a market before an object's table: the names so far, the kind of each object with `today` first, the terms of each
+/// object but `today`, the calendars, and the version of the format.
 #[derive(Clone, Copy)]
 pub struct Earlier<'a> {
     pub names: &'a Names,
@@ -31,7 +31,11 @@ pub struct Earlier<'a> {
 }
 
 impl<'a> Earlier<'a> {
-    /// The object that a text names: `Name` where the text is no name, `Unknown` where it names nothing.
+    /// Returns the object of a name.
+    ///
+    /// # Errors
+    ///
+    /// `Name` where the text is no name, `Unknown` where it names no object.
     pub fn named_object(&self, text: &[u8]) -> Result<Named, TableFault>
         ensures object { Says (λ n. n) result (named_object (seen self.now) text.now) }
     {
@@ -50,7 +54,11 @@ impl<'a> Earlier<'a> {
         }
     }
 
-    /// Tests a text for a new name: `Name` where it is no name, `Taken` where it names an object.
+    /// Checks a new name.
+    ///
+    /// # Errors
+    ///
+    /// `Name` where the text is no name, `Taken` where it names an object.
     pub fn test_new(&self, text: &[u8]) -> Result<(), TableFault>
         ensures name { Says (λ _. text.now) result (new_name (seen self.now) text.now) }
         ensures form { IfOk result (λ _. IsName text.now) }
@@ -64,7 +72,11 @@ impl<'a> Earlier<'a> {
         Ok(())
     }
 
-    /// The text as a new name: `Name` where it is no name, `Taken` where it names an object, whatever the memory.
+    /// Returns the text as a new name.
+    ///
+    /// # Errors
+    ///
+    /// `Name` where the text is no name, `Taken` where it names an object, both without memory, and `NoMemory`.
     pub(crate) fn new_name(&self, alloc: Global, text: &[u8]) -> Result<NameText, TableFault>
         ensures name { Gives (λ name. name) result (new_name (seen self.now) text.now) }
         ensures told { Refuses result (new_name (seen self.now) text.now) }
@@ -73,7 +85,11 @@ impl<'a> Earlier<'a> {
         NameText::read(alloc, text)
     }
 
-    /// The terms of an object that is an index, or `Kind`.
+    /// Returns the terms of an index.
+    ///
+    /// # Errors
+    ///
+    /// `Kind` where the object is no index.
     pub fn index_terms(&self, index: ObjId) -> Result<&IndexTerms, TableFault>
         ensures { Says (λ terms. terms.now) result (index_terms (seen self.now) index) }
     {
@@ -84,7 +100,7 @@ impl<'a> Earlier<'a> {
     }
 }
 
-// The terms of an index among terms of any kind, or `Kind`.
+// Returns the terms of an index from terms of any kind, or `Kind`.
 fn index_in(terms: &Terms) -> Result<&IndexTerms, TableFault>
     ensures { Says (λ terms. terms.now) result (index_in terms.now) }
 {
@@ -102,7 +118,11 @@ fn index_in(terms: &Terms) -> Result<&IndexTerms, TableFault>
     }
 }
 
-/// The object, where it is what is wanted, or `Kind`.
+/// Returns the object, if it is of the required kind.
+///
+/// # Errors
+///
+/// `Kind` where it is not.
 pub fn served(named: Named, wanted: Wanted) -> Result<ObjId, TableFault>
     ensures object { Says (λ object. object) result (served wanted named) }
 {

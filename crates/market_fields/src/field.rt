@@ -1,4 +1,4 @@
-// What the keys of an object give, and the fields that are read in place.
+// The values of an object's keys, and readers for fields that stay in place.
 ghost use Rattle.std.specs.Prelude.{◌≡◌, Option, option_copied};
 ghost use Rattle.market_tables.specs.Fields.{field_in};
 ghost use Rattle.market_tables.specs.Given.{Says};
@@ -13,7 +13,7 @@ use market_tables::{MarketKind, NameText, TableFault};
 use schedule_rules::Rule;
 use year_parts::Counter;
 
-/// What a key of an object gives.
+/// The value of a key of an object.
 #[derive(Drop)]
 pub enum Field {
     Name(NameText),
@@ -36,10 +36,10 @@ pub enum Field {
     Sign(Sign),
 }
 
-// The fault of a field that another place gave, or that is not there and must be.
+// The fault of a field that is missing, or of another sort.
 pub(crate) const NO_FIELD: TableFault = TableFault::Kind(MarketKind::Key);
 
-// The field at a position, where the table has it.
+// Returns the field at a position, if the table has it.
 #[tactic(auto, using(market_tables::proofs::FieldPlaces::got, market_tables::proofs::FieldPlaces::past))]
 fn field_at(fields: &[Option<Field>], at: usize) -> Option<&Field>
     ensures { option_copied result ≡ field_in fields.now at }
@@ -51,7 +51,11 @@ fn field_at(fields: &[Option<Field>], at: usize) -> Option<&Field>
     }
 }
 
-/// The object at a position, where the table has one.
+/// Returns the object of a field, if the table has the field.
+///
+/// # Errors
+///
+/// `Key` where the field is of another sort, which no reader of a table gives.
 pub fn object_at(fields: &[Option<Field>], at: usize) -> Result<Option<ObjId>, TableFault>
     ensures { Says (λ found. found) result (object_in (field_in fields.now at)) }
 {
@@ -62,7 +66,11 @@ pub fn object_at(fields: &[Option<Field>], at: usize) -> Result<Option<ObjId>, T
     }
 }
 
-/// The object with its kind at a position, where the table has one.
+/// Returns the object with its kind of a field, if the table has the field.
+///
+/// # Errors
+///
+/// `Key` where the field is of another sort, which no reader of a table gives.
 pub fn named_at(fields: &[Option<Field>], at: usize) -> Result<Option<Named>, TableFault>
     ensures { Says (λ found. found) result (named_in (field_in fields.now at)) }
 {
@@ -73,7 +81,11 @@ pub fn named_at(fields: &[Option<Field>], at: usize) -> Result<Option<Named>, Ta
     }
 }
 
-/// The day at a position, where the table has one.
+/// Returns the day of a field, if the table has the field.
+///
+/// # Errors
+///
+/// `Key` where the field is of another sort, which no reader of a table gives.
 pub fn day_at(fields: &[Option<Field>], at: usize) -> Result<Option<Day>, TableFault>
     ensures { Says (λ found. found) result (day_in (field_in fields.now at)) }
 {
@@ -84,7 +96,11 @@ pub fn day_at(fields: &[Option<Field>], at: usize) -> Result<Option<Day>, TableF
     }
 }
 
-/// The number of days at a position, where the table has one.
+/// Returns the number of days of a field, if the table has the field.
+///
+/// # Errors
+///
+/// `Key` where the field is of another sort, which no reader of a table gives.
 pub fn count_at(fields: &[Option<Field>], at: usize) -> Result<Option<u8>, TableFault>
     ensures { Says (λ found. found) result (count_in (field_in fields.now at)) }
 {
@@ -95,7 +111,11 @@ pub fn count_at(fields: &[Option<Field>], at: usize) -> Result<Option<u8>, Table
     }
 }
 
-/// The rule at a position, where the table has one.
+/// Returns the rule of a field, if the table has the field.
+///
+/// # Errors
+///
+/// `Key` where the field is of another sort, which no reader of a table gives.
 pub fn rule_at(fields: &[Option<Field>], at: usize) -> Result<Option<Rule>, TableFault>
     ensures { Says (λ found. found) result (rule_in (field_in fields.now at)) }
 {
@@ -106,7 +126,11 @@ pub fn rule_at(fields: &[Option<Field>], at: usize) -> Result<Option<Rule>, Tabl
     }
 }
 
-/// The convention at a position, where the table has one.
+/// Returns the convention of a field, if the table has the field.
+///
+/// # Errors
+///
+/// `Key` where the field is of another sort, which no reader of a table gives.
 pub fn convention_at(fields: &[Option<Field>], at: usize) -> Result<Option<Convention>, TableFault>
     ensures { Says (λ found. found) result (convention_in (field_in fields.now at)) }
 {
@@ -117,7 +141,11 @@ pub fn convention_at(fields: &[Option<Field>], at: usize) -> Result<Option<Conve
     }
 }
 
-/// The flag at a position, where the table has one.
+/// Returns the flag of a field, if the table has the field.
+///
+/// # Errors
+///
+/// `Key` where the field is of another sort, which no reader of a table gives.
 pub fn flag_at(fields: &[Option<Field>], at: usize) -> Result<Option<bool>, TableFault>
     ensures { Says (λ found. found) result (flag_in (field_in fields.now at)) }
 {
@@ -128,7 +156,11 @@ pub fn flag_at(fields: &[Option<Field>], at: usize) -> Result<Option<bool>, Tabl
     }
 }
 
-/// The rate at a position, where the table has one.
+/// Returns the rate of a field, if the table has the field.
+///
+/// # Errors
+///
+/// `Key` where the field is of another sort, which no reader of a table gives.
 pub fn rate_at(fields: &[Option<Field>], at: usize) -> Result<Option<TermRate>, TableFault>
     ensures { Says (λ found. found) result (rate_in (field_in fields.now at)) }
 {
@@ -139,7 +171,11 @@ pub fn rate_at(fields: &[Option<Field>], at: usize) -> Result<Option<TermRate>, 
     }
 }
 
-/// The object at a position, or `Key`.
+/// Returns the object of a field.
+///
+/// # Errors
+///
+/// `Key` where the table lacks the field.
 pub fn needed_object(fields: &[Option<Field>], at: usize) -> Result<ObjId, TableFault>
     ensures { Says (λ said. said) result (must (object_in (field_in fields.now at))) }
 {
@@ -149,7 +185,11 @@ pub fn needed_object(fields: &[Option<Field>], at: usize) -> Result<ObjId, Table
     }
 }
 
-/// The kind of target at a position, or `Key`.
+/// Returns the kind of target of a field.
+///
+/// # Errors
+///
+/// `Key` where the table lacks the field.
 pub fn needed_target(fields: &[Option<Field>], at: usize) -> Result<HandleKind, TableFault>
     ensures { Says (λ said. said) result (must (target_in (field_in fields.now at))) }
 {
@@ -159,7 +199,11 @@ pub fn needed_target(fields: &[Option<Field>], at: usize) -> Result<HandleKind, 
     }
 }
 
-/// The day at a position, or `Key`.
+/// Returns the day of a field.
+///
+/// # Errors
+///
+/// `Key` where the table lacks the field.
 pub fn needed_day(fields: &[Option<Field>], at: usize) -> Result<Day, TableFault>
     ensures { Says (λ said. said) result (must (day_in (field_in fields.now at))) }
 {
@@ -169,7 +213,11 @@ pub fn needed_day(fields: &[Option<Field>], at: usize) -> Result<Day, TableFault
     }
 }
 
-/// The weight at a position, or `Key`.
+/// Returns the weight of a field.
+///
+/// # Errors
+///
+/// `Key` where the table lacks the field.
 pub fn needed_weight(fields: &[Option<Field>], at: usize) -> Result<i64, TableFault>
     ensures { Says (λ said. said) result (must (weight_in (field_in fields.now at))) }
 {
@@ -179,7 +227,11 @@ pub fn needed_weight(fields: &[Option<Field>], at: usize) -> Result<i64, TableFa
     }
 }
 
-/// The number of days at a position, or `Key`.
+/// Returns the number of days of a field.
+///
+/// # Errors
+///
+/// `Key` where the table lacks the field.
 pub fn needed_count(fields: &[Option<Field>], at: usize) -> Result<u8, TableFault>
     ensures { Says (λ said. said) result (must (count_in (field_in fields.now at))) }
 {
@@ -189,7 +241,11 @@ pub fn needed_count(fields: &[Option<Field>], at: usize) -> Result<u8, TableFaul
     }
 }
 
-/// The tenor at a position, or `Key`.
+/// Returns the tenor of a field.
+///
+/// # Errors
+///
+/// `Key` where the table lacks the field.
 pub fn needed_tenor(fields: &[Option<Field>], at: usize) -> Result<Tenor, TableFault>
     ensures { Says (λ said. said) result (must (tenor_in (field_in fields.now at))) }
 {
@@ -199,7 +255,11 @@ pub fn needed_tenor(fields: &[Option<Field>], at: usize) -> Result<Tenor, TableF
     }
 }
 
-/// The convention at a position, or `Key`.
+/// Returns the convention of a field.
+///
+/// # Errors
+///
+/// `Key` where the table lacks the field.
 pub fn needed_convention(fields: &[Option<Field>], at: usize) -> Result<Convention, TableFault>
     ensures { Says (λ said. said) result (must (convention_in (field_in fields.now at))) }
 {
@@ -209,7 +269,11 @@ pub fn needed_convention(fields: &[Option<Field>], at: usize) -> Result<Conventi
     }
 }
 
-/// The day counter at a position, or `Key`.
+/// Returns the day counter of a field.
+///
+/// # Errors
+///
+/// `Key` where the table lacks the field.
 pub fn needed_counter(fields: &[Option<Field>], at: usize) -> Result<Counter, TableFault>
     ensures { Says (λ said. said) result (must (counter_in (field_in fields.now at))) }
 {
@@ -219,7 +283,11 @@ pub fn needed_counter(fields: &[Option<Field>], at: usize) -> Result<Counter, Ta
     }
 }
 
-/// The notional at a position, or `Key`.
+/// Returns the notional of a field.
+///
+/// # Errors
+///
+/// `Key` where the table lacks the field.
 pub fn needed_notional(fields: &[Option<Field>], at: usize) -> Result<Notional, TableFault>
     ensures { Says (λ said. said) result (must (notional_in (field_in fields.now at))) }
 {
@@ -229,7 +297,11 @@ pub fn needed_notional(fields: &[Option<Field>], at: usize) -> Result<Notional, 
     }
 }
 
-/// The rate at a position, or `Key`.
+/// Returns the rate of a field.
+///
+/// # Errors
+///
+/// `Key` where the table lacks the field.
 pub fn needed_rate(fields: &[Option<Field>], at: usize) -> Result<TermRate, TableFault>
     ensures { Says (λ said. said) result (must (rate_in (field_in fields.now at))) }
 {
@@ -239,7 +311,11 @@ pub fn needed_rate(fields: &[Option<Field>], at: usize) -> Result<TermRate, Tabl
     }
 }
 
-/// The sign at a position, or `Key`.
+/// Returns the sign of a field.
+///
+/// # Errors
+///
+/// `Key` where the table lacks the field.
 pub fn needed_sign(fields: &[Option<Field>], at: usize) -> Result<Sign, TableFault>
     ensures { Says (λ said. said) result (must (sign_in (field_in fields.now at))) }
 {
@@ -249,7 +325,11 @@ pub fn needed_sign(fields: &[Option<Field>], at: usize) -> Result<Sign, TableFau
     }
 }
 
-/// The calendar at a position, or `Key`.
+/// Returns the calendar of a field.
+///
+/// # Errors
+///
+/// `Key` where the table lacks the field.
 pub fn needed_calendar(fields: &[Option<Field>], at: usize) -> Result<&Calendar, TableFault>
     ensures { Says (λ cal. cal.now) result (must (calendar_in (field_in fields.now at))) }
 {

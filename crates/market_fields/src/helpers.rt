@@ -1,4 +1,4 @@
-// The helpers of a curve, and what every place says.
+// The helpers of a curve, and the value of every place.
 ghost use Rattle.std.specs.Prelude.{◌≡◌, ◌≤◌, Option, map, false};
 ghost use Rattle.toml.specs.View.{view};
 ghost use Rattle.market_tables.specs.Given.{Gives, Says};
@@ -20,7 +20,7 @@ use market_tables::{
 use std::alloc::Global;
 use toml::Value;
 
-/// The most helpers of a curve.
+/// The greatest number of helpers of a curve.
 const MOST_HELPERS: usize = 64;
 
 impl<'a> Kinds for RowReader<'a> {
@@ -51,7 +51,7 @@ struct HelperElement<'a> {
     row: RowReader<'a>,
 }
 
-// A helper that pays every so often, from its fields; its convention stands at a position and what follows behind it.
+// Returns a helper with this frequency, from its fields. Its convention is at position `at`, and the rest follows.
 fn helper_of(
     fields: &[Option<Field>],
     every: Option<Tenor>,
@@ -75,7 +75,7 @@ fn helper_of(
     })
 }
 
-// A helper of a kind from its fields.
+// Returns a helper of a kind from its fields.
 fn helper_made(kind: HelperKind, fields: &[Option<Field>]) -> Result<Helper, TableFault>
     ensures { Says (λ helper. helper) result (helper_made kind fields.now) }
 {
@@ -102,7 +102,7 @@ impl<'a> Element for HelperElement<'a> {
     }
 }
 
-// Refuses no helpers, or too many.
+// Returns the helpers if there are 1 to 64, or `Parts`.
 fn counted(helpers: HelperList) -> Result<HelperList, TableFault>
     ensures { Says (λ helpers. helpers) result (counted helpers) }
 {
@@ -121,7 +121,11 @@ fn helpers_field(alloc: Global, earlier: Earlier<'_>, value: &Value) -> Result<F
     Ok(Field::Helpers(counted(helpers)?))
 }
 
-/// What the value in a place says, or its fault.
+/// Returns the field for the value of a place.
+///
+/// # Errors
+///
+/// The fault of the value, or `NoMemory`.
 pub fn place_field(
     alloc: Global,
     earlier: Earlier<'_>,

@@ -1,4 +1,4 @@
-// The kinds of objects and their keys, those of version 2 among them.
+// The kinds of objects and their keys, with those of version 2.
 ghost use Rattle.std.specs.Prelude.{◌≡◌, map};
 ghost use Rattle.market_tables.specs.Table.{listed};
 ghost use Rattle.market_fields.specs.Keys as keys;
@@ -31,16 +31,16 @@ pub enum HelperKind {
     Swap,
 }
 
-/// What a key of an object takes.
+/// The value that a key of an object takes.
 #[derive(Clone, Copy)]
 pub enum ObjectPlace {
     /// A new name.
     NewName,
-    /// The name of an object that is what is wanted.
+    /// The name of an object of the required kind.
     Object(Wanted),
-    /// The name of any object, which the table's own making judges.
+    /// The name of any object. The table checks its kind.
     AnyObject,
-    /// `quote` or `curve`, for what a handle stands.
+    /// `quote` or `curve`, the target of a handle.
     Target,
     /// A day.
     Day,
@@ -68,7 +68,7 @@ pub enum ObjectPlace {
     Counter,
     /// A notional above 0, up to 10^18 units.
     Notional,
-    /// A rate of at most 10 either way.
+    /// A rate of at most 10 in size.
     Rate,
     /// `pay` or `receive`, for the fixed leg of a swap.
     Leg,
@@ -91,7 +91,7 @@ const KINDS: [ObjectKind; 12] = [
     ObjectKind::Fra,
 ];
 
-// The keys of a curve.
+// Returns the keys of a curve.
 fn curve_keys() -> &'static [Key<KeyPresence, ObjectPlace>]
     ensures { map listed result.now ≡ keys.keys_of ObjectKind.Curve }
 {
@@ -104,7 +104,7 @@ fn curve_keys() -> &'static [Key<KeyPresence, ObjectPlace>]
     ]
 }
 
-// The keys of an index.
+// Returns the keys of an index.
 fn index_keys() -> &'static [Key<KeyPresence, ObjectPlace>]
     ensures { map listed result.now ≡ keys.keys_of ObjectKind.Index }
 {
@@ -124,7 +124,7 @@ fn index_keys() -> &'static [Key<KeyPresence, ObjectPlace>]
     ]
 }
 
-// The keys of a bond.
+// Returns the keys of a bond.
 fn bond_keys() -> &'static [Key<KeyPresence, ObjectPlace>]
     ensures { map listed result.now ≡ keys.keys_of ObjectKind.Bond }
 {
@@ -162,7 +162,7 @@ fn bond_keys() -> &'static [Key<KeyPresence, ObjectPlace>]
     ]
 }
 
-// The keys of a swap.
+// Returns the keys of a swap.
 fn swap_keys() -> &'static [Key<KeyPresence, ObjectPlace>]
     ensures { map listed result.now ≡ keys.keys_of ObjectKind.Swap }
 {
@@ -201,7 +201,7 @@ fn swap_keys() -> &'static [Key<KeyPresence, ObjectPlace>]
     ]
 }
 
-// The keys of a forward rate agreement.
+// Returns the keys of a forward rate agreement.
 fn forward_keys() -> &'static [Key<KeyPresence, ObjectPlace>]
     ensures { map listed result.now ≡ keys.keys_of ObjectKind.Fra }
 {
@@ -244,14 +244,14 @@ impl ObjectKind {
         }
     }
 
-    /// The kind with this word.
+    /// Returns the kind with this word.
     pub fn of_word(word: &str) -> Option<ObjectKind>
         ensures { result ≡ keys.kind_of word.now }
     {
         KINDS.iter().copied().find(|kind| kind.word() == word)
     }
 
-    /// The keys of a kind, in listed order.
+    /// Returns the keys of a kind, in listed order.
     pub fn keys(self) -> &'static [Key<KeyPresence, ObjectPlace>]
         ensures { map listed result.now ≡ keys.keys_of self }
     {
@@ -313,7 +313,7 @@ impl ObjectKind {
 }
 
 impl HelperKind {
-    /// The kind with this word.
+    /// Returns the kind with this word.
     pub fn of_word(word: &str) -> Option<HelperKind>
         ensures { result ≡ keys.helper_kind_of word.now }
     {
@@ -324,7 +324,7 @@ impl HelperKind {
         }
     }
 
-    // The keys of a kind, in listed order.
+    // Returns the keys of a kind, in listed order.
     pub(crate) fn keys(self) -> &'static [Key<Presence, ObjectPlace>]
         ensures { map listed result.now ≡ keys.helper_keys_of self }
     {
@@ -356,7 +356,7 @@ impl HelperKind {
     }
 }
 
-// The keys of a composite's part.
+// Returns the keys of a composite's part.
 pub(crate) fn part_keys() -> &'static [Key<Presence, ObjectPlace>]
     ensures { map listed result.now ≡ keys.part_keys }
 {

@@ -1,7 +1,14 @@
-//! The keys of every kind of object in a market file, and what their values say over what stands earlier in the market.
+//! The keys of every kind of object in a market file, and the values that they take.
 //!
-//! `Version`, `ObjectKind`, `ObjectPlace`, `KeyPresence`; `Earlier`, `Named`, `served`; `place_field`, `Field`, `Notional`,
-//! `TermRate`, `Sign`; and readers by position for the fields of each sort: `_at` where one may be missing, `needed_` where not.
+//! `ObjectKind` has the keys of a kind, `ObjectPlace` what a key takes, `KeyPresence` when it is required, `Version` the version of
+//! the format. `Earlier` is the market before a table, and `place_field` reads a value to a `Field` (`Notional`, `TermRate`, `Sign`,
+//! `Named`). Readers by position end a table's work: `_at` where a key may be missing, `needed_` where it may not.
+//!
+//! ```text
+//! let fields = fields_of(..)?;                    // by entry_of of market_tables
+//! let start = needed_day(&fields, 3)?;
+//! let engine = object_at(&fields, 6)?;            // None without the key
+//! ```
 #![tactic(auto)]
 
 mod earlier;

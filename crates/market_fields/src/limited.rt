@@ -12,10 +12,10 @@ use std::marker::Model;
 /// The greatest notional, in units of 10^-6.
 const MOST_NOTIONAL: u64 = 1_000_000_000_000_000_000;
 
-/// The greatest rate either way, in units of 10^-9.
+/// The greatest size of a rate, in units of 10^-9.
 const MOST_RATE: u64 = 10_000_000_000;
 
-/// Whether what is paid and what is received have their own signs or the opposite ones.
+/// Whether payments keep their signs or get the opposite ones.
 #[derive(Clone, Copy, PartialEq, Eq)]
 pub enum Sign {
     Plus,
@@ -26,7 +26,7 @@ impl Sign {
     ghost use Rattle.std.specs.Prelude.{◌≡◌};
     ghost use Rattle.market_fields.specs.Limited.{opposite};
 
-    /// The other sign.
+    /// Returns the other sign.
     pub fn opposite(self) -> Sign
         ensures { result ≡ opposite self }
     {
@@ -61,7 +61,11 @@ impl Notional {
     ghost use Rattle.market_tables.specs.Given.{Says};
     ghost use Rattle.market_fields.specs.Limited.{signed, notional_of};
 
-    /// The notional of a decimal with at most 6 places, above 0 and up to 10^18 units, or `Number`.
+    /// Reads a notional: a decimal with at most 6 places, above 0 and up to 10^18 units of 10^-6.
+    ///
+    /// # Errors
+    ///
+    /// `Number` where the text is none.
     pub(crate) fn read(text: &[u8]) -> Result<Notional, TableFault>
         ensures { Says (λ notional. notional) result (notional_of text.now) }
     {
@@ -72,7 +76,7 @@ impl Notional {
         Ok(Notional { units })
     }
 
-    /// The notional with a sign.
+    /// Returns the notional with a sign.
     pub fn signed(self, sign: Sign) -> Amount
         ensures value { result ≡ signed sign self }
         ensures limit { IsNotional result }
@@ -85,7 +89,7 @@ impl Notional {
     }
 }
 
-/// A rate of at most 10 either way, in units of 10^-9.
+/// A rate of at most 10 in size, in units of 10^-9.
 #[derive(Clone, Copy, PartialEq, Eq)]
 pub struct TermRate {
     units: i64,
@@ -110,7 +114,11 @@ impl TermRate {
     ghost use Rattle.market_tables.specs.Given.{Says};
     ghost use Rattle.market_fields.specs.Limited.{rate_of};
 
-    /// The rate of a decimal with at most 9 places, up to 10 either way, or `Number`.
+    /// Reads a rate: a decimal with at most 9 places, of at most 10 in size.
+    ///
+    /// # Errors
+    ///
+    /// `Number` where the text is none.
     pub fn read(text: &[u8]) -> Result<TermRate, TableFault>
         ensures { Says (λ rate. rate) result (rate_of text.now) }
     {
@@ -118,14 +126,14 @@ impl TermRate {
         Ok(TermRate { units })
     }
 
-    /// The rate 0.
+    /// Returns the rate 0.
     pub fn zero() -> TermRate
         ensures { result ≡ pos 0 }
     {
         TermRate { units: 0 }
     }
 
-    /// The rate.
+    /// Returns the rate.
     pub fn rate(self) -> Rate
         ensures value { result ≡ self }
         ensures limit { IsRate result }

@@ -1,4 +1,4 @@
-// The tables within an object's table: the parts of a composite.
+// The tables in an object's table: the parts of a composite.
 ghost use Rattle.std.specs.Prelude.{◌≡◌, Option};
 ghost use Rattle.toml.specs.View.{view};
 ghost use Rattle.market_tables.specs.Given.{Gives, Says};
@@ -14,7 +14,7 @@ use market_tables::{Element, Places, Presence, TableFault, each, row_of, table_i
 use std::alloc::Global;
 use toml::{Table, Value};
 
-// Reads the keys of tables within an object's table.
+// Reads the keys of tables in an object's table.
 #[derive(Clone, Copy)]
 pub(crate) struct RowReader<'a> {
     pub(crate) alloc: Global,
@@ -52,7 +52,7 @@ struct PartElement<'a> {
     row: RowReader<'a>,
 }
 
-// A part from its fields.
+// Returns a part from its fields.
 fn part_made(fields: &[Option<Field>]) -> Result<Part, TableFault>
     ensures { Says (λ part. part) result (part_made fields.now) }
 {
@@ -75,7 +75,7 @@ impl<'a> Element for PartElement<'a> {
     }
 }
 
-// The parts of an array of tables.
+// Returns the parts in an array of tables.
 pub(crate) fn parts_field(
     alloc: Global,
     earlier: Earlier<'_>,

@@ -1,4 +1,4 @@
-// What the places of objects take that hold no tables.
+// The values of places without tables in them.
 ghost use Rattle.std.specs.Prelude.{◌≡◌};
 ghost use Rattle.toml.specs.View.{view};
 ghost use Rattle.market_tables.specs.Given.{Gives, Says};
@@ -17,7 +17,7 @@ use std::alloc::Global;
 use toml::Value;
 use year_parts::Counter;
 
-// The fault of a word that is not one of those listed.
+// The fault of a word that is none of the choices.
 const NO_CHOICE: TableFault = TableFault::Kind(MarketKind::Choice);
 
 /// The greatest magnitude of a weight.
@@ -33,7 +33,7 @@ fn name_field(alloc: Global, earlier: Earlier<'_>, value: &Value) -> Result<Fiel
     Ok(Field::Name(earlier.new_name(alloc, text.as_bytes())?))
 }
 
-// The object that a value names.
+// Returns the object that a value names.
 fn named_at(earlier: Earlier<'_>, value: &Value) -> Result<Named, TableFault>
     ensures { Says (λ n. n) result (due.named_at (seen earlier.entry) (view value.now)) }
 {
@@ -77,7 +77,7 @@ fn calendar_field(earlier: Earlier<'_>, value: &Value) -> Result<Field, TableFau
     Ok(Field::Calendar(earlier.calendars.built(text.as_bytes())?))
 }
 
-// A number of days from 0 to 30, or `Number`.
+// Returns a number of days from 0 to 30, or `Number`.
 fn count_of(number: i64) -> Result<u8, TableFault>
     ensures { Says (λ n. n) result (due.count_of number) }
 {
@@ -96,7 +96,7 @@ fn count_field(value: &Value) -> Result<Field, TableFault>
     }
 }
 
-// The tenor of a string, or `Number`.
+// Returns the tenor of a string, or `Number`.
 fn tenor_in(value: &Value) -> Result<Tenor, TableFault>
     ensures { Says (λ tenor. tenor) result (due.tenor_in (view value.now)) }
 {
@@ -106,7 +106,7 @@ fn tenor_in(value: &Value) -> Result<Tenor, TableFault>
     }
 }
 
-// The tenor, where it is of months or years, or `Number`.
+// Returns the tenor if it is of months or years, or `Number`.
 fn months_of(tenor: Tenor) -> Result<Tenor, TableFault>
     ensures { Says (λ tenor. tenor) result (due.months_of tenor) }
 {
@@ -152,7 +152,7 @@ fn rate_field(value: &Value) -> Result<Field, TableFault>
     Ok(Field::Rate(TermRate::read(text.as_bytes())?))
 }
 
-// The kind of a handle's target.
+// Reads the kind of a handle's target.
 fn target_field(value: &Value) -> Result<Field, TableFault>
     ensures { Says (λ f. f) result (due.target_field (view value.now)) }
 {
@@ -163,7 +163,7 @@ fn target_field(value: &Value) -> Result<Field, TableFault>
     }
 }
 
-// The rule of schedules.
+// Reads the rule of schedules.
 fn rule_field(value: &Value) -> Result<Field, TableFault>
     ensures { Says (λ f. f) result (due.rule_field (view value.now)) }
 {
@@ -175,7 +175,7 @@ fn rule_field(value: &Value) -> Result<Field, TableFault>
     }
 }
 
-// The business-day convention.
+// Reads the business-day convention.
 fn convention_of(word: &str) -> Result<Convention, TableFault>
     ensures { Says (λ said. said) result (convention_of word.now) }
 {
@@ -197,7 +197,7 @@ fn convention_field(value: &Value) -> Result<Field, TableFault>
     Ok(Field::Convention(convention_of(text_in(value)?)?))
 }
 
-// The day counter.
+// Reads the day counter.
 fn counter_of(word: &str) -> Result<Counter, TableFault>
     ensures { Says (λ said. said) result (counter_of word.now) }
 {
@@ -218,7 +218,7 @@ fn counter_field(value: &Value) -> Result<Field, TableFault>
     Ok(Field::Counter(counter_of(text_in(value)?)?))
 }
 
-// The sign of a swap's fixed leg: what is paid is negative.
+// Reads the sign of a swap's fixed leg: it is negative if the leg is paid.
 fn leg_field(value: &Value) -> Result<Field, TableFault>
     ensures { Says (λ f. f) result (due.leg_field (view value.now)) }
 {
@@ -229,7 +229,7 @@ fn leg_field(value: &Value) -> Result<Field, TableFault>
     }
 }
 
-// The sign of a forward rate agreement: the short one is negative.
+// Reads the sign of a forward rate agreement: it is negative for the short side.
 fn position_field(value: &Value) -> Result<Field, TableFault>
     ensures { Says (λ f. f) result (due.position_field (view value.now)) }
 {
@@ -240,7 +240,7 @@ fn position_field(value: &Value) -> Result<Field, TableFault>
     }
 }
 
-// What a place says that holds no tables.
+// Reads the value of a place without tables in it.
 pub(crate) fn plain_field(
     alloc: Global,
     earlier: Earlier<'_>,

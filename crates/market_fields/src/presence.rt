@@ -1,4 +1,4 @@
-// When the keys of objects must stand.
+// When the keys of objects are required.
 ghost use Rattle.std.specs.Prelude.{◌≡◌};
 ghost use Rattle.toml.specs.View.{table_view};
 ghost use Rattle.market_tables.specs.Given.{Says};
@@ -7,27 +7,27 @@ ghost use Rattle.market_fields.specs.Presence.{has, has_coupon_key, start, struc
 use market_tables::{MarketKind, TableFault, value_at};
 use toml::Table;
 
-/// When a key of an object must stand in its table.
+/// When a key of an object is required in its table.
 #[derive(Clone, Copy, PartialEq, Eq)]
 pub enum KeyPresence {
     Always,
     Optional,
-    /// Where a curve has no `reference`. A curve with both or neither is refused at its place.
+    /// Required in a curve without `reference`. A curve with both or neither is refused at this key.
     Start,
-    /// May be missing. The keys of a bond are tested against each other at its place.
+    /// Optional. The keys of a bond are checked against each other at this key.
     Structure,
-    /// Where a bond has coupons.
+    /// Required in a bond with coupons.
     WithCoupons,
 }
 
-/// Whether a table has a key.
+/// Returns whether a table has a key.
 pub(crate) fn has(table: &Table, word: &str) -> bool
     ensures { result ≡ has word.now (table_view table.now) }
 {
     value_at(table, word).is_some()
 }
 
-// Whether a table has a key that only a bond with coupons has.
+// Returns whether a table has a key that only a bond with coupons has.
 fn has_coupon_key(table: &Table) -> bool
     ensures { result ≡ has_coupon_key (table_view table.now) }
 {
@@ -70,7 +70,11 @@ fn structure(table: &Table) -> Result<bool, TableFault>
 }
 
 impl KeyPresence {
-    /// Whether the key must stand in the table, or the fault `Key` that the table's structure has there.
+    /// Returns whether the key is required in the table.
+    ///
+    /// # Errors
+    ///
+    /// `Key` where the table's keys contradict each other.
     pub fn required(self, table: &Table) -> Result<bool, TableFault>
         ensures { Says (λ must. must) result (required self (table_view table.now)) }
     {

@@ -1,4 +1,4 @@
-// The fields that are taken out.
+// Takes values out of fields.
 ghost use Rattle.std.specs.Prelude.{◌≡◌, Option};
 ghost use Rattle.market_tables.specs.Given.{Says};
 ghost use Rattle.market_fields.specs.Field.{must, name_in, parts_in, calendar_in, helpers_in};
@@ -9,7 +9,11 @@ use desk_terms::{HelperList, PartList};
 use holiday_calendars::Calendar;
 use market_tables::{NameText, TableFault};
 
-/// The name of a field, or `Key`.
+/// Takes the name out of a field.
+///
+/// # Errors
+///
+/// `Key` where the table lacks the field.
 pub fn taken_name(field: Option<Field>) -> Result<NameText, TableFault>
     ensures { Says (λ name. name) result (must (name_in field)) }
 {
@@ -19,7 +23,11 @@ pub fn taken_name(field: Option<Field>) -> Result<NameText, TableFault>
     }
 }
 
-/// The calendar of a field, or `Key`.
+/// Takes the calendar out of a field.
+///
+/// # Errors
+///
+/// `Key` where the table lacks the field.
 pub fn taken_calendar(field: Option<Field>) -> Result<Calendar, TableFault>
     ensures { Says (λ calendar. calendar) result (must (calendar_in field)) }
 {
@@ -29,7 +37,11 @@ pub fn taken_calendar(field: Option<Field>) -> Result<Calendar, TableFault>
     }
 }
 
-/// The helpers of a field, or `Key`.
+/// Takes the helpers out of a field.
+///
+/// # Errors
+///
+/// `Key` where the table lacks the field.
 pub fn taken_helpers(field: Option<Field>) -> Result<HelperList, TableFault>
     ensures { Says (λ helpers. helpers) result (must (helpers_in field)) }
 {
@@ -39,7 +51,11 @@ pub fn taken_helpers(field: Option<Field>) -> Result<HelperList, TableFault>
     }
 }
 
-/// The parts of a field, where there is one.
+/// Takes the parts out of a field, if the table has it.
+///
+/// # Errors
+///
+/// `Key` where the field is of another sort, which no reader of a table gives.
 pub fn taken_parts(field: Option<Field>) -> Result<Option<PartList>, TableFault>
     ensures { Says (λ found. found) result (parts_in field) }
 {

@@ -11,13 +11,13 @@ use toml::Table;
 /// A version of the format of markets.
 #[derive(Clone, Copy, PartialEq, Eq)]
 pub enum Version {
-    /// Without payment lags, and without curves that have a reference day of their own.
+    /// Without payment lags, and without curves that have their own reference day.
     One,
     /// With both.
     Two,
 }
 
-// The kind of a table, where it says one that there is.
+// Returns the kind that a table names, if there is such a kind.
 fn kind_there(table: &Table) -> Option<ObjectKind>
     ensures { result ≡ kind_there (table_view table.now) }
 {
@@ -25,7 +25,7 @@ fn kind_there(table: &Table) -> Option<ObjectKind>
     ObjectKind::of_word(value.as_str()?)
 }
 
-// Whether a table has a key that its kind, which is this one, has in version 2 alone.
+// Returns whether a table of this kind has a key that only version 2 has.
 fn has_later_key(kind: ObjectKind, table: &Table) -> bool
     ensures { result ≡ has_later_key kind (table_view table.now) }
 {
@@ -44,7 +44,7 @@ fn has_later_key(kind: ObjectKind, table: &Table) -> bool
     }
 }
 
-// Whether a table has a key that its kind has in version 2 alone.
+// Returns whether a table has a key that only version 2 has.
 fn is_later(table: &Table) -> bool
     ensures { result ≡ is_later (kind_there (table_view table.now)) (table_view table.now) }
 {
@@ -58,7 +58,11 @@ impl Version {
     ghost use Rattle.market_tables.specs.Given.{Says};
     ghost use Rattle.market_fields.specs.Version.{in_version};
 
-    /// Refuses a table of version 1 with `Key` where it has a key that its kind has in version 2 alone.
+    /// Checks a table against the version.
+    ///
+    /// # Errors
+    ///
+    /// `Key` where the version is 1 and the table has a key that only version 2 has.
     pub fn test(self, table: &Table) -> Result<(), TableFault>
         ensures { Says (λ _. table_view table.now) result (in_version self (table_view table.now)) }
     {

@@ -10,7 +10,7 @@ use holiday_calendars::{Base, BaseList, Calendar, JointFault, JointRule, joint};
 use market_tables::{MarketKind, NameText, TableFault};
 use std::alloc::Global;
 
-// A copy of a single calendar.
+// Copies a single calendar.
 fn base_of(alloc: Global, calendar: Option<&NamedCalendar>) -> Result<Base, TableFault>
     ensures { Gives (λ base. base) result (base_of (option_copied calendar.entry)) }
 {
@@ -21,7 +21,7 @@ fn base_of(alloc: Global, calendar: Option<&NamedCalendar>) -> Result<Base, Tabl
     }
 }
 
-// Copies of the parts of a joint calendar.
+// Copies the parts of a joint calendar.
 fn bases_of(calendars: &Calendars, names: &[NameText]) -> Result<BaseList, TableFault>
     ensures { Gives (λ bases. bases) result (bases_of calendars.now names.now) }
 {
@@ -33,7 +33,7 @@ fn bases_of(calendars: &Calendars, names: &[NameText]) -> Result<BaseList, Table
     Ok(bases)
 }
 
-// A joint calendar of one to eight parts.
+// Makes a joint calendar of one to eight parts.
 fn joined(rule: JointRule, bases: BaseList) -> Result<Calendar, TableFault>
     ensures { Says (λ calendar. calendar) result (joined rule bases) }
 {
@@ -64,7 +64,11 @@ impl Calendars {
     ghost use Rattle.market_tables.specs.Given.{Gives};
     ghost use Rattle.market_calendars.specs.Building.{calendar_named};
 
-    /// The calendar that a text names, in a copy: `Name` where the text is no name, `Unknown` where it names nothing.
+    /// Returns a copy of the calendar of a name.
+    ///
+    /// # Errors
+    ///
+    /// `Name` where the text is no name, `Unknown` where it names no calendar, `NoMemory` where memory runs out.
     pub fn built(&self, text: &[u8]) -> Result<Calendar, TableFault>
         ensures { Gives (λ calendar. calendar) result (calendar_named self.now text.now) }
     {

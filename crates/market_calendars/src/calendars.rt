@@ -1,4 +1,4 @@
-// The calendars of a market so far, by their names.
+// The calendars of a market so far, by name.
 ghost use Rattle.std.specs.Prelude.{◌≡◌};
 ghost use Rattle.std.specs.Str.{bytes_eq};
 
@@ -12,14 +12,14 @@ use std::marker::Model;
 /// The names of the parts of a joint calendar, in order.
 pub type PartNames = Items<NameText>;
 
-/// A calendar as its table says it: a joint one names its parts, so that none is copied before it is used.
+/// A calendar as its table has it. A joint one names its parts, so that none is copied before it is used.
 #[derive(Drop)]
 pub enum NamedCalendar {
     One(Base),
     Joint { rule: JointRule, parts: PartNames },
 }
 
-/// The calendars so far. A clause sees the list of them in order, each with its name.
+/// The calendars so far. Clauses see the list of them in order, each with its name.
 #[derive(Drop)]
 pub struct Calendars {
     by_name: IndexMap<Vec<u8>, NamedCalendar>,
@@ -41,7 +41,7 @@ impl Calendars {
     ghost use Rattle.market_calendars.specs.Calendars.{named, with_calendar};
     ghost use Rattle.std.specs.Prelude.{Ok};
 
-    /// No calendars yet.
+    /// Starts without calendars.
     pub fn new(alloc: Global) -> Calendars
         ensures { result ≡ [] }
     {
@@ -51,19 +51,19 @@ impl Calendars {
         }
     }
 
-    /// The allocator that the calendars take their memory from.
+    /// Returns the allocator of the calendars.
     pub fn alloc(&self) -> Global {
         self.alloc
     }
 
-    /// The calendar of a name. Takes constant expected time in the number of calendars.
+    /// Returns the calendar of a name, in a time that does not grow with the number of calendars.
     pub fn named(&self, name: &[u8]) -> Option<&NamedCalendar>
         ensures { option_copied result ≡ named self.now name.now }
     {
         self.by_name.get(name)
     }
 
-    /// Puts a calendar behind the others, or in the place of the one of that name.
+    /// Appends a calendar, or replaces the one of that name.
     pub(crate) fn add(&mut self, name: &NameText, calendar: NamedCalendar) -> Result<(), TableFault>
         ensures { Gives (λ _. self.new) result (Ok (with_calendar self.old name.now calendar)) }
     {

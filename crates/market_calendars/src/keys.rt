@@ -15,7 +15,7 @@ pub enum CalendarKind {
     Joint,
 }
 
-/// What a key of a calendar takes.
+/// The value that a key of a calendar takes.
 #[derive(Clone, Copy, PartialEq, Eq)]
 pub enum CalendarPlace {
     /// A new name among the calendars.
@@ -51,14 +51,14 @@ impl CalendarKind {
         }
     }
 
-    // The kind with this word.
+    // Returns the kind with this word.
     pub(crate) fn of_word(word: &str) -> Option<CalendarKind>
         ensures { result ≡ kind_of word.now }
     {
         KINDS.iter().copied().find(|kind| kind.word() == word)
     }
 
-    // The keys of a kind, in listed order.
+    // Returns the keys of a kind, in listed order.
     pub(crate) fn keys(self) -> &'static [Key<Presence, CalendarPlace>]
         ensures { map listed result.now ≡ keys_of self }
     {

@@ -1,6 +1,11 @@
-//! The calendars of a market file, read table by table into a list of their own, in which each has its name.
+//! The calendars of a market file, read table by table into a list of named calendars.
 //!
-//! `Calendars`, `NamedCalendar`, `read_calendars`.
+//! `read_calendars` returns `Calendars`, in which each is a `NamedCalendar`.
+//!
+//! ```text
+//! let calendars = read_calendars(alloc, tables)?;
+//! let target = calendars.built(b"target")?;
+//! ```
 #![tactic(auto)]
 
 mod building;

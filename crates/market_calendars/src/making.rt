@@ -1,4 +1,4 @@
-// What the fields of a calendar's table make.
+// Makes calendars from the fields of their tables.
 ghost use Rattle.std.specs.Prelude.{◌≡◌, Option, false};
 ghost use Rattle.std.specs.List.{list_all};
 ghost use Rattle.market_tables.specs.Fields.{field_in};
@@ -13,7 +13,7 @@ use holiday_calendars::{Base, BespokeFault, JointRule, bespoke};
 use market_tables::{MarketKind, NameText, TableFault, take_field};
 use std::alloc::Global;
 
-// The fault of a field that is not there, or that another place gave.
+// The fault of a field that is missing, or of another sort.
 const NO_FIELD: TableFault = TableFault::Kind(MarketKind::Key);
 
 fn name_in(field: Option<Field>) -> Result<NameText, TableFault>
@@ -83,7 +83,7 @@ fn joint_of(fields: &mut Vec<Option<Field>>) -> Result<NamedCalendar, TableFault
     Ok(NamedCalendar::Joint { rule, parts })
 }
 
-// The calendar of a kind, of the fields behind its name; it takes them out.
+// Makes a calendar of a kind from the fields after its name, and takes them out.
 fn calendar_of(
     alloc: Global,
     kind: CalendarKind,
@@ -100,7 +100,7 @@ fn calendar_of(
     }
 }
 
-// The name and the calendar that a kind makes of its fields.
+// Makes the name and the calendar from the fields of a kind.
 #[tactic(auto, using(market_tables::proofs::FieldPlaces::other))]
 pub(crate) fn entry_made(
     alloc: Global,

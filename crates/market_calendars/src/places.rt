@@ -1,4 +1,4 @@
-// What the places of calendars take.
+// The values of the places of calendars.
 ghost use Rattle.std.specs.Prelude.{◌≡◌, Option};
 ghost use Rattle.toml.specs.View.{view, items_view};
 ghost use Rattle.market_tables.specs.Given.{Gives, Says};
@@ -15,10 +15,10 @@ use market_tables::{Element, MarketKind, NameText, TableFault, day_in, each, ite
 use std::alloc::Global;
 use toml::Value;
 
-/// The most parts of a joint calendar.
+/// The greatest number of parts of a joint calendar.
 pub(crate) const MOST_PARTS: usize = 8;
 
-/// What a key of a calendar gives.
+/// The value of a key of a calendar.
 #[derive(Drop)]
 pub enum Field {
     Name(NameText),
@@ -228,7 +228,7 @@ fn name_field(alloc: Global, earlier: &Calendars, value: &Value) -> Result<Field
     Ok(Field::Name(name))
 }
 
-// What a place says.
+// Reads the value of a place.
 pub(crate) fn place_field(
     alloc: Global,
     earlier: &Calendars,

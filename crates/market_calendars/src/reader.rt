@@ -71,7 +71,7 @@ impl<'a> Kinds for CalendarReader<'a> {
     }
 }
 
-// The name and the calendar that a table says.
+// Returns the name and the calendar of a table.
 fn entry_in(earlier: &Calendars, value: &Value) -> Result<(NameText, NamedCalendar), TableFault>
     ensures { Gives (λ entry. (entry.0, entry.1)) result (entry_in earlier.now (view value.now)) }
 {
@@ -92,7 +92,11 @@ impl TakesTables for Calendars {
     }
 }
 
-/// The calendars that some tables say, or the first fault with the number of its table, counted from 1.
+/// Reads tables of calendars.
+///
+/// # Errors
+///
+/// The first fault with the number of its table, from 1, or `NoMemory`.
 pub fn read_calendars(alloc: Global, items: &[Value]) -> Result<Calendars, EntryFault>
     ensures { GivesAt (λ calendars. calendars) result (calendars_in (items_view items.now)) }
 {

@@ -1,4 +1,4 @@
-// The weekdays that are holidays of a calendar of one's own.
+// The weekdays that are holidays of a custom calendar.
 ghost use Rattle.std.specs.Prelude.{◌≡◌, Option, false};
 ghost use Rattle.std.specs.List.{list_all};
 ghost use Rattle.toml.specs.View.{view};
@@ -9,7 +9,7 @@ use market_tables::{Element, MarketKind, TableFault, text_in};
 use std::marker::Model;
 use toml::Value;
 
-/// Weekdays, but not all seven. A clause sees a flag for each, the first for Monday.
+/// Weekdays, but not all seven. Clauses see a flag for each, with Monday first.
 #[derive(Clone, Copy)]
 pub struct Weekend {
     named: [bool; 7],
@@ -28,7 +28,7 @@ impl Model for Weekend {
     ghost inverse = { λ flags. record { named = flags } };
 }
 
-// The weekday of a word, counted from Monday, which is 0.
+// Returns the weekday of a word, from Monday as 0.
 fn weekday_of(text: &str) -> Option<u8>
     ensures { result ≡ weekday_of text.now }
 {
@@ -92,7 +92,7 @@ fn all_named(flags: &[bool]) -> bool
 }
 
 impl Weekend {
-    /// The weekdays of a list, or the fault `Weekend` where these are all seven.
+    /// Returns the weekdays of a list, or the fault `Weekend` where they are all seven.
     pub(crate) fn of(days: &[u8]) -> Result<Weekend, TableFault>
         ensures { Says (λ w. w) result (weekend_of (flags_of days.now)) }
     {
@@ -103,7 +103,7 @@ impl Weekend {
         Ok(Weekend { named })
     }
 
-    /// A flag for each weekday, the first for Monday.
+    /// Returns a flag for each weekday, with Monday first.
     pub(crate) fn flags(self) -> [bool; 7]
         ensures flags { result ≡ self }
         ensures open { list_all (λ named. named) self ≡ false }

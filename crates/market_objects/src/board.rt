@@ -16,10 +16,10 @@ use market_tables::{MarketKind, TableFault};
 use std::alloc::Global;
 use std::marker::Model;
 
-/// The most objects of a market, `today` among them.
+/// The greatest number of objects of a market, with `today`.
 const MOST_OBJECTS: usize = 4096;
 
-/// The objects of a market but `today`, in order of creation, each with its name and its terms.
+/// The objects of a market without `today`, in order of creation, each with its name and its terms.
 pub type MadeList = Vec<(NameId, Terms)>;
 
 /// The names, the kinds and the terms of the objects so far, the calendars, and the version of the format.
@@ -32,7 +32,7 @@ pub struct Board {
     alloc: Global,
 }
 
-// Who lets a board go calls this at each exit, and does not let its parts go one by one.
+// Each exit of an owner of a board calls this once, instead of dropping each field.
 impl Drop for Board {
     fn drop(self) {
         let Board {
@@ -58,7 +58,7 @@ impl Model for Board {
     ghost invariant = { λ b. (length b.names ≤ length b.kinds.items) × (length b.kinds.items ≤ 4096) × HaveFlowsInRange b.made.items };
 }
 
-// The number of a name among the names, which it joins where it is new.
+// Returns the number of a name, which is added if it is new.
 fn number_of(names: &mut Names, text: &[u8]) -> Result<NameId, TableFault>
     requires named { IsName text.now }
     requires room { length names.old < most_names }
@@ -86,7 +86,11 @@ impl Board {
     ghost use Rattle.market_objects.specs.Board.{started, added, HasFlowsInRange, HaveFlowsInRange};
     ghost use Rattle.market_objects.specs.Fixings.{with_fixing_of};
 
-    /// `today` alone, in a version of the format and over some calendars.
+    /// Starts with `today` alone, in a version of the format and over some calendars.
+    ///
+    /// # Errors
+    ///
+    /// `NoMemory` where memory runs out.
     pub fn start(alloc: Global, version: Version, calendars: Calendars) -> Result<Board, TableFault>
         ensures { Gives (λ board. board) result (Ok (started version calendars)) }
     {
@@ -105,12 +109,12 @@ impl Board {
         })
     }
 
-    /// The allocator that the board takes its memory from.
+    /// Returns the allocator of the board.
     pub(crate) fn alloc(&self) -> Global {
         self.alloc
     }
 
-    /// What stands so far.
+    /// Returns the market so far.
     pub(crate) fn earlier(&self) -> Earlier<'_>
         ensures { seen result ≡ self.now }
     {
@@ -123,8 +127,7 @@ impl Board {
         }
     }
 
-    /// Puts an object of a name behind the others, or refuses it with `Limit` where there are as many as there may be,
-    /// whatever the memory.
+    /// Appends an object with its name, or refuses it with `Limit` where there are 4,096 objects, which takes no memory.
     pub(crate) fn add(&mut self, name: &[u8], terms: Terms) -> Result<(), TableFault>
         requires named { IsName name.now }
         requires ranged { HasFlowsInRange terms }
@@ -140,8 +143,8 @@ impl Board {
         Ok(())
     }
 
-    /// Stores a rate of a day for an object that is an index: `Kind` where it is none, `Exists` where its day has a rate,
-    /// whatever the memory.
+    /// Stores a fixing of an index. Returns `Kind` where the object is no index and `Exists` where the day has a fixing, without
+    /// memory.
     pub(crate) fn fix(&mut self, index: ObjId, day: Day, rate: Rate) -> Result<(), TableFault>
         requires { IsRate rate }
         ensures board { Gives (λ _. self.new) result (with_fixing_of self.old index day rate) }
@@ -152,7 +155,7 @@ impl Board {
         Ok(())
     }
 
-    /// The names and the objects, `today` not among the objects.
+    /// Returns the names and the objects without `today`.
     pub fn into_parts(self) -> (Names, MadeList)
         ensures names { result.0 ≡ self.names }
         ensures made { result.1.items ≡ self.made }

@@ -23,7 +23,7 @@ use market_tables::{EntryFault, MarketKind, TableFault};
 use std::alloc::Global;
 use std::marker::Model;
 
-// Whether the record is `index,day,rate`.
+// Returns whether the record is `index,day,rate`.
 fn is_header(row: &ByteRecord) -> bool
     ensures { result ≡ is_header (fields_of row.now) }
 {
@@ -33,7 +33,7 @@ fn is_header(row: &ByteRecord) -> bool
         && field(row, 2) == b"rate".as_slice()
 }
 
-// The day of a text, or `Date`.
+// Returns the day of a text, or `Date`.
 fn day_of(text: &[u8]) -> Result<Day, TableFault>
     ensures { Says (λ day. day) result (day_of text.now) }
 {
@@ -43,7 +43,7 @@ fn day_of(text: &[u8]) -> Result<Day, TableFault>
     }
 }
 
-// Stores a rate, or `Exists` where the day has one.
+// Stores a rate, or returns `Exists` where the day has one.
 fn store(fixings: &mut Fixings, day: Day, rate: Rate) -> Result<(), TableFault>
     requires { IsRate rate }
     ensures rates { Gives (λ _. fixings.new) result (stored fixings.old day rate (fixing_on fixings.old day)) }
@@ -54,12 +54,12 @@ fn store(fixings: &mut Fixings, day: Day, rate: Rate) -> Result<(), TableFault>
     }
     match fixings.add(day, rate) {
         Ok(()) => Ok(()),
-        // The day has no rate, so that memory alone can be wanting.
+        // The day has no rate, so memory ran out.
         Err(_) => Err(TableFault::NoMemory),
     }
 }
 
-// Stores a rate for an index, or `Kind` where the terms are none.
+// Stores a rate for an index, or returns `Kind` where the terms are none of an index.
 fn fix(terms: &mut Terms, day: Day, rate: Rate) -> Result<(), TableFault>
     requires { IsRate rate }
     ensures terms { Gives (λ _. terms.new) result (fixed terms.old day rate) }
@@ -99,8 +99,7 @@ pub(crate) fn fix_at(
     }
 }
 
-// Stores the fixing that a record says: its fields are tested in their order, and then whether its day has a rate. A
-// record that is refused is refused whatever the memory.
+// Stores the fixing of a record. Its fields are checked in order, and then whether its day has a rate. A refusal takes no memory.
 fn take_fixing(board: &mut Board, row: &ByteRecord) -> Result<(), TableFault>
     ensures board { Gives (λ _. board.new) result (behind board.old (fields_of row.now)) }
     ensures told { Refuses result (behind board.old (fields_of row.now)) }
@@ -115,7 +114,7 @@ fn take_fixing(board: &mut Board, row: &ByteRecord) -> Result<(), TableFault>
     board.fix(index, day, rate.rate())
 }
 
-// A board that takes the records of fixings.
+// A board that takes records of fixings.
 #[derive(Drop)]
 struct FixingTaker {
     board: Board,
@@ -145,7 +144,11 @@ impl TakesRecords for FixingTaker {
     }
 }
 
-/// The board behind a fixings file, or the first fault with the number of its record.
+/// Reads a file of fixings into a board.
+///
+/// # Errors
+///
+/// The first fault with the number of its record, or `NoMemory`.
 pub fn read_fixings(alloc: Global, board: Board, text: &[u8]) -> Result<Board, EntryFault>
     ensures { GivesAt (λ more. more) result (behind_records is_header behind board 0 (records default_config (strip_bom text.now))) }
 {

@@ -1,7 +1,13 @@
-//! The objects of a market: those that the tables of the market say, and the quotes and the fixings of the tables beside
-//! it.
+//! The objects of a market: those of its tables, and the quotes and the fixings in the files beside it.
 //!
-//! `Board`, `MadeList`; `read_quotes`, `read_objects`, `read_fixings`.
+//! `Board` has the objects so far, `read_quotes`, `read_objects` and `read_fixings` add to it, and `MadeList` is the result.
+//!
+//! ```text
+//! let board = Board::start(alloc, Version::Two, calendars)?;
+//! let board = read_quotes(alloc, board, quotes)?;
+//! let board = read_objects(board, tables)?;
+//! let (names, made) = read_fixings(alloc, board, fixings)?.into_parts();
+//! ```
 #![tactic(auto)]
 
 mod board;

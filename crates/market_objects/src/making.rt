@@ -1,4 +1,4 @@
-// What the fields of an object's table make.
+// Makes objects from the fields of their tables.
 ghost use Rattle.std.specs.Prelude.{◌≡◌, Option, IfOk};
 ghost use Rattle.market_tables.specs.Given.{Gives, Says};
 ghost use Rattle.market_fields.specs.Earlier.{seen};
@@ -19,10 +19,10 @@ use market_instruments::{bond, forward_agreement, limit_fault, swap};
 use market_tables::{MarketKind, NameText, TableFault, take_field};
 use std::alloc::Global;
 
-/// The most parts of a composite: there are no more objects that they could be.
+/// The greatest number of parts of a composite: there are no more objects that they could be.
 const MOST_PARTS: usize = 4095;
 
-// A sum or a difference.
+// Makes a sum or a difference.
 fn derived_of(minus: bool, fields: &[Option<Field>]) -> Result<Terms, TableFault>
     ensures terms { Says (λ terms. terms) result (derived_of minus fields.now) }
     ensures range { IfOk result HasFlowsInRange }
@@ -36,7 +36,7 @@ fn derived_of(minus: bool, fields: &[Option<Field>]) -> Result<Terms, TableFault
     })
 }
 
-// What a handle may be linked to.
+// Returns the kinds that a handle may be linked to.
 fn target_wanted(target_kind: HandleKind) -> Wanted
     ensures { result ≡ target_wanted target_kind }
 {
@@ -46,7 +46,7 @@ fn target_wanted(target_kind: HandleKind) -> Wanted
     }
 }
 
-// A handle with its target, or without one.
+// Makes a handle with its target, or without one.
 fn linked(target_kind: HandleKind, to: Option<Named>) -> Result<Terms, TableFault>
     ensures terms { Says (λ terms. terms) result (linked target_kind to) }
     ensures range { IfOk result HasFlowsInRange }
@@ -74,7 +74,7 @@ fn handle_of(fields: &[Option<Field>]) -> Result<Terms, TableFault>
     linked(target_kind, named_at(fields, 2)?)
 }
 
-// The start of a curve: its settlement days or its reference day, and `Key` where it has both or neither.
+// Returns the start of a curve: its settlement days or its reference day. `Key` where it has both or neither.
 fn start_of(settlement: Option<u8>, reference: Option<Day>) -> Result<CurveStart, TableFault>
     ensures { Says (λ start. start) result (start_of settlement reference) }
 {
@@ -85,7 +85,7 @@ fn start_of(settlement: Option<u8>, reference: Option<Day>) -> Result<CurveStart
     }
 }
 
-// A curve; it takes its calendar and its helpers out of the fields.
+// Makes a curve, and takes its calendar and its helpers out of the fields.
 #[tactic(auto, using(market_tables::proofs::FieldPlaces::other))]
 fn curve_of(fields: &mut Vec<Option<Field>>) -> Result<Terms, TableFault>
     ensures terms { Says (λ terms. terms) result (curve_of fields.old.items) }
@@ -112,7 +112,7 @@ fn implied_of(fields: &[Option<Field>]) -> Result<Terms, TableFault>
     Ok(Terms::Implied { curve, reference })
 }
 
-// An index without stored rates; it takes its calendar out of the fields.
+// Makes an index without fixings, and takes its calendar out of the fields.
 fn index_of(alloc: Global, fields: &mut Vec<Option<Field>>) -> Result<Terms, TableFault>
     ensures terms { Says (λ terms. terms) result (index_of fields.old.items) }
     ensures range { IfOk result HasFlowsInRange }
@@ -152,7 +152,7 @@ fn stock_of(fields: &[Option<Field>]) -> Result<Terms, TableFault>
     Ok(stock(quote))
 }
 
-// A composite, which names no member twice. One of more parts than there may be objects names one twice.
+// Makes a composite without a member twice. One with more parts than there may be objects has a member twice.
 fn composite_of(parts: PartList) -> Result<Terms, TableFault>
     ensures terms { Says (λ terms. terms) result (composite_of parts) }
     ensures range { IfOk result HasFlowsInRange }
@@ -166,7 +166,7 @@ fn composite_of(parts: PartList) -> Result<Terms, TableFault>
     }
 }
 
-// The composite of a key that may be missing, which says no parts.
+// Makes the composite of a key that may be missing, which means no parts.
 fn parts_of(alloc: Global, field: Option<Field>) -> Result<Terms, TableFault>
     ensures terms { Says (λ terms. terms) result (parts_of field) }
     ensures range { IfOk result HasFlowsInRange }
@@ -177,7 +177,7 @@ fn parts_of(alloc: Global, field: Option<Field>) -> Result<Terms, TableFault>
     }
 }
 
-// The terms of a kind, of the fields behind the name; some are taken out.
+// Makes the terms of a kind from the fields after the name, of which it takes some out.
 fn terms_of(
     alloc: Global,
     earlier: Earlier<'_>,
@@ -203,7 +203,7 @@ fn terms_of(
     }
 }
 
-// The name and the terms that a kind makes of its fields.
+// Makes the name and the terms from the fields of a kind.
 pub(crate) fn entry_made(
     alloc: Global,
     earlier: Earlier<'_>,

@@ -17,17 +17,17 @@ use market_tables::{EntryFault, MarketKind, TableFault, decimal_of};
 use std::alloc::Global;
 use std::marker::Model;
 
-/// The greatest magnitude of a quote's value, in units of 10^-9.
+/// The greatest size of a quote's value, in units of 10^-9.
 const MOST_VALUE: u64 = 1_000_000_000_000_000_000;
 
-// Whether the record is `name,value`.
+// Returns whether the record is `name,value`.
 fn is_header(row: &ByteRecord) -> bool
     ensures { result ≡ is_header (fields_of row.now) }
 {
     row.len() == 2 && field(row, 0) == b"name".as_slice() && field(row, 1) == b"value".as_slice()
 }
 
-// A quote's value, or none where the field is empty.
+// Returns a quote's value, or none where the field is empty.
 fn value_of(text: &[u8]) -> Result<Option<Rate>, TableFault>
     ensures { Says (λ value. value) result (value_of text.now) }
 {
@@ -38,8 +38,7 @@ fn value_of(text: &[u8]) -> Result<Option<Rate>, TableFault>
     Ok(Some(Rate(units)))
 }
 
-// Makes the quote that a record says: its name is tested, which is new, and then its value. A record that is refused is
-// refused whatever the memory.
+// Makes the quote of a record. Its name is checked, which must be new, and then its value. A refusal takes no memory.
 fn take_quote(board: &mut Board, row: &ByteRecord) -> Result<(), TableFault>
     ensures board { Gives (λ _. board.new) result (behind board.old (fields_of row.now)) }
     ensures told { Refuses result (behind board.old (fields_of row.now)) }
@@ -53,7 +52,7 @@ fn take_quote(board: &mut Board, row: &ByteRecord) -> Result<(), TableFault>
     board.add(name, Terms::Quote(value))
 }
 
-// A board that takes the records of quotes.
+// A board that takes records of quotes.
 #[derive(Drop)]
 struct QuoteTaker {
     board: Board,
@@ -83,7 +82,11 @@ impl TakesRecords for QuoteTaker {
     }
 }
 
-/// The board with the quotes of a quotes file, or the first fault with the number of its record.
+/// Reads a file of quotes into a board.
+///
+/// # Errors
+///
+/// The first fault with the number of its record, or `NoMemory`.
 pub fn read_quotes(alloc: Global, board: Board, text: &[u8]) -> Result<Board, EntryFault>
     ensures { GivesAt (λ more. more) result (behind_records is_header behind board 0 (records default_config (strip_bom text.now))) }
 {

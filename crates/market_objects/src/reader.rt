@@ -73,7 +73,7 @@ impl<'a> Kinds for ObjectReader<'a> {
     }
 }
 
-// The name and the terms of the object that a table says.
+// Returns the name and the terms of the object of a table.
 fn entry_in(
     alloc: Global,
     earlier: Earlier<'_>,
@@ -100,7 +100,11 @@ impl TakesTables for Board {
     }
 }
 
-/// The board with the objects that some tables say, or the first fault with the number of its table, counted from 1.
+/// Reads tables of objects into a board.
+///
+/// # Errors
+///
+/// The first fault with the number of its table, from 1, or `NoMemory`.
 pub fn read_objects(board: Board, items: &[Value]) -> Result<Board, EntryFault>
     ensures { GivesAt (λ more. more) result (entries_from behind board 1 (items_view items.now)) }
 {

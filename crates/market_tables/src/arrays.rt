@@ -9,7 +9,7 @@ use item_lists::Items;
 use std::alloc::Global;
 use toml::Value;
 
-/// How the elements of an array are read, or how one kind of fault is looked for in each.
+/// Reads the elements of an array, or looks for one kind of fault in each.
 pub trait Element {
     ghost use Rattle.std.specs.Prelude.{◌≡◌, Result};
     ghost use Rattle.toml.specs.Data.{Data};
@@ -17,18 +17,26 @@ pub trait Element {
     ghost use Rattle.market_tables.specs.declared.fault.MarketKind.{MarketKind};
     ghost use Rattle.market_tables.specs.Given.{Gives};
 
-    /// What an element gives.
+    /// The result of an element.
     type Made: Drop;
 
-    /// What an element says, or its fault.
+    /// The result of an element, or its fault.
     ghost made: { Self → Data → Result Self.Made MarketKind };
 
-    /// What an element says, or its fault.
+    /// Reads an element.
+    ///
+    /// # Errors
+    ///
+    /// Its fault, or `NoMemory`.
     fn element(&self, value: &Value) -> Result<Self::Made, TableFault>
         ensures { Gives (λ made. made) result (made self.now (view value.now)) };
 }
 
-/// What the elements of an array say, in order, or the first fault.
+/// Returns the results of the elements of an array, in order.
+///
+/// # Errors
+///
+/// The first fault, or `NoMemory`.
 pub fn each<E: Element>(
     alloc: Global,
     reader: &E,

@@ -1,4 +1,4 @@
-// The tables of a section in order, and the faults of its entries by their numbers.
+// The tables of a section in order, and the faults of its entries with their numbers.
 ghost use Rattle.std.specs.Prelude.{◌≡◌};
 ghost use Rattle.toml.specs.View.{items_view};
 ghost use Rattle.market_tables.specs.Entries.{GivesAt, entries_from, fault_at, next_entry};
@@ -7,7 +7,7 @@ use crate::{MarketKind, TableFault};
 use thiserror::Error;
 use toml::Value;
 
-/// Why the entries of a section are not read: the first fault, with the number of its entry, or want of memory.
+/// Why the entries of a section are not read: the first fault, with the number of its entry, or out of memory.
 #[derive(Clone, Copy, Debug, Error, PartialEq, Eq)]
 pub enum EntryFault {
     #[error("{entry} {kind}")]
@@ -16,7 +16,7 @@ pub enum EntryFault {
     NoMemory,
 }
 
-/// A table's fault, with the number of its entry.
+/// Returns a table's fault with the number of its entry.
 pub fn fault_at(entry: u32, fault: TableFault) -> EntryFault
     ensures { result ≡ fault_at entry fault }
 {
@@ -26,14 +26,14 @@ pub fn fault_at(entry: u32, fault: TableFault) -> EntryFault
     }
 }
 
-/// The number after an entry's. It stays at the greatest number of 32 bits, which no file reaches.
+/// Returns the number of the next entry. It stays at 2^32 - 1, which no file reaches.
 pub fn next_entry(entry: u32) -> u32
     ensures { result ≡ next_entry entry }
 {
     entry.saturating_add(1)
 }
 
-/// What is made of the tables of a section, one by one.
+/// Takes the tables of a section, one by one.
 pub trait TakesTables {
     ghost use Rattle.std.specs.Prelude.{◌≡◌, Result};
     ghost use Rattle.toml.specs.Data.{Data};
@@ -41,15 +41,23 @@ pub trait TakesTables {
     ghost use Rattle.market_tables.specs.declared.fault.MarketKind.{MarketKind};
     ghost use Rattle.market_tables.specs.Given.{Gives};
 
-    /// What stands behind a table, or the table's first fault.
+    /// The taker after a table, or the table's first fault.
     ghost behind: { Self → Data → Result Self MarketKind };
 
-    /// Makes what a table says, or tells its first fault.
+    /// Takes a table.
+    ///
+    /// # Errors
+    ///
+    /// Its first fault, or `NoMemory`.
     fn take(&mut self, value: &Value) -> Result<(), TableFault>
         ensures { Gives (λ _. self.new) result (behind self.old (view value.now)) };
 }
 
-/// Makes what the tables of a section say, up to the first fault. The first table is entry 1.
+/// Takes the tables of a section. The first is entry 1.
+///
+/// # Errors
+///
+/// The first fault with the number of its entry, or `NoMemory`.
 pub fn take_tables<T: TakesTables>(taker: &mut T, items: &[Value]) -> Result<(), EntryFault>
     ensures { GivesAt (λ _. taker.new) result (entries_from T.behind taker.old 1 (items_view items.now)) }
 {

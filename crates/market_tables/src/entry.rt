@@ -1,4 +1,4 @@
-// The steps of a table that has kinds.
+// Reads tables that have kinds.
 ghost use Rattle.std.specs.Prelude.{◌≡◌, Option, option_map, map};
 ghost use Rattle.toml.specs.View.{view, table_view};
 ghost use Rattle.toml.specs.Data.{as_str};
@@ -10,7 +10,7 @@ use crate::{Kinds, MarketKind, TableFault};
 use std::alloc::Global;
 use toml::{Table, Value};
 
-// The kind that a value names.
+// Returns the kind that a value names.
 fn kind_at<R: Kinds>(value: Option<&Value>) -> Result<R::Kind, TableFault>
     ensures { Says (λ k. k) result (kind_at R.kind_of (option_map (λ v. view v.now) value.entry)) }
 {
@@ -26,14 +26,18 @@ fn kind_at<R: Kinds>(value: Option<&Value>) -> Result<R::Kind, TableFault>
     }
 }
 
-// The kind of a table.
+// Returns the kind of a table.
 fn kind_in<R: Kinds>(table: &Table) -> Result<R::Kind, TableFault>
     ensures { Says (λ k. k) result (kind_in R.kind_of (table_view table.now)) }
 {
     kind_at::<R>(value_at(table, "kind"))
 }
 
-/// The kind and the fields of a table, or its first fault: the kind's, an unlisted key, a key's in listed order.
+/// Returns the kind and the fields of a table.
+///
+/// # Errors
+///
+/// Its first fault: that of its kind, `Key` for an unlisted key, then those of its keys in listed order. Or `NoMemory`.
 pub fn entry_of<R: Kinds>(
     alloc: Global,
     reader: &R,

@@ -1,4 +1,4 @@
-// What is wrong with a market.
+// The faults of a market.
 ghost use Rattle.std.specs.Prelude.{◌≡◌};
 ghost use Rattle.market_tables.specs.MarketKind.{kind_text};
 
@@ -6,29 +6,29 @@ use std::alloc::{AllocError, AllocFailed};
 use std::fmt;
 use thiserror::Error;
 
-/// What is wrong with an entry of a market: the first of a table's steps that fails, and within one key the first in
-/// this order. (This project's profile.)
+/// The fault of an entry of a market: that of the first step that fails, and within one key the first of these. (This project's
+/// profile.)
 #[derive(Clone, Copy, Debug, PartialEq, Eq)]
 pub enum MarketKind {
-    /// A file of the section is over 8,388,608 bytes.
+    /// A file of the section has more than 8,388,608 bytes.
     TooLong,
     /// The text is no TOML, or no UTF-8.
     Toml,
     /// A key is missing, is not listed for its kind of table, or has a value of another TOML type.
     Key,
-    /// A text in a name's place is no name.
+    /// A text in the place of a name is no name.
     Name,
     /// The new name is taken in its list, or is `today`.
     Taken,
-    /// A name stands for nothing earlier.
+    /// A name names nothing earlier.
     Unknown,
-    /// What is named is of a kind that the place does not take.
+    /// The named object is of a kind that the key does not take.
     Kind,
-    /// A decimal, an integer or a tenor is not in its form or its limit.
+    /// A decimal, an integer or a tenor has a wrong form or is beyond its limit.
     Number,
-    /// A text in a day's place is no day in range.
+    /// A text in the place of a day is no day in range.
     Date,
-    /// A word is not one of those listed.
+    /// A word is none of the choices.
     Choice,
     /// All seven weekdays are holidays.
     Weekend,
@@ -36,22 +36,22 @@ pub enum MarketKind {
     Parts,
     /// The schedule is refused.
     Plan,
-    /// A payment or fixing day of a leg leaves the range of days.
+    /// A payment or fixing day of a leg is out of range.
     Range,
     /// An instrument has too many flows.
     Flows,
-    /// A fixing's day is stored already.
+    /// The day has a fixing already.
     Exists,
-    /// The first record is not the stated one.
+    /// The first record is not the required header.
     Header,
-    /// A record has another number of fields.
+    /// A record has more or fewer fields than the header.
     Record,
-    /// One object more than there may be is made.
+    /// The market has more than 4,096 objects.
     Limit,
 }
 
 impl MarketKind {
-    // The word that it prints as.
+    // Returns the word that it prints as.
     fn word(self) -> &'static str
         ensures { result.now ≡ kind_text self }
     {
@@ -91,7 +91,7 @@ impl fmt::Display for MarketKind {
     }
 }
 
-/// Why one table or one record is not read: its first fault, or want of memory.
+/// Why one table or one record is not read: its first fault, or out of memory.
 #[derive(Clone, Copy, Debug, Error, PartialEq, Eq)]
 pub enum TableFault {
     #[error("{0}")]

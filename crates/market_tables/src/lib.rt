@@ -1,10 +1,15 @@
-//! The tables of a market file: the keys of each kind of table stand as data, and the steps of reading a table, an
-//! array of tables and a section are said once, for whatever the places of the keys take.
+//! The tables of a market file. The keys of each kind of table are data, and the steps of reading a table, an array of tables and a
+//! section are written once, for any keys.
 //!
-//! `Key`, `Presence`, `Places`, `Kinds`; `row_of`, `entry_of`, `value_at`, `take_field`; `Element`, `each`;
-//! `TakesTables`, `take_tables`; `text_in`, `integer_in`, `day_in`, `items_in`, `tables_in`, `table_in`, `decimal_of`;
-//! `NameText`; `MarketKind`, `TableFault`, `EntryFault`, `fault_at`, `next_entry`. Functions whose names end in `law` do
+//! `Key` and `Presence` are the data, `Places` and `Kinds` the readers. `row_of` and `entry_of` read a table, `each` an array by
+//! an `Element`, `take_tables` a section by `TakesTables`. Values: `text_in`, `integer_in`, `day_in`, `items_in`, `tables_in`,
+//! `table_in`, `decimal_of`, `NameText`. Faults: `MarketKind`, `TableFault`, `EntryFault`. Functions whose names end in `law` do
 //! nothing: their contracts are what is proved of the definitions.
+//!
+//! ```text
+//! let (kind, mut fields) = entry_of(alloc, &reader, table)?;
+//! let name = take_field(&mut fields, 0);
+//! ```
 #![tactic(auto)]
 
 mod arrays;

@@ -1,4 +1,4 @@
-// A text that is a name.
+// Texts that are names.
 ghost use Rattle.std.specs.Prelude.{◌≡◌};
 ghost use Rattle.desk_names.specs.Name.{IsName};
 ghost use Rattle.market_tables.specs.Given.{Gives};
@@ -9,12 +9,12 @@ use desk_names::is_name;
 use std::alloc::Global;
 use std::marker::Model;
 
-/// A text that was found to be a name. A clause sees its bytes.
+/// A text that is a name. Clauses see its bytes.
 pub struct NameText {
     text: Vec<u8>,
 }
 
-// One call at each exit of who lets it go.
+// Each exit of an owner calls this once.
 impl Drop for NameText {
     fn drop(self) {
         let NameText { text: _ } = self;
@@ -33,7 +33,11 @@ impl Model for NameText {
 }
 
 impl NameText {
-    /// The name that a text is, or the fault `Name`.
+    /// Copies a text that is a name.
+    ///
+    /// # Errors
+    ///
+    /// `Name` where it is none, or `NoMemory`.
     pub fn read(alloc: Global, text: &[u8]) -> Result<NameText, TableFault>
         ensures { Gives (λ name. name) result (name_of text.now) }
     {
@@ -44,7 +48,7 @@ impl NameText {
         Ok(NameText { text })
     }
 
-    /// The bytes of the name.
+    /// Returns the bytes of the name.
     pub fn text(&self) -> &[u8]
         ensures text { result.now ≡ self.now }
         ensures named { IsName result.now }

@@ -1,8 +1,8 @@
-// When a key must stand in its table.
+// When a key is required in its table.
 ghost use Rattle.std.specs.Prelude.{◌≡◌};
 ghost use Rattle.market_tables.specs.Presence.{must_stand};
 
-/// When a key must stand in a table of which no other key decides it.
+/// When a key is required, where no other key decides it.
 #[derive(Clone, Copy, PartialEq, Eq)]
 pub enum Presence {
     Always,
@@ -10,7 +10,7 @@ pub enum Presence {
 }
 
 impl Presence {
-    /// Whether the key must stand in the table.
+    /// Returns whether the key is required.
     pub fn must_stand(self) -> bool
         ensures { result ≡ must_stand self }
     {

@@ -1,4 +1,4 @@
-// The steps of a table.
+// Reads the keys of a table.
 ghost use Rattle.std.specs.Prelude.{◌≡◌, Option, option_map, map};
 ghost use Rattle.toml.specs.View.{view, table_view};
 ghost use Rattle.toml.specs.Data.{get_member};
@@ -9,14 +9,14 @@ use crate::{Key, MarketKind, Places, TableFault};
 use std::alloc::Global;
 use toml::{Table, Value};
 
-/// The value at a key of a table.
+/// Returns the value of a key.
 pub fn value_at<'a>(table: &'a Table, word: &str) -> Option<&'a Value>
     ensures { option_map (λ v. view v.now) result ≡ get_member word.now (table_view table.now) }
 {
     table.get(word)
 }
 
-// The field of one key, which must stand there or may be missing.
+// Returns the field of one key, which is required or optional.
 fn field_at<R: Places>(
     reader: &R,
     must: bool,
@@ -32,7 +32,7 @@ fn field_at<R: Places>(
     }
 }
 
-// The field that a table gives at one key.
+// Returns the field of one key of a table.
 fn field_in<R: Places>(
     reader: &R,
     key: &Key<R::Presence, R::Place>,
@@ -44,7 +44,7 @@ fn field_in<R: Places>(
     field_at(reader, must, key.2, value_at(table, key.0))
 }
 
-/// The fields of a table's keys in listed order, or the first fault.
+/// Returns the fields of a table's keys in listed order, or the first fault.
 pub(crate) fn fields_of<R: Places>(
     alloc: Global,
     reader: &R,
@@ -60,7 +60,7 @@ pub(crate) fn fields_of<R: Places>(
     Ok(fields)
 }
 
-// Whether the key is a listed one.
+// Returns whether the key is listed.
 fn is_listed<W, P>(keys: &[Key<W, P>], word: &str) -> bool
     ensures { result ≡ is_listed (map listed keys.now) word.now }
 {
@@ -72,14 +72,14 @@ fn is_listed<W, P>(keys: &[Key<W, P>], word: &str) -> bool
     false
 }
 
-// Whether a table, which has kinds or not, may have the key.
+// Returns whether a table, with kinds or without, may have the key.
 fn may_have<W, P>(kinds: bool, keys: &[Key<W, P>], word: &str) -> bool
     ensures { result ≡ may_have kinds (map listed keys.now) word.now }
 {
     (kinds && word == "kind") || is_listed(keys, word)
 }
 
-/// Whether each key of the table is a listed one.
+/// Returns whether each key of the table is listed.
 pub(crate) fn are_listed<W, P>(kinds: bool, keys: &[Key<W, P>], table: &Table) -> bool
     ensures { result ≡ are_listed kinds (map listed keys.now) (table_view table.now) }
 {
@@ -88,7 +88,11 @@ pub(crate) fn are_listed<W, P>(kinds: bool, keys: &[Key<W, P>], table: &Table) -
         .all(|word| may_have(kinds, keys, word.as_str()))
 }
 
-/// The fields of a table without kinds, or its first fault: an unlisted key, a key's in listed order.
+/// Returns the fields of a table without kinds.
+///
+/// # Errors
+///
+/// Its first fault: `Key` for an unlisted key, then those of its keys in listed order. Or `NoMemory`.
 pub fn row_of<R: Places>(
     alloc: Global,
     reader: &R,

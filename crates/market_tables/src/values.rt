@@ -1,4 +1,4 @@
-// What values of TOML and texts of decimals say, with the fault of each.
+// Values of TOML and texts of decimals, with the fault of each.
 ghost use Rattle.std.specs.Prelude.{◌≡◌, ◌≤◌, unsigned_abs, IfOk};
 ghost use Rattle.toml.specs.View.{view, items_view, table_view};
 ghost use Rattle.market_tables.specs.Given.{Says};
@@ -9,7 +9,11 @@ use day_number::{Day, read_day};
 use fixed_amount::read_decimal;
 use toml::{Table, Value};
 
-/// The text of a string, or `Key`.
+/// Returns the text of a string.
+///
+/// # Errors
+///
+/// `Key` where the value is no string.
 pub fn text_in(value: &Value) -> Result<&str, TableFault>
     ensures { Says (λ text. text.now) result (text_in (view value.now)) }
 {
@@ -19,7 +23,7 @@ pub fn text_in(value: &Value) -> Result<&str, TableFault>
     }
 }
 
-// A number from the least to the most, or `Number`.
+// Returns a number from the least to the most, or `Number`.
 fn integer_of(number: i64, least: i64, most: i64) -> Result<i64, TableFault>
     ensures { Says (λ n. n) result (integer_of least most number) }
 {
@@ -29,7 +33,11 @@ fn integer_of(number: i64, least: i64, most: i64) -> Result<i64, TableFault>
     Err(TableFault::Kind(MarketKind::Number))
 }
 
-/// An integer from the least to the most: `Key` where the value is no integer, `Number` where it is another.
+/// Returns an integer from the least to the most.
+///
+/// # Errors
+///
+/// `Key` where the value is no integer, `Number` where it is beyond the limits.
 pub fn integer_in(value: &Value, least: i64, most: i64) -> Result<i64, TableFault>
     ensures { Says (λ n. n) result (integer_in least most (view value.now)) }
 {
@@ -39,7 +47,7 @@ pub fn integer_in(value: &Value, least: i64, most: i64) -> Result<i64, TableFaul
     }
 }
 
-// The day of a text `YYYY-MM-DD`, or `Date`.
+// Returns the day of a text `YYYY-MM-DD`, or `Date`.
 fn day_of(text: &[u8]) -> Result<Day, TableFault>
     ensures { Says (λ day. day) result (day_of text.now) }
 {
@@ -49,14 +57,22 @@ fn day_of(text: &[u8]) -> Result<Day, TableFault>
     }
 }
 
-/// The day of a string: `Key` where the value is no string, `Date` where its text is no day.
+/// Returns the day of a string.
+///
+/// # Errors
+///
+/// `Key` where the value is no string, `Date` where its text is no day in range.
 pub fn day_in(value: &Value) -> Result<Day, TableFault>
     ensures { Says (λ day. day) result (day_in (view value.now)) }
 {
     day_of(text_in(value)?.as_bytes())
 }
 
-/// The items of an array, or `Key`.
+/// Returns the items of an array.
+///
+/// # Errors
+///
+/// `Key` where the value is no array.
 pub fn items_in(value: &Value) -> Result<&[Value], TableFault>
     ensures { Says (λ items. items_view items.now) result (items_in (view value.now)) }
 {
@@ -66,7 +82,11 @@ pub fn items_in(value: &Value) -> Result<&[Value], TableFault>
     }
 }
 
-/// The table that a value is, or `Key`.
+/// Returns the table of a value.
+///
+/// # Errors
+///
+/// `Key` where the value is no table.
 pub fn table_in(value: &Value) -> Result<&Table, TableFault>
     ensures { Says (λ table. table_view table.now) result (table_in (view value.now)) }
 {
@@ -76,7 +96,7 @@ pub fn table_in(value: &Value) -> Result<&Table, TableFault>
     }
 }
 
-// Whether each item is a table.
+// Returns whether each item is a table.
 fn are_tables(items: &[Value]) -> bool
     ensures { result ≡ are_tables (items_view items.now) }
 {
@@ -88,7 +108,11 @@ fn are_tables(items: &[Value]) -> bool
     true
 }
 
-/// The tables of an array of tables, or `Key`.
+/// Returns the tables of an array of tables.
+///
+/// # Errors
+///
+/// `Key` where the value is none.
 pub fn tables_in(value: &Value) -> Result<&[Value], TableFault>
     ensures { Says (λ items. items_view items.now) result (tables_in (view value.now)) }
 {
@@ -99,7 +123,11 @@ pub fn tables_in(value: &Value) -> Result<&[Value], TableFault>
     Err(TableFault::Kind(MarketKind::Key))
 }
 
-/// The units of a decimal with at most so many places, up to the most units either way, or `Number`.
+/// Returns the units of a decimal with at most so many places and at most so many units in size.
+///
+/// # Errors
+///
+/// `Number` where the text is none.
 pub fn decimal_of(text: &[u8], places: u8, most: u64) -> Result<i64, TableFault>
     requires { places ≤ 18 }
     ensures value { Says (λ units. units) result (decimal_of places most text.now) }

@@ -55,7 +55,7 @@ fn field_at(fields: &[Option<Field>], at: usize) -> Option<&Field>
 ///
 /// # Errors
 ///
-/// `Key` where the field is of another sort, which no reader of a table gives.
+/// `Key` where the field is of another sort.
 pub fn object_at(fields: &[Option<Field>], at: usize) -> Result<Option<ObjId>, TableFault>
     ensures { Says (λ found. found) result (object_in (field_in fields.now at)) }
 {
@@ -70,7 +70,7 @@ pub fn object_at(fields: &[Option<Field>], at: usize) -> Result<Option<ObjId>, T
 ///
 /// # Errors
 ///
-/// `Key` where the field is of another sort, which no reader of a table gives.
+/// `Key` where the field is of another sort.
 pub fn named_at(fields: &[Option<Field>], at: usize) -> Result<Option<Named>, TableFault>
     ensures { Says (λ found. found) result (named_in (field_in fields.now at)) }
 {
@@ -85,7 +85,7 @@ pub fn named_at(fields: &[Option<Field>], at: usize) -> Result<Option<Named>, Ta
 ///
 /// # Errors
 ///
-/// `Key` where the field is of another sort, which no reader of a table gives.
+/// `Key` where the field is of another sort.
 pub fn day_at(fields: &[Option<Field>], at: usize) -> Result<Option<Day>, TableFault>
     ensures { Says (λ found. found) result (day_in (field_in fields.now at)) }
 {
@@ -100,7 +100,7 @@ pub fn day_at(fields: &[Option<Field>], at: usize) -> Result<Option<Day>, TableF
 ///
 /// # Errors
 ///
-/// `Key` where the field is of another sort, which no reader of a table gives.
+/// `Key` where the field is of another sort.
 pub fn count_at(fields: &[Option<Field>], at: usize) -> Result<Option<u8>, TableFault>
     ensures { Says (λ found. found) result (count_in (field_in fields.now at)) }
 {
@@ -115,7 +115,7 @@ pub fn count_at(fields: &[Option<Field>], at: usize) -> Result<Option<u8>, Table
 ///
 /// # Errors
 ///
-/// `Key` where the field is of another sort, which no reader of a table gives.
+/// `Key` where the field is of another sort.
 pub fn rule_at(fields: &[Option<Field>], at: usize) -> Result<Option<Rule>, TableFault>
     ensures { Says (λ found. found) result (rule_in (field_in fields.now at)) }
 {
@@ -130,7 +130,7 @@ pub fn rule_at(fields: &[Option<Field>], at: usize) -> Result<Option<Rule>, Tabl
 ///
 /// # Errors
 ///
-/// `Key` where the field is of another sort, which no reader of a table gives.
+/// `Key` where the field is of another sort.
 pub fn convention_at(fields: &[Option<Field>], at: usize) -> Result<Option<Convention>, TableFault>
     ensures { Says (λ found. found) result (convention_in (field_in fields.now at)) }
 {
@@ -145,7 +145,7 @@ pub fn convention_at(fields: &[Option<Field>], at: usize) -> Result<Option<Conve
 ///
 /// # Errors
 ///
-/// `Key` where the field is of another sort, which no reader of a table gives.
+/// `Key` where the field is of another sort.
 pub fn flag_at(fields: &[Option<Field>], at: usize) -> Result<Option<bool>, TableFault>
     ensures { Says (λ found. found) result (flag_in (field_in fields.now at)) }
 {
@@ -160,7 +160,7 @@ pub fn flag_at(fields: &[Option<Field>], at: usize) -> Result<Option<bool>, Tabl
 ///
 /// # Errors
 ///
-/// `Key` where the field is of another sort, which no reader of a table gives.
+/// `Key` where the field is of another sort.
 pub fn rate_at(fields: &[Option<Field>], at: usize) -> Result<Option<TermRate>, TableFault>
     ensures { Says (λ found. found) result (rate_in (field_in fields.now at)) }
 {

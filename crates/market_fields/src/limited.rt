@@ -15,7 +15,7 @@ const MOST_NOTIONAL: u64 = 1_000_000_000_000_000_000;
 /// The greatest size of a rate, in units of 10^-9.
 const MOST_RATE: u64 = 10_000_000_000;
 
-/// Whether payments keep their signs or get the opposite ones.
+/// The sign of payments: their own, or the opposite one.
 #[derive(Clone, Copy, PartialEq, Eq)]
 pub enum Sign {
     Plus,

@@ -55,7 +55,7 @@ pub fn taken_helpers(field: Option<Field>) -> Result<HelperList, TableFault>
 ///
 /// # Errors
 ///
-/// `Key` where the field is of another sort, which no reader of a table gives.
+/// `Key` where the field is of another sort.
 pub fn taken_parts(field: Option<Field>) -> Result<Option<PartList>, TableFault>
     ensures { Says (λ found. found) result (parts_in field) }
 {

@@ -15,12 +15,12 @@ pub trait Places {
 
     /// When a key is required.
     type Presence: Copy + 'static;
-    /// What a key takes.
+    /// The value that a key takes.
     type Place: Copy + 'static;
-    /// What a key gives.
+    /// The field that a key gives.
     type Field: Drop;
 
-    /// Whether a key is required in a table, or the fault of the table's keys that is reported at this key.
+    /// Says if a key is required in a table, or the fault of the table's keys that is reported at this key.
     ghost required: { Self → Self.Presence → Members → Result Bool MarketKind };
 
     /// The field of a value, or its fault.

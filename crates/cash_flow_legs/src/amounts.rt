@@ -19,8 +19,12 @@ use flow_terms::{FlowTerm, IndexUse};
 use rate_indexes::{fixing, period};
 use year_parts::YearParts;
 
-/// The amount of a flow of an instrument, the owner. An index is given where the flow is on one, and a curve where its
-/// rate has to be forecast.
+/// Returns the amount of a flow of an instrument, the owner. An index must be given if the flow is on one, and a curve if its rate
+/// has to be forecast.
+///
+/// # Errors
+///
+/// The cause: that of the fixing, for a settlement that of its period, then `TooLarge` of the owner.
 pub fn amount_of(
     flow: &FlowTerm,
     today: Day,
@@ -41,7 +45,7 @@ pub fn amount_of(
     }
 }
 
-// The amount of a flow on no index.
+// Returns the amount of a flow without an index.
 fn known_amount(flow: &FlowTerm) -> Result<Amount, Cause>
     requires flow { IsFlow flow.now }
     requires known { IsNone (fixed_on flow.now) }
@@ -55,7 +59,7 @@ fn known_amount(flow: &FlowTerm) -> Result<Amount, Cause>
     }
 }
 
-// The amount of a flow with an index that is given.
+// Returns the amount of a flow on an index.
 fn amount_on(
     flow: &FlowTerm,
     today: Day,
@@ -86,7 +90,7 @@ fn amount_on(
     }
 }
 
-// Interest at the rate of an index and a spread.
+// Returns the interest at the rate of an index plus a spread.
 fn float_amount(
     index: &IndexUse<'_>,
     today: Day,
@@ -108,7 +112,7 @@ fn float_amount(
     Ok(interest(notional, sum(rate, spread), parts))
 }
 
-// The settlement of a forward rate agreement at the rate of an index: first its fixing, then its period.
+// Returns the settlement of a forward rate agreement at the rate of an index: first its fixing, then its period.
 fn forward_amount(
     index: &IndexUse<'_>,
     today: Day,

@@ -6,10 +6,10 @@ use thiserror::Error;
 /// Why no flow is appended.
 #[derive(Clone, Copy, Debug, PartialEq, Eq, Error)]
 pub enum LegFault {
-    /// The day of a payment or of a fixing would lie outside 1901-01-01 to 2199-12-31.
+    /// A payment day or fixing day would be outside 1901-01-01 to 2199-12-31.
     #[error("a day is out of range")]
     DateRange,
-    /// Memory is wanting.
+    /// Memory ran out.
     #[error("out of memory")]
     NoMemory,
 }
@@ -28,10 +28,10 @@ impl From<AllocError> for LegFault {
 /// Why flows have no amounts.
 #[derive(Clone, Copy, Debug, PartialEq, Eq, Error)]
 pub enum FlowFault {
-    /// A flow is refused; the first that is decides.
+    /// A flow is refused: the cause of the first.
     #[error("a flow is refused")]
     Refused(Cause),
-    /// Memory is wanting.
+    /// Memory ran out.
     #[error("out of memory")]
     NoMemory,
 }

@@ -13,7 +13,7 @@ use year_parts::{PARTS_IN_YEAR, YearParts};
 /// Interest of 1 for a year on one unit of a notional: 10^9 units of a rate times the parts of a year.
 pub(crate) const WHOLE: i128 = 1_000_000_000 * PARTS_IN_YEAR as i128;
 
-/// The interest on a notional at a rate, or at the sum of two, for a part of the year, rounded to the nearest unit.
+/// Returns the interest on a notional at a rate, or at the sum of two, for a part of the year, rounded to the nearest unit.
 pub(crate) fn interest(notional: Amount, rate: Rate, parts: YearParts) -> Amount
     requires notional { IsNotional notional }
     requires rate { IsSumOfRates rate }
@@ -24,7 +24,7 @@ pub(crate) fn interest(notional: Amount, rate: Rate, parts: YearParts) -> Amount
     Amount(in_units(product(notional, rate, parts)))
 }
 
-// Interest in units of an amount, rounded to the nearest.
+// Returns interest in units of an amount, rounded to the nearest.
 fn in_units(product: i128) -> i128
     requires { unsigned_abs product ≤ most_product }
     ensures value { result ≡ closest product whole }
@@ -33,7 +33,7 @@ fn in_units(product: i128) -> i128
     div_round(product, WHOLE, Rounding::Closest)
 }
 
-/// A notional times a rate, or the sum of two, times a part of the year.
+/// Returns a notional times a rate, or the sum of two, times a part of the year.
 pub(crate) fn product(notional: Amount, rate: Rate, parts: YearParts) -> i128
     requires notional { IsNotional notional }
     requires rate { IsSumOfRates rate }
@@ -44,7 +44,7 @@ pub(crate) fn product(notional: Amount, rate: Rate, parts: YearParts) -> i128
     yearly(notional, rate) * wide(parts)
 }
 
-// A notional times a rate, or the sum of two.
+// Returns a notional times a rate, or the sum of two.
 fn yearly(notional: Amount, rate: Rate) -> i128
     requires notional { IsNotional notional }
     requires rate { IsSumOfRates rate }
@@ -54,14 +54,14 @@ fn yearly(notional: Amount, rate: Rate) -> i128
     notional.units() * wide_rate(rate)
 }
 
-/// The units of a rate, for products.
+/// Returns the units of a rate, for products.
 pub(crate) fn wide_rate(rate: Rate) -> i128
     ensures { result ≡ rate }
 {
     i128::from(rate.units())
 }
 
-/// The parts of a year, for products.
+/// Returns the parts of a year, for products.
 pub(crate) fn wide(parts: YearParts) -> i128
     requires { IsBetween (pos 0) MOST_PARTS parts }
     ensures value { result ≡ parts }
@@ -70,7 +70,7 @@ pub(crate) fn wide(parts: YearParts) -> i128
     i128::from(parts.0)
 }
 
-/// A rate and a spread.
+/// Returns a rate plus a spread.
 pub(crate) fn sum(rate: Rate, spread: Rate) -> Rate
     requires rate { IsRate rate }
     requires spread { IsRate spread }
@@ -80,7 +80,7 @@ pub(crate) fn sum(rate: Rate, spread: Rate) -> Rate
     Rate(rate.units() + spread.units())
 }
 
-/// A rate less a strike.
+/// Returns a rate less a strike.
 pub(crate) fn difference(rate: Rate, strike: Rate) -> Rate
     requires rate { IsRate rate }
     requires strike { IsRate strike }

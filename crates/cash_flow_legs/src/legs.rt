@@ -15,11 +15,13 @@ use holiday_calendars::Calendar;
 use schedule_rules::Schedule;
 use year_parts::Counter;
 
-/// Appends interest at a rate on a notional, at most 10^18 units either way, for each period of a schedule (QuantLib's
-/// `FixedRateLeg`). It is paid so many of the calendar's business days after the period's end as the lag says, and
-/// without a lag on the next business day at or after that end. Its parts run from one day of the schedule to the next,
-/// which it keeps as its period. `DateRange` where a payment has no day, whatever the memory; a fault leaves the list as
-/// it was.
+/// Appends interest at a fixed rate for each period of a schedule (QuantLib's `FixedRateLeg`). The notional is at most 10^18 units
+/// of 10^-6 in size. Interest is paid `lag` business days of the calendar after the period's end, and without a lag on the next
+/// business day at or after it. A period runs from one day of the schedule to the next.
+///
+/// # Errors
+///
+/// `DateRange` where a payment day is out of range, which takes no memory, and `NoMemory`. Then the list is as before.
 pub fn fixed_leg(
     schedule: &Schedule,
     cal: &Calendar,
@@ -47,10 +49,13 @@ pub fn fixed_leg(
     append_leg(&leg, schedule.dates(), out)
 }
 
-/// Appends interest at an index's rate and a spread on a notional, at most 10^18 units either way, for each period of
-/// a schedule (QuantLib's `IborLeg`). Payments and parts are those of `fixed_leg`; the rate is fixed the index's fixing
-/// days before the period's start, on the index's calendar. `DateRange` where a payment or a fixing has no day,
-/// whatever the memory; a fault leaves the list as it was.
+/// Appends interest at an index's rate plus a spread for each period of a schedule (QuantLib's `IborLeg`). The notional is at most
+/// 10^18 units of 10^-6 in size. Payments and periods are those of `fixed_leg`. The rate is fixed the index's fixing days before
+/// the start of the period, on the index's calendar.
+///
+/// # Errors
+///
+/// `DateRange` where a payment day or fixing day is out of range, which takes no memory, and `NoMemory`. Then the list is as before.
 pub fn float_leg(
     schedule: &Schedule,
     cal: &Calendar,

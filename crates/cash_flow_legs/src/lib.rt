@@ -1,8 +1,14 @@
-//! The flows of bonds, swaps and forward rate agreements: legs over schedules, a redemption, a settlement.
+//! The cash flows of bonds, swaps and forward rate agreements, and their amounts.
 //!
-//! `fixed_leg`, `float_leg`, `redemption`, `forward_flow`, `LegFault`: each appends its flows to a list, or leaves the
-//! list as it was and says why. `flows`, `Flow`, `FlowList`, `FlowFault`: the flows that are still to be paid, with
-//! their amounts; `amount_of` and `is_live`: the same of one flow.
+//! `fixed_leg`, `float_leg`, `redemption` and `forward_flow` append flows to a list, or leave it as it was and return a `LegFault`.
+//! `flows` returns the flows that are still to be paid as `Flow`s with their amounts, or a `FlowFault`. `amount_of` and `is_live`
+//! do the same for one flow.
+//!
+//! ```text
+//! fixed_leg(&schedule, &calendar, 0, notional, rate, Counter::Act360, &mut list)?;
+//! redemption(&calendar, end, 0, notional, &mut list)?;
+//! let due = flows(alloc, &terms, today, today, None, None, owner)?;
+//! ```
 #![tactic(auto)]
 
 mod amounts;

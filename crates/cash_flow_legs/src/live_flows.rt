@@ -22,18 +22,21 @@ use std::alloc::Global;
 #[derive(Clone, Copy)]
 pub struct Flow {
     pub paid: Day,
-    /// At most 10^22 units either way.
+    /// At most 10^22 units of 10^-6 in size.
     pub amount: Amount,
 }
 
 /// Amounts with their days, in the order of an instrument's flows.
 pub type FlowList = Items<Flow>;
 
-/// The flows of an instrument, the owner, that are paid after today and after another day, in their order and with
-/// their amounts (QuantLib's `CashFlows` and `Coupon::amount`). The first of these flows that is refused decides, by the
-/// causes of its index's fixing, for a settlement then those of its period, and then `TooLarge` of the owner; it is told
-/// before memory is taken. The index is given where the terms name one, and the curve that it is forecast from where a flow that is paid after today needs
-/// a forecast.
+/// Returns the flows of an instrument, the owner, that are paid after today and after another day, in order and with their amounts
+/// (QuantLib's `CashFlows` and `Coupon::amount`). The index must be given if the terms name one, and its curve if a flow that is
+/// paid after today needs a forecast.
+///
+/// # Errors
+///
+/// `Refused` with the cause of the first of these flows that is refused: that of its index's fixing, for a settlement that of its
+/// period, then `TooLarge` of the owner. It is found without memory. `NoMemory` where memory runs out.
 pub fn flows(
     alloc: Global,
     terms: &FlowTerms,
@@ -59,7 +62,7 @@ pub fn flows(
     }
 }
 
-// The cause of the first flow that is still to be paid and is refused.
+// Returns the cause of the first flow that is still to be paid and is refused.
 fn first_cause(
     terms: &[FlowTerm],
     today: Day,
@@ -85,7 +88,7 @@ fn first_cause(
     None
 }
 
-// The same of flows each in range.
+// Returns the flows still to be paid, of which none is refused.
 fn amounts_of(
     alloc: Global,
     terms: &[FlowTerm],
@@ -115,7 +118,7 @@ fn amounts_of(
     Ok(flows)
 }
 
-/// Whether a flow is paid after today and after another day (QuantLib's `CashFlow::hasOccurred`).
+/// Returns whether a flow is paid after today and after another day (QuantLib's `CashFlow::hasOccurred`).
 pub fn is_live(flow: &FlowTerm, today: Day, after: Day) -> bool
     ensures { result ≡ live.is_live today after flow.now }
 {

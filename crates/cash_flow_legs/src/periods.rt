@@ -18,30 +18,29 @@ use flow_terms::{FlowTerm, FlowTermList, IndexTerms};
 use holiday_calendars::Calendar;
 use year_parts::Counter;
 
-/// What a leg pays for each of its periods.
+/// The payment of a leg for each of its periods.
 #[derive(Clone, Copy)]
 pub enum Coupon<'a> {
     /// Interest at a rate.
     Fixed(Rate),
-    /// Interest at the rate of an index and a spread.
+    /// Interest at the rate of an index plus a spread.
     Float(Rate, &'a IndexTerms),
 }
 
-/// A leg, its periods apart.
+/// A leg without its periods.
 #[derive(Clone, Copy)]
 pub struct Leg<'a> {
-    /// The calendar of its payments, and of the business days that its counter counts.
+    /// The calendar of its payments and of its day counter.
     pub cal: &'a Calendar,
-    /// How many business days lie from a period's end to its payment.
+    /// How many business days a payment is after the end of its period.
     pub lag: u8,
     pub notional: Amount,
-    /// How the days of a period are counted as a part of a year.
+    /// How the year fraction of a period is counted.
     pub counter: Counter,
     pub coupon: Coupon<'a>,
 }
 
-/// Appends the flow of each period, or leaves the list as it was. That a day is not there is told before memory is
-/// taken.
+/// Appends the flow of each period, or leaves the list as it was. A day out of range is found without memory.
 pub(crate) fn append_leg(
     leg: &Leg<'_>,
     days: &[Day],
@@ -65,7 +64,7 @@ pub(crate) fn append_leg(
     pushed
 }
 
-// Whether there are days for the flow of each period.
+// Returns whether the days of the flow of each period are in range.
 fn are_dated(leg: &Leg<'_>, days: &[Day]) -> bool
     requires leg { IsLeg leg.now }
     requires rising { IsStrictlySortedBy int_cmp days.now }
@@ -80,7 +79,7 @@ fn are_dated(leg: &Leg<'_>, days: &[Day]) -> bool
     true
 }
 
-// Pushes the flows of periods, up to one for which a day or memory is wanting.
+// Appends the flows of periods, up to one whose day is out of range or for which memory runs out.
 fn push_flows(leg: &Leg<'_>, days: &[Day], out: &mut FlowTermList) -> Result<(), LegFault>
     requires leg { IsLeg leg.now }
     requires rising { IsStrictlySortedBy int_cmp days.now }
@@ -97,7 +96,7 @@ fn push_flows(leg: &Leg<'_>, days: &[Day], out: &mut FlowTermList) -> Result<(),
     Ok(())
 }
 
-// The flow of a period, where there are days for it.
+// Returns the flow of a period, if its days are in range.
 fn period_flow(leg: &Leg<'_>, from: Day, to: Day) -> Option<FlowTerm>
     requires leg { IsLeg leg.now }
     requires order { from <ℤ to }

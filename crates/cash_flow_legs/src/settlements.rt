@@ -14,9 +14,8 @@ use fixed_amount::{Amount, Rate, Rounding, div_round};
 use flow_terms::MOST_AMOUNT;
 use year_parts::YearParts;
 
-/// What is paid at the start of a period for a rate over a strike: the interest on the difference, discounted by the
-/// rate over the period, rounded once. `TooLarge` of the owner where the divisor is not above 0, or the amount is
-/// beyond 10^22 units either way.
+/// Returns the settlement at the start of a period for a rate over a strike: the interest on the difference, discounted by the rate
+/// over the period, rounded once. `TooLarge` of the owner where the divisor is not above 0, or the amount is beyond 10^22 units.
 pub(crate) fn settlement(
     owner: ObjId,
     notional: Amount,
@@ -39,7 +38,7 @@ pub(crate) fn settlement(
     amount_or_cause(owner, div_round(interest, growth, Rounding::Closest))
 }
 
-// What 1 grows to at a rate over a period, in units of a rate times parts of a year.
+// Returns what 1 grows to at a rate over a period, in units of a rate times parts of a year.
 fn growth(rate: Rate, parts: YearParts) -> i128
     requires rate { IsRate rate }
     requires parts { IsBetween (pos 0) MOST_PARTS parts }
@@ -48,7 +47,7 @@ fn growth(rate: Rate, parts: YearParts) -> i128
     WHOLE + wide_rate(rate) * wide(parts)
 }
 
-// An amount within its limit, or the cause by its owner.
+// Returns an amount within its limit, or the cause with its owner.
 fn amount_or_cause(owner: ObjId, amount: i128) -> Result<Amount, Cause>
     ensures value { result ≡ amount_or_cause owner amount }
     ensures range { IfOk result (IsWithin MOST_AMOUNT) }

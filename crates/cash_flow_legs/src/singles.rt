@@ -1,4 +1,4 @@
-// Flows that stand alone: a redemption, and the settlement of a forward rate agreement.
+// Single flows: a redemption, and the settlement of a forward rate agreement.
 ghost use Rattle.std.specs.Prelude.{◌≡◌, IfSome, IfNone, Err};
 ghost use Rattle.holiday_calendars.specs.Calendar.{is_business_day};
 ghost use Rattle.flow_terms.specs.Fixings.{IsRate};
@@ -15,9 +15,12 @@ use fixed_amount::{Amount, Rate};
 use flow_terms::{FlowTerm, FlowTermList, IndexTerms};
 use holiday_calendars::Calendar;
 
-/// Appends the notional, at most 10^18 units either way, paid a lag of the calendar's business days after the end, and
-/// without a lag on the next business day at or after it (QuantLib's `Redemption`). `DateRange` where there is no such
-/// day, whatever the memory; a fault leaves the list as it was.
+/// Appends the payment of a notional at the end (QuantLib's `Redemption`). The notional is at most 10^18 units of 10^-6 in size. It is
+/// paid `lag` business days of the calendar after the end, and without a lag on the next business day at or after it.
+///
+/// # Errors
+///
+/// `DateRange` where the payment day is out of range, which takes no memory, and `NoMemory`. Then the list is as before.
 pub fn redemption(
     cal: &Calendar,
     end: Day,
@@ -38,7 +41,7 @@ pub fn redemption(
     Ok(())
 }
 
-// The flow of a redemption, where there is a day for it.
+// Returns the flow of a redemption, if its day is in range.
 fn redemption_flow(cal: &Calendar, end: Day, lag: u8, notional: Amount) -> Option<FlowTerm>
     requires { IsNotional notional }
     ensures flow { result ≡ single.redemption_flow (is_business_day cal.now) lag end notional }
@@ -52,10 +55,13 @@ fn redemption_flow(cal: &Calendar, end: Day, lag: u8, notional: Amount) -> Optio
     })
 }
 
-/// Appends the settlement of a forward rate agreement on an index from a start, at a strike, on a notional of at most
-/// 10^18 units either way (QuantLib's `ForwardRateAgreement`). It is paid on the start as the index's convention and
-/// calendar adjust it, and its rate is fixed the index's fixing days before that day. `DateRange` where a day is not
-/// there; a fault leaves the list as it was.
+/// Appends the settlement of a forward rate agreement on an index from a start, at a strike (QuantLib's `ForwardRateAgreement`). The
+/// notional is at most 10^18 units of 10^-6 in size. It is paid on the start, adjusted by the index's convention and calendar. Its
+/// rate is fixed the index's fixing days before that day.
+///
+/// # Errors
+///
+/// `DateRange` where a day is out of range, and `NoMemory`. Then the list is as before.
 pub fn forward_flow(
     index: &IndexTerms,
     start: Day,
@@ -77,7 +83,7 @@ pub fn forward_flow(
     Ok(())
 }
 
-// The flow of a settlement, where there are days for it.
+// Returns the flow of a settlement, if its days are in range.
 fn settlement_flow(
     index: &IndexTerms,
     start: Day,

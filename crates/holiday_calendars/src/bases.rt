@@ -26,7 +26,7 @@ impl Base {
     ghost use Rattle.holiday_calendars.specs.Base.{is_base_day};
     ghost use Rattle.holiday_calendars.specs.Stretch.{AreHolidaysAfter, AreHolidaysBefore};
 
-    // Whether the day is a business day.
+    // Returns whether the day is a business day.
     pub(crate) fn is_business(&self, day: Day) -> bool
         ensures { result ≡ is_base_day self.now day }
     {
@@ -38,7 +38,7 @@ impl Base {
         }
     }
 
-    // The last day of a long closure of days of one's own that a day is in, or the day itself.
+    // Returns the last day of the long closure of a custom calendar that a day is in, or the day itself.
     pub(crate) fn closed_until(&self, day: Day) -> Day
         ensures order { day ≤ℤ result }
         ensures holidays { AreHolidaysAfter (is_base_day self.now) day result }
@@ -49,7 +49,7 @@ impl Base {
         }
     }
 
-    // The first day of a long closure of days of one's own that a day is in, or the day itself.
+    // Returns the first day of the long closure of a custom calendar that a day is in, or the day itself.
     pub(crate) fn closed_since(&self, day: Day) -> Day
         ensures order { result ≤ℤ day }
         ensures holidays { AreHolidaysBefore (is_base_day self.now) day result }
@@ -60,7 +60,11 @@ impl Base {
         }
     }
 
-    /// An equal calendar.
+    /// Returns an equal calendar.
+    ///
+    /// # Errors
+    ///
+    /// `AllocError` where memory runs out.
     pub fn copy(&self, alloc: Global) -> Result<Base, AllocError>
         ensures { IfOk result (λ base. base ≡ self.now) }
     {
@@ -73,10 +77,10 @@ impl Base {
     }
 }
 
-/// Calendars in the order in which they were pushed. A clause sees it as the list of them.
+/// Calendars in order. Clauses see the list of them.
 pub type BaseList = Items<Base>;
 
-// An equal list.
+// Returns an equal list.
 pub(crate) fn copy_of(bases: &[Base], alloc: Global) -> Result<BaseList, AllocError>
     ensures { IfOk result (λ list. list ≡ bases.now) }
 {

@@ -1,4 +1,4 @@
-// A calendar of one's own: weekdays and days that are named.
+// A custom calendar: weekdays and listed days that are holidays.
 ghost use Rattle.std.specs.Prelude.{◌≡◌, ◌↔◌, true, IfOk};
 ghost use Rattle.std.specs.List.{list_all, list_any};
 ghost use Rattle.std.specs.List.Sorted.{IsSorted};
@@ -16,10 +16,10 @@ use thiserror::Error;
 /// Why there is no such calendar.
 #[derive(Clone, Copy, Debug, PartialEq, Eq, Error)]
 pub enum BespokeFault {
-    /// All seven weekdays are named, so that no day would be a business day.
+    /// All seven weekdays are holidays, so that no day would be a business day.
     #[error("every weekday is a holiday")]
     AllWeekend,
-    /// Memory is wanting.
+    /// Memory ran out.
     #[error("out of memory")]
     NoMemory,
 }
@@ -35,17 +35,17 @@ impl From<AllocError> for BespokeFault {
     }
 }
 
-/// The holidays of a calendar of one's own: some weekdays, but not all, and a set of days. A clause sees it as the
-/// weekdays from Monday on and the set.
+/// The holidays of a custom calendar: some weekdays, but not all, and a set of days. Clauses see the weekdays from Monday on and the
+/// set.
 pub struct BespokeHolidays {
     weekend: [bool; 7],
-    // In the order of time.
+    // In ascending order.
     days: Vec<Day>,
-    // The long ones, in the order of time.
+    // The long ones, in ascending order.
     closures: Vec<Closure>,
 }
 
-// Who lets them go calls this at each exit, and does not let its parts go one by one.
+// Each exit of an owner calls this once, instead of dropping each field.
 impl Drop for BespokeHolidays {
     fn drop(self) {
         let BespokeHolidays {
@@ -77,14 +77,14 @@ impl BespokeHolidays {
     ghost use Rattle.holiday_calendars.specs.Closed.{is_closed};
     ghost use Rattle.holiday_calendars.specs.Stretch.{AreHolidaysAfter, AreHolidaysBefore};
 
-    // Whether a weekday or a day is named.
+    // Returns whether a day is a holiday.
     pub(crate) fn is_holiday(&self, day: Day) -> bool
         ensures { result ≡ is_closed self.now day }
     {
         self.weekend[usize::from(weekday(day))] || is_listed(&self.days, day)
     }
 
-    // The last day of the long closure that a day is in, or the day itself.
+    // Returns the last day of the long closure that a day is in, or the day itself.
     pub(crate) fn closed_until(&self, day: Day) -> Day
         ensures order { day ≤ℤ result }
         ensures holidays { AreHolidaysAfter (λ x. not (is_closed self.now x)) day result }
@@ -95,7 +95,7 @@ impl BespokeHolidays {
         }
     }
 
-    // The first day of the long closure that a day is in, or the day itself.
+    // Returns the first day of the long closure that a day is in, or the day itself.
     pub(crate) fn closed_since(&self, day: Day) -> Day
         ensures order { result ≤ℤ day }
         ensures holidays { AreHolidaysBefore (λ x. not (is_closed self.now x)) day result }
@@ -106,7 +106,7 @@ impl BespokeHolidays {
         }
     }
 
-    // The same holidays.
+    // Returns equal holidays.
     pub(crate) fn copy(&self, alloc: Global) -> Result<BespokeHolidays, AllocError>
         ensures { IfOk result (λ holidays. holidays ≡ self.now) }
     {
@@ -120,7 +120,7 @@ impl BespokeHolidays {
     }
 }
 
-// Whether a day is one of a list in the order of time.
+// Returns whether a day is in an ascending list.
 fn is_listed(days: &[Day], day: Day) -> bool
     requires { IsSorted int_cmp days.now }
     ensures { result ≡ list_any (int_eq day) days.now }
@@ -128,15 +128,18 @@ fn is_listed(days: &[Day], day: Day) -> bool
     days.binary_search(&day).is_ok()
 }
 
-// Whether each weekday is named.
+// Returns whether each weekday is a holiday.
 fn all_named(weekend: &[bool]) -> bool
     ensures { result ≡ list_all (λ named. named) weekend.now }
 {
     weekend.iter().all(|named| *named)
 }
 
-/// The calendar whose holidays are the weekdays named, the first of which is Monday, and the days of a list, in any
-/// order. It is refused with `AllWeekend` where all seven weekdays are named.
+/// Makes the calendar whose holidays are these weekdays, with Monday first, and the days of a list in any order.
+///
+/// # Errors
+///
+/// `AllWeekend` where all seven weekdays are holidays, and `NoMemory`.
 pub fn bespoke(alloc: Global, weekend: [bool; 7], days: DayList) -> Result<Base, BespokeFault>
     ensures ok { IfOk result (λ base. base ≡ Base.Bespoke (closed_on weekend days)) }
     ensures weekend { (result ≡ Err BespokeFault.AllWeekend) ↔ (list_all (λ named. named) weekend ≡ true) }

@@ -11,7 +11,7 @@ pub enum Calendar {
     Joint(JointParts),
 }
 
-// Who lets a calendar go calls this at each exit, and does not let its parts go one by one.
+// Each exit of an owner of a calendar calls this once, instead of dropping each field.
 impl Drop for Calendar {
     fn drop(self) {
         match self {
@@ -26,14 +26,14 @@ impl Calendar {
     ghost use Rattle.holiday_calendars.specs.Calendar.{is_business_day};
     ghost use Rattle.holiday_calendars.specs.Stretch.{AreHolidaysAfter, AreHolidaysBefore};
 
-    /// The calendar of one part.
+    /// Returns the calendar of one part.
     pub fn one(base: Base) -> Calendar
         ensures { result ≡ Calendar.One base }
     {
         Calendar::One(base)
     }
 
-    /// Whether the day is a business day.
+    /// Returns whether the day is a business day.
     #[tactic(auto, unfolding(crate::specs::Calendar::is_business_day))]
     pub fn is_business(&self, day: Day) -> bool
         ensures { result ≡ is_business_day self.now day }
@@ -44,9 +44,8 @@ impl Calendar {
         }
     }
 
-    /// A day up to which each day after a day is a holiday: where the day lies in a closure of more than a week, of listed
-    /// days and weekdays that are holidays, the closure's last day, and else the day itself. It spares a search the days of
-    /// the closure.
+    /// Returns the last day of the closure that a day is in, or the day itself. A closure is a run of more than a week of listed days
+    /// and weekdays that are holidays. So a search skips the days of a closure.
     #[tactic(auto, unfolding(crate::specs::Calendar::is_business_day))]
     pub fn closed_until(&self, day: Day) -> Day
         ensures order { day ≤ℤ result }
@@ -58,8 +57,7 @@ impl Calendar {
         }
     }
 
-    /// A day down to which each day before a day is a holiday: where the day lies in such a closure, the closure's first
-    /// day, and else the day itself.
+    /// Returns the first day of the closure that a day is in, or the day itself.
     #[tactic(auto, unfolding(crate::specs::Calendar::is_business_day))]
     pub fn closed_since(&self, day: Day) -> Day
         ensures order { result ≤ℤ day }
@@ -71,7 +69,11 @@ impl Calendar {
         }
     }
 
-    /// An equal calendar.
+    /// Returns an equal calendar.
+    ///
+    /// # Errors
+    ///
+    /// `AllocError` where memory runs out.
     pub fn copy(&self, alloc: Global) -> Result<Calendar, AllocError>
         ensures { IfOk result (λ calendar. calendar ≡ self.now) }
     {

@@ -1,4 +1,4 @@
-// Stretches of holidays of a calendar of one's own, so long that it is not to be gone through day by day.
+// Long runs of holidays of a custom calendar, which are skipped and not visited day by day.
 ghost use Rattle.std.specs.Prelude.{◌≡◌, true, false, slice_index_or, IfOk, IfSome, Contains, All, ℤ, pos, ◌+ℤ◌, ◌≤ℤ◌, ◌<ℤ◌};
 ghost use Rattle.jiff_core.specs.Calendar.{weekday_number};
 ghost use Rattle.holiday_calendars.specs.Closed.{closed_on};
@@ -8,14 +8,14 @@ use crate::weekdays::weekday;
 use day_number::{Day, add_days};
 use std::alloc::{AllocError, Global};
 
-/// Days that follow one another, all of them holidays.
+/// Consecutive days, all of them holidays.
 #[derive(Clone, Copy)]
 pub(crate) struct Closure {
     pub(crate) first: Day,
     pub(crate) last: Day,
 }
 
-// The closures of more than a week: listed days that follow one another, but for weekdays that are holidays.
+// Returns the closures of more than a week: consecutive listed days, between which only weekdays that are holidays lie.
 pub(crate) fn closures_of(
     weekend: [bool; 7],
     days: &[Day],
@@ -44,19 +44,19 @@ pub(crate) fn closures_of(
     Ok(closures)
 }
 
-// Whether a day is at most one day after another.
+// Returns whether a day is at most one day after another.
 fn is_joined(last: Day, day: Day) -> bool
     ensures { (result ≡ true) → day ≤ℤ (last +ℤ pos 1) }
 {
     day.number() - last.number() <= 1
 }
 
-// Whether more than a week lies from a day to another, both of which count.
+// Returns whether there is more than a week from a day to another, both counted.
 fn is_long(first: Day, last: Day) -> bool {
     last.number() - first.number() >= 7
 }
 
-// The last of the days after a day, of the range, whose weekdays are holidays up to there.
+// Returns the last of the days after a day, within range, up to which all weekdays are holidays.
 fn weekend_end(weekend: [bool; 7], day: Day) -> Day
     ensures later { day ≤ℤ result }
     ensures closed { (x : ℤ) → day <ℤ x → x ≤ℤ result → slice_index_or weekend (weekday_number x) false ≡ true }
@@ -71,7 +71,7 @@ fn weekend_end(weekend: [bool; 7], day: Day) -> Day
     last
 }
 
-// The closure that a day is in, if any. They stand in the order of time.
+// Returns the closure that a day is in, if there is one. The closures are in ascending order.
 pub(crate) fn closure_around(closures: &[Closure], day: Day) -> Option<Closure>
     ensures { IfSome result (λ c. Contains closures.now c × (c.first ≤ℤ day) × (day ≤ℤ c.last)) }
 {

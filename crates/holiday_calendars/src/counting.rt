@@ -1,4 +1,4 @@
-// Business days counted.
+// Counts business days.
 ghost use Rattle.std.specs.Prelude.{◌≡◌, pos, ◌+ℤ◌, ◌≤ℤ◌};
 ghost use Rattle.day_number.specs.Day.{IsDayNumber};
 ghost use Rattle.holiday_calendars.specs.Calendar.{is_business_day};
@@ -7,8 +7,8 @@ ghost use Rattle.holiday_calendars.specs.Counted.{business_days_from};
 use crate::Calendar;
 use day_number::{Day, add_days};
 
-/// How many business days lie from a day on, which counts, to a later or equal day, which does not. It asks for each of
-/// the days from one to the other, once.
+/// Returns how many business days there are from a day, counted, to a later or equal day, not counted. Visits each of these days
+/// once.
 pub fn business_days(calendar: &Calendar, from: Day, to: Day) -> i32
     requires { from ≤ℤ to }
     ensures value { result ≡ pos (business_days_from (is_business_day calendar.now) from to) }
@@ -24,7 +24,7 @@ pub fn business_days(calendar: &Calendar, from: Day, to: Day) -> i32
     count
 }
 
-// The day a number of days after a day, which is one of the range.
+// Returns the day a number of days later, which is in range.
 fn later(day: Day, days: i32) -> Day
     requires { IsDayNumber (day +ℤ days) }
     ensures { result ≡ day +ℤ days }

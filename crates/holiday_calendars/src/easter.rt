@@ -6,7 +6,7 @@ ghost use Rattle.holiday_calendars.specs.Easter.{moon_days, sunday_days, easter_
 
 use day_number::Day;
 
-// The day of the full moon, counted from 21 March.
+// Returns the day of the full moon, from 21 March.
 #[tactic(auto, unfolding(crate::specs::Easter::moon_days))]
 fn moon(year: u32) -> u32
     requires { year < 10_000 }
@@ -18,7 +18,7 @@ fn moon(year: u32) -> u32
     (19 * (year % 19) + century - century / 4 - drift + 15) % 30
 }
 
-// The days from the day after the full moon to a Sunday.
+// Returns the days from the day after the full moon to a Sunday.
 fn sunday(year: u32) -> u32
     requires { year < 10_000 }
     ensures value { result ≡ sunday_days year }
@@ -28,7 +28,7 @@ fn sunday(year: u32) -> u32
     (32 + 2 * (year / 100 % 4) + 2 * (rest / 4) - moon(year) - rest % 4) % 7
 }
 
-// The place of Easter Sunday where each month has 31 places, so that 93 is that of 1 March.
+// Returns the place of Easter Sunday if each month has 31 places, so that 93 is that of 1 March.
 fn place(year: u32) -> u32
     requires { year < 10_000 }
     ensures value { result ≡ easter_place year }
@@ -40,8 +40,8 @@ fn place(year: u32) -> u32
     moon + sunday - 7 * late + 114
 }
 
-/// Easter Sunday of a year of the Gregorian calendar, and none outside 1901 to 2199. It is computed by the whole-number
-/// rule without exceptions that Nature printed in 1876.
+/// Returns Easter Sunday of a year from 1901 to 2199 of the Gregorian calendar, by the rule in whole numbers without exceptions that
+/// Nature printed in 1876.
 pub fn easter_sunday(year: i32) -> Option<Day>
     ensures found { IsSome result ↔ IsBetween (pos 1901) (pos 2199) year }
     ensures value { IfSome result (λ day. day ≡ easter_day year) }

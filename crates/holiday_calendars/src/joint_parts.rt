@@ -1,4 +1,4 @@
-// Several calendars in one.
+// Joint calendars.
 ghost use Rattle.std.specs.Prelude.{◌≡◌, ◌↔◌, ◌<◌, length, IfOk, ◌≤ℤ◌};
 ghost use Rattle.std.specs.List.{list_all, list_any};
 ghost use Rattle.holiday_calendars.specs.Base.{is_base_day};
@@ -11,12 +11,12 @@ use std::alloc::{AllocError, Global};
 use std::marker::Model;
 use thiserror::Error;
 
-/// How a joint calendar goes by its parts (QuantLib's JointCalendarRule).
+/// How a joint calendar uses its parts (QuantLib's `JointCalendarRule`).
 #[derive(Clone, Copy, PartialEq, Eq)]
 pub enum JointRule {
-    /// A holiday where any part has a holiday.
+    /// A holiday is a day that is a holiday of any part.
     Holidays,
-    /// A business day where any part has a business day.
+    /// A business day is a day that is a business day of any part.
     BusinessDays,
 }
 
@@ -31,13 +31,13 @@ pub enum JointFault {
     TooMany,
 }
 
-/// The rule and the parts, one to eight, of a joint calendar. A clause sees it as these.
+/// The rule and the one to eight parts of a joint calendar. Clauses see these.
 pub struct JointParts {
     rule: JointRule,
     parts: BaseList,
 }
 
-// One call at each exit of who lets it go.
+// Each exit of an owner calls this once.
 impl Drop for JointParts {
     fn drop(self) {
         let JointParts { rule: _, parts: _ } = self;
@@ -61,7 +61,7 @@ impl JointParts {
     ghost use Rattle.holiday_calendars.specs.Joined.{is_joint_day};
     ghost use Rattle.holiday_calendars.specs.Stretch.{AreHolidaysAfter, AreHolidaysBefore};
 
-    // Whether the rule makes the day a business day.
+    // Returns whether the rule makes the day a business day.
     pub(crate) fn is_business(&self, day: Day) -> bool
         ensures { result ≡ is_joint_day self.now day }
     {
@@ -72,8 +72,8 @@ impl JointParts {
         }
     }
 
-    // The last day of the longest closure of a part that a day is in, or the day itself; by the rule of business days,
-    // in which one part's business day is enough, the day itself.
+    // Returns the last day of the longest closure of a part that a day is in, or the day itself. By the rule of business days, where one
+    // part's business day is enough, returns the day itself.
     pub(crate) fn closed_until(&self, day: Day) -> Day
         ensures order { day ≤ℤ result }
         ensures holidays { AreHolidaysAfter (is_joint_day self.now) day result }
@@ -84,7 +84,7 @@ impl JointParts {
         }
     }
 
-    // The first day of the longest closure of a part that a day is in, or the day itself, by the same rule.
+    // Returns the first day of the longest closure of a part that a day is in, or the day itself, by the same rule.
     pub(crate) fn closed_since(&self, day: Day) -> Day
         ensures order { result ≤ℤ day }
         ensures holidays { AreHolidaysBefore (is_joint_day self.now) day result }
@@ -95,7 +95,7 @@ impl JointParts {
         }
     }
 
-    // The same rule and equal parts.
+    // Returns the same rule and equal parts.
     pub(crate) fn copy(&self, alloc: Global) -> Result<JointParts, AllocError>
         ensures { IfOk result (λ joined. joined ≡ self.now) }
     {
@@ -107,21 +107,21 @@ impl JointParts {
     }
 }
 
-// Whether the day is a business day of each part.
+// Returns whether the day is a business day of each part.
 fn all_open(parts: &[Base], day: Day) -> bool
     ensures { result ≡ list_all (λ part. is_base_day part day) parts.now }
 {
     parts.iter().all(|part| part.is_business(day))
 }
 
-// Whether the day is a business day of some part.
+// Returns whether the day is a business day of some part.
 fn any_open(parts: &[Base], day: Day) -> bool
     ensures { result ≡ list_any (λ part. is_base_day part day) parts.now }
 {
     parts.iter().any(|part| part.is_business(day))
 }
 
-// The latest of the days up to which parts are closed after a day.
+// Returns the latest of the days until which parts are closed.
 fn latest(parts: &[Base], day: Day) -> Day
     ensures order { day ≤ℤ result }
     ensures holidays { AreHolidaysAfter (λ x. list_all (λ part. is_base_day part x) parts.now) day result }
@@ -136,7 +136,7 @@ fn latest(parts: &[Base], day: Day) -> Day
     last
 }
 
-// The earliest of the days since which parts are closed before a day.
+// Returns the earliest of the days since which parts are closed.
 fn earliest(parts: &[Base], day: Day) -> Day
     ensures order { result ≤ℤ day }
     ensures holidays { AreHolidaysBefore (λ x. list_all (λ part. is_base_day part x) parts.now) day result }
@@ -151,7 +151,11 @@ fn earliest(parts: &[Base], day: Day) -> Day
     first
 }
 
-/// The calendar that goes by its parts: at least one, else `NoParts`, and at most 8, else `TooMany`.
+/// Makes a joint calendar.
+///
+/// # Errors
+///
+/// `NoParts` without a part, `TooMany` with more than 8.
 pub fn joint(rule: JointRule, parts: BaseList) -> Result<Calendar, JointFault>
     ensures ok { IfOk result (λ calendar. calendar ≡ Calendar.Joint (record { rule = rule; parts = parts })) }
     ensures none { (result ≡ Err JointFault.NoParts) ↔ (length parts ≡ 0) }

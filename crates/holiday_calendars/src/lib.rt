@@ -1,8 +1,13 @@
-//! Which days of 1901 to 2199 are business days: every day, all but weekends, TARGET's days, days of one's own, and
-//! joint calendars of up to eight of these. Every other day is a holiday. How many business days lie between two days.
+//! Business days from 1901 to 2199 of calendars: every day, weekdays, TARGET, custom calendars, and joint calendars of up to eight
+//! of these.
 //!
-//! `Base`, `BaseList`, `bespoke`, `BespokeHolidays`, `BespokeFault`; `Calendar`, `business_days`, `joint`, `JointRule`,
-//! `JointParts`, `JointFault`; `easter_sunday`.
+//! `Base` is a single calendar (`bespoke` makes a custom one, or a `BespokeFault`), `Calendar` a single or joint one (`joint`,
+//! `JointRule`, `JointFault`). `business_days` counts, `easter_sunday` is Easter.
+//!
+//! ```text
+//! let target = Calendar::One(Base::Target);
+//! let days = business_days(&target, from, to);
+//! ```
 #![tactic(auto)]
 
 mod bases;

@@ -7,7 +7,7 @@ use crate::easter_sunday;
 use crate::weekdays::is_weekday;
 use day_number::Day;
 
-// New Year's Day, Labour Day and the two days of Christmas.
+// Returns whether a date is New Year's Day, Labour Day or one of the two days of Christmas.
 fn is_fixed(month: u8, day: u8) -> bool
     ensures { result ≡ is_fixed_holiday month day }
 {
@@ -18,7 +18,7 @@ fn is_fixed(month: u8, day: u8) -> bool
     }
 }
 
-// Good Friday and Easter Monday.
+// Returns whether a day is Good Friday or Easter Monday.
 fn is_beside_easter(year: i32, day: Day) -> bool
     requires { IsBetween (pos 1901) (pos 2199) year }
     ensures { result ≡ is_easter_holiday year day }
@@ -32,7 +32,7 @@ fn is_beside_easter(year: i32, day: Day) -> bool
     }
 }
 
-// One of the days, weekends apart, on which TARGET is closed.
+// Returns whether TARGET is closed on a day, weekends apart.
 #[tactic(auto, unfolding(crate::specs::Target::is_target_holiday))]
 fn is_holiday(day: Day) -> bool
     ensures { result ≡ is_target_holiday day }
@@ -41,7 +41,7 @@ fn is_holiday(day: Day) -> bool
     is_fixed(month, day_of_month) || is_beside_easter(year, day)
 }
 
-// Whether TARGET is open.
+// Returns whether TARGET is open on a day.
 pub(crate) fn is_open(day: Day) -> bool
     ensures { result ≡ is_target_day day }
 {

@@ -5,7 +5,7 @@ ghost use Rattle.holiday_calendars.specs.Week as week;
 
 use day_number::Day;
 
-// The day of the week, counted from Monday, which is 0.
+// Returns the day of the week, from Monday as 0.
 pub(crate) fn weekday(day: Day) -> u8
     ensures value { result ≡ weekday_number day }
     ensures week { result < 7 }
@@ -13,7 +13,7 @@ pub(crate) fn weekday(day: Day) -> u8
     (day.number() + 3).rem_euclid(7) as u8
 }
 
-// Monday to Friday.
+// Returns whether a day is from Monday to Friday.
 pub(crate) fn is_weekday(day: Day) -> bool
     ensures { result ≡ week.is_weekday day }
 {

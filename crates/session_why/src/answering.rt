@@ -1,4 +1,4 @@
-// The answer for a name.
+// Explains the value of an object by its name.
 ghost use Rattle.std.specs.Prelude.{◌≡◌, ◌++◌, [], true, IfOk, OnOk};
 ghost use Rattle.desk_model.specs.Links.{is_lazy_at};
 ghost use Rattle.desk_model.specs.Sound.{IsSound};
@@ -22,9 +22,13 @@ use session_rounds::WatchedSession;
 use std::alloc::{AllocError, Global};
 use watch_rounds::Picker;
 
-/// The answer for a name over a session: the line of an ask of it, and then each object on which its value rests; or one line
-/// that says why it is refused. An object that was not computed yet is, and so is one that is refused; no session's text
-/// changes by it, since an ask leaves what every object shows. It costs what it tells, and what it computes.
+/// Explains the value of an object of a session: returns the line of an ask of it, and then a section for each object that its value
+/// depends on, or one line that says why it is refused. Objects that are out of date are computed first. That changes no later line
+/// of the session. The cost grows with what is written and computed.
+///
+/// # Errors
+///
+/// `AllocError` where memory runs out. Then values that were computed stay.
 pub fn why<P: Picker, B: Bench>(
     alloc: Global,
     session: &mut WatchedSession<P>,
@@ -33,10 +37,10 @@ pub fn why<P: Picker, B: Bench>(
 ) -> Result<Vec<u8>, AllocError>
     requires sound { IsSound (B.calc bench.old) session.old.standing.state }
     ensures text { IfOk result (λ answer. answer.items ≡ why_text (B.calc bench.old) session.old.standing text.now) }
-    // These computations were made, or a front of them where memory ran out.
+    // These computations were made, or a prefix of them where memory ran out.
     ensures asks { Asks (why_asking (B.calc bench.old) session.old.standing text.now) result session.new.standing.state
         (B.count bench.old) (B.count bench.new) (B.log bench.old) (B.log bench.new) }
-    // Nothing but what is stored of objects is another then.
+    // Nothing but the values of objects has changed then.
     ensures stays { session.new ≡ record session.old { standing = record session.old.standing { state = session.new.standing.state } } }
     ensures market { session.new.standing.state.market ≡ session.old.standing.state.market }
     ensures sound { IsSound (B.calc bench.old) session.new.standing.state }
@@ -47,7 +51,7 @@ pub fn why<P: Picker, B: Bench>(
     Ok(answer)
 }
 
-// Appends the answer for a name.
+// Appends the explanation for a name.
 fn push_found<P: Picker, B: Bench>(
     alloc: Global,
     session: &mut WatchedSession<P>,
@@ -73,7 +77,7 @@ fn push_found<P: Picker, B: Bench>(
     }
 }
 
-// Appends the answer for an object that has this name.
+// Appends the explanation for the object of this name.
 fn push_answer<P: Picker, B: Bench>(
     alloc: Global,
     session: &mut WatchedSession<P>,
@@ -98,7 +102,7 @@ fn push_answer<P: Picker, B: Bench>(
     push_listed(alloc, session, name, object, bench, &mut list, out)
 }
 
-// The same with room for the list. It is lent: a function that owns one lets it go at each exit.
+// Does the same with room for the list. The list is borrowed, since an owner drops it on each exit.
 fn push_listed<P: Picker, B: Bench>(
     alloc: Global,
     session: &mut WatchedSession<P>,
@@ -127,7 +131,7 @@ fn push_listed<P: Picker, B: Bench>(
     push_each(alloc, session, list.as_slice(), bench, out)
 }
 
-// Asks an object and appends the line of it.
+// Asks an object and appends its line.
 fn push_asked<P: Picker, B: Bench>(
     alloc: Global,
     session: &mut WatchedSession<P>,
@@ -159,7 +163,7 @@ fn push_asked<P: Picker, B: Bench>(
     )
 }
 
-// Appends what is written of each of these objects.
+// Appends the section of each of these objects.
 fn push_each<P: Picker, B: Bench>(
     alloc: Global,
     session: &mut WatchedSession<P>,

@@ -1,4 +1,4 @@
-// An ask of an object of a session: it leaves what every object shows.
+// An ask of an object of a session, which changes nothing that an object shows.
 ghost use Rattle.std.specs.Prelude.{◌≡◌, true, IfOk};
 ghost use Rattle.desk_model.specs.Links.{IsWhole, is_lazy_at};
 ghost use Rattle.desk_model.specs.Sound.{IsSound};

@@ -14,21 +14,21 @@ use flow_terms::{FlowTerms, IndexUse, expired, needs_forecast};
 use lazy_objects::Desk;
 use std::alloc::AllocError;
 
-// The curves that a price reads: that of its engine, and that of its index where a rate has to be forecast.
+// The curves of a price: that of its engine, and that of its index if a rate has to be forecast.
 #[derive(Clone, Copy)]
 pub(crate) struct Curves {
     pub(crate) discount: ObjId,
     pub(crate) forecast: Option<ObjId>,
 }
 
-// What names these curves.
+// The objects that name these curves.
 #[derive(Clone, Copy)]
 struct Naming {
     engine: Option<ObjId>,
     index: Option<ObjId>,
 }
 
-// The curves that the price of an object reads: none where all its flows are paid, and where it reads no curve.
+// Returns the curves of the price of an object: none if all its flows are paid, or it uses no curve.
 pub(crate) fn curves_of(desk: &mut Desk, object: ObjId) -> Result<Option<Curves>, AllocError>
     requires kind { kind_at desk.old.market object ≡ Some Flows }
     requires can { CanWork desk.old object }
@@ -59,7 +59,7 @@ pub(crate) fn curves_of(desk: &mut Desk, object: ObjId) -> Result<Option<Curves>
     }
 }
 
-// The engine of an object, and its index where a rate has to be forecast; neither where all its flows are paid.
+// Returns the engine of an object, and its index if a rate has to be forecast. Neither if all its flows are paid.
 fn naming_of(desk: &Desk, object: ObjId) -> Naming
     requires { kind_at desk.now.market object ≡ Some Flows }
     ensures { result ≡ naming_in desk.now.market (terms_at desk.now.market object) }
@@ -88,7 +88,7 @@ fn unnamed() -> Naming
     }
 }
 
-// The index of an object with these terms, where a rate has to be forecast.
+// Returns the index of an object with these terms, if a rate has to be forecast.
 fn forecast_by(desk: &Desk, terms: &FlowTerms) -> Option<ObjId>
     ensures { result ≡ forecast_in desk.now.market terms.now }
 {
@@ -104,7 +104,7 @@ fn forecast_by(desk: &Desk, terms: &FlowTerms) -> Option<ObjId>
     }
 }
 
-// An index as a price sees it.
+// Returns an index as a price uses it.
 pub(crate) fn index_of(desk: &Desk, object: Option<ObjId>) -> Option<IndexUse<'_>>
     ensures { index_reading result ≡ index_at desk.now.market object }
 {

@@ -19,7 +19,7 @@ use lazy_objects::Desk;
 use session_core::Session;
 use std::alloc::{AllocError, Global};
 
-// Appends each flow that is still to be paid, and their sum; nothing of flows that are all paid.
+// Appends each flow that is still to be paid, and their sum. Appends nothing if all flows are paid.
 pub(crate) fn push_flows(
     alloc: Global,
     session: &mut Session,
@@ -38,7 +38,7 @@ pub(crate) fn push_flows(
     }
 }
 
-// Appends the flows of an object whose price reads these curves.
+// Appends the flows of an object with these curves.
 fn push_over(
     alloc: Global,
     session: &Session,
@@ -59,7 +59,7 @@ fn push_over(
     }
 }
 
-// Appends the flows over the values of these curves.
+// Appends the flows with the values of these curves.
 fn push_products(
     alloc: Global,
     session: &Session,
@@ -75,7 +75,7 @@ fn push_products(
     }
 }
 
-// What the price of flows is worked out from; none where one of these objects has no curve.
+// Returns the inputs of the price of flows. None if one of these objects has no curve.
 fn over<'a>(desk: &'a Desk, object: ObjId, curves: Curves) -> Option<Over<'a>>
     requires { kind_at desk.now.market object ≡ Some Flows }
     ensures { IsOver desk.now object curves result }
@@ -98,7 +98,7 @@ fn over<'a>(desk: &'a Desk, object: ObjId, curves: Curves) -> Option<Over<'a>>
     })
 }
 
-// The last value of a curve.
+// Returns the last value of a curve.
 fn curve_of(desk: &Desk, object: ObjId) -> Option<&CurveValue>
     ensures { option_copied result ≡ curve_in (kept_at desk.now object).last }
 {

@@ -1,6 +1,11 @@
-//! The answer to the question, from what the price of an object of a session was computed: the line of an ask of it, and
-//! then each object that the answer lists, with the workings of its value.
-//! Offers `why`.
+//! Explains the value of an object of a session: the line of an ask of it, and then a section for each object that it depends on, with
+//! the numbers that its value is computed from.
+//!
+//! `why` is its one call.
+//!
+//! ```text
+//! let text = why(alloc, &mut session, b"book", &mut bench)?;
+//! ```
 #![tactic(auto)]
 
 mod answering;

@@ -36,7 +36,7 @@ pub(crate) fn push_refused(why: &[u8], name: &[u8], out: &mut Vec<u8>) -> Result
     out.extend_from_slice(b"\n")
 }
 
-// Appends the name of an object and words behind it.
+// Appends the name of an object and words after it.
 pub(crate) fn push_head(
     session: &Session,
     object: ObjId,

@@ -1,4 +1,4 @@
-// Which objects an answer lists, and in which order.
+// The objects of an explanation, and their order.
 ghost use Rattle.std.specs.Prelude.{◌≡◌, ◌<◌, ◌++◌, [], length, reverse, OnOk};
 ghost use Rattle.desk_model.specs.Market.{edges, is_lazy};
 ghost use Rattle.desk_model.specs.Links.{is_lazy_at};
@@ -13,7 +13,7 @@ use session_core::Session;
 use session_graph::subjects_of;
 use std::alloc::{AllocError, Global};
 
-// Lists the numbers of an object of a session and of those on which it rests, depth first, each once.
+// Lists the numbers of an object of a session and of those that it depends on, depth first, each once.
 pub(crate) fn list_all(
     alloc: Global,
     session: &mut Session,
@@ -28,7 +28,7 @@ pub(crate) fn list_all(
     list_beneath(alloc, &mut session.desk, object, list)
 }
 
-// The same over its objects alone.
+// Does the same over the objects alone.
 fn list_beneath(
     alloc: Global,
     desk: &mut Desk,
@@ -52,7 +52,7 @@ fn list_beneath(
     Ok(())
 }
 
-// Puts what an object's value rests on onto a stack, the first on top.
+// Puts the objects that a value depends on onto a stack, the first on top.
 fn push_rest(
     alloc: Global,
     desk: &mut Desk,
@@ -69,7 +69,7 @@ fn push_rest(
     push_edges(alloc, desk, object, waiting)
 }
 
-// Whether a priced object shows its last value, whatever stands beneath it: it is frozen or late.
+// Returns whether a priced object shows its last value without a computation: it is frozen or late.
 fn shows_last(desk: &mut Desk, object: ObjId) -> bool
     ensures answer { result ≡ shows_last desk.old object }
     ensures same { desk.new ≡ desk.old }
@@ -81,7 +81,7 @@ fn shows_last(desk: &mut Desk, object: ObjId) -> bool
     desk.marks(object).frozen || desk.late(object).is_some()
 }
 
-// Whether an object is priced.
+// Returns whether an object is priced.
 pub(crate) fn is_priced(desk: &Desk, object: ObjId) -> bool
     ensures { result ≡ is_lazy_at desk.now.market object }
 {
@@ -107,7 +107,7 @@ fn is_priced_kind(kind: Kind) -> bool
     }
 }
 
-// Puts what an object observes onto a stack, the first on top.
+// Puts the objects that an object observes onto a stack, the first on top.
 fn push_edges(
     alloc: Global,
     desk: &Desk,

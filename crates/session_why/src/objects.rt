@@ -1,4 +1,4 @@
-// What is written of one object.
+// The section of one object.
 ghost use Rattle.std.specs.Prelude.{◌≡◌, ◌++◌, ◌∷◌, [], codes, true, false, Some, OnOk};
 ghost use Rattle.desk_terms.specs.Reading.{Calc};
 ghost use Rattle.desk_model.specs.Links.{IsWhole, is_lazy_at};
@@ -22,7 +22,7 @@ use session_rounds::WatchedSession;
 use std::alloc::{AllocError, Global};
 use watch_rounds::Picker;
 
-// Appends what is written of an object. One that was not computed yet is.
+// Appends the section of an object, which is computed first if it was not yet.
 pub(crate) fn push_object<P: Picker, B: Bench>(
     alloc: Global,
     session: &mut WatchedSession<P>,
@@ -48,7 +48,7 @@ pub(crate) fn push_object<P: Picker, B: Bench>(
     }
 }
 
-// Appends what is written of an object that is not priced.
+// Appends the section of an object that is not priced.
 fn push_plain(
     alloc: Global,
     session: &Session,
@@ -157,7 +157,7 @@ fn push_subject(session: &Session, subject: ObjId, out: &mut Vec<u8>) -> Result<
     Ok(())
 }
 
-// A space and the word of an object with these terms.
+// Returns a space and the word of an object with these terms.
 pub(crate) fn word_of(terms: &Terms) -> &'static [u8]
     ensures { result.now ≡ codes " " ++ terms_word terms.now }
 {

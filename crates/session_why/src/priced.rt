@@ -1,4 +1,4 @@
-// What is written of a priced object.
+// The section of a priced object.
 ghost use Rattle.std.specs.Prelude.{◌≡◌, ◌++◌, true, OnOk};
 ghost use Rattle.desk_terms.specs.Asked.{Shows};
 ghost use Rattle.desk_terms.specs.Reading.{Outcome};
@@ -21,7 +21,7 @@ use session_rounds::WatchedSession;
 use std::alloc::{AllocError, Global};
 use watch_rounds::Picker;
 
-// Appends a priced object with what it shows, and what stands behind it. One that was not computed yet is.
+// Appends the section of a priced object, which is computed first if it was not yet.
 pub(crate) fn push_priced<P: Picker, B: Bench>(
     alloc: Global,
     session: &mut WatchedSession<P>,
@@ -73,8 +73,8 @@ fn push_line(
     out.extend_from_slice(b"\n")
 }
 
-// Appends what stands behind the line of a priced object: of a frozen one nothing, of a late one its source, of any other the
-// workings of its value.
+// Appends the lines after the first of a priced object: none of a frozen one, the source of a late one, and of any other the numbers
+// that its value is computed from.
 fn push_behind(
     alloc: Global,
     session: &mut Session,

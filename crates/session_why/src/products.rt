@@ -20,7 +20,7 @@ use rate_indexes::fixing;
 use std::alloc::{AllocError, Global};
 use std::marker::Model;
 
-// What a price of flows is worked out from.
+// The inputs of a price of flows.
 #[derive(Clone, Copy)]
 pub(crate) struct Over<'a> {
     pub(crate) object: ObjId,
@@ -31,7 +31,7 @@ pub(crate) struct Over<'a> {
     pub(crate) forecast: Option<&'a CurveValue>,
 }
 
-// A flow with its product, and the day and the rate of the fixing on which its amount stands, if it stands on one.
+// A flow with its product, and the day and the rate of the fixing in its amount, if there is one.
 #[derive(Drop)]
 pub(crate) struct FlowLine {
     pub(crate) paid: Day,
@@ -52,7 +52,7 @@ impl Model for FlowLine {
     ghost invariant = { λ f. unsigned_abs f.product ≤ 4 * 10 ^ 34 };
 }
 
-// The products of the flows that are still to be paid, in their order; none where one of them is refused.
+// Returns the products of the flows that are still to be paid, in order. None if one of them is refused.
 pub(crate) fn products_of(
     alloc: Global,
     over: &Over<'_>,
@@ -76,7 +76,7 @@ pub(crate) fn products_of(
     }
 }
 
-// The products of flows whose amounts are these.
+// Returns the products of flows with these amounts.
 fn with_factors(
     alloc: Global,
     over: &Over<'_>,

@@ -61,7 +61,7 @@ fn push_flow(
     out.extend_from_slice(b"\n")
 }
 
-// Appends the fixing on which the amount of a flow stands, if it stands on one.
+// Appends the fixing in the amount of a flow, if there is one.
 fn push_fixing(
     alloc: Global,
     fixing: Option<(Day, Rate)>,

@@ -1,4 +1,4 @@
-// The workings of a value.
+// The numbers that a value is computed from.
 ghost use Rattle.std.specs.Prelude.{◌≡◌, ◌<◌, ◌≤◌, ◌++◌, ◌*ℤ◌, ◌^◌, ◌∷◌, [], codes, length, unsigned_abs, true, Some, All, IsOk, IfOk, OnOk};
 ghost use Rattle.desk_terms.specs.declared.kind.Kind.TheVariants.{Composite, Curve, Implied};
 ghost use Rattle.desk_terms.specs.Parts.{IsWeight};
@@ -24,7 +24,7 @@ use lazy_objects::Desk;
 use session_core::Session;
 use std::alloc::{AllocError, Global};
 
-// Appends the workings of what an object shows, which is neither frozen nor late.
+// Appends the numbers that the value of an object is computed from, which is neither frozen nor late.
 pub(crate) fn push_workings(
     alloc: Global,
     session: &mut Session,
@@ -98,7 +98,7 @@ fn push_each_part(
     Ok(())
 }
 
-// Appends a part of a composite: its weight, its member, what that is worth, and the product.
+// Appends a part of a composite: its weight, its member, the value of that, and the product.
 fn push_part(
     alloc: Global,
     session: &Session,
@@ -247,7 +247,7 @@ fn push_node_rate(
     out.extend_from_slice(b"\n")
 }
 
-// Appends each node of a curve that is seen from another day.
+// Appends each node of an implied curve.
 fn push_seen(
     alloc: Global,
     session: &Session,

@@ -8,6 +8,7 @@ import posixpath
 import re
 import subprocess
 
+import packing
 from packing import Entry
 
 # Pages and examples that are of use only in a clone.
@@ -32,12 +33,9 @@ class Clone(Exception):
 
 
 def tracked(clone, commit):
-    """The files of docs/ and examples/ of a commit: name, mode and bytes."""
-    said = subprocess.run(["git", "ls-tree", "-r", "-z", commit, "docs", "examples"], cwd=clone, capture_output=True, check=True).stdout
-    for line in said.decode().split("\0")[:-1]:
-        head, name = line.split("\t")
-        mode, _, blob = head.split()
-        yield name, mode, subprocess.run(["git", "cat-file", "blob", blob], cwd=clone, capture_output=True, check=True).stdout
+    """The files of docs/ and examples/ of a commit, by name."""
+    words = ["git", "archive", "--format=tar", commit, "docs", "examples"]
+    return packing.untar(subprocess.run(words, cwd=clone, capture_output=True, check=True).stdout)
 
 
 def adapted(name, text, shipped):
@@ -69,14 +67,14 @@ def adapted(name, text, shipped):
 
 def of_release(clone, commit):
     """The files of docs/ and examples/ that a release has. Stops where one names what only a clone has."""
-    found = {name: (mode, data) for name, mode, data in tracked(clone, commit) if not any(fnmatch.fnmatch(name, it) for it in LEFT_OUT)}
+    found = {name: it for name, it in tracked(clone, commit).items() if not any(fnmatch.fnmatch(name, one) for one in LEFT_OUT)}
     files, slips = {}, []
-    for name, (mode, data) in found.items():
+    for name, it in found.items():
+        files[name] = it
         if not name.endswith((".png", ".svg")):
-            text = adapted(name, data.decode(), found)
-            data = text.encode()
+            text = adapted(name, it.data.decode(), found)
+            files[name] = Entry(text.encode(), it.is_program)
             slips += [f"{name}: {line.strip()}" for line in text.splitlines() if OF_CLONE.search(line)]
-        files[name] = Entry(data, mode == "100755")
     if slips:
         raise Clone("a page of the release names what only a clone has:\n" + "\n".join(slips))
     return files

@@ -11,28 +11,28 @@ use std::process::{ExitCode, Termination};
 pub trait Ending: Copy {
     ghost use Rattle.std.specs.Prelude.{◌≡◌, ◌↔◌, ℕ, List, Option, None, IfSome};
 
-    /// What its line on standard error says after the program's name.
+    /// The text of its line on standard error after the program's name.
     type Words: fmt::Display + Drop;
 
     /// The exit status of the program.
     ghost code: { Self → ℕ };
 
-    /// The bytes of its line on standard error after the program's name; none where it has no line.
+    /// The bytes of its line on standard error after the program's name, or none where it has no line.
     ghost line: { Self → Option (List ℕ) };
 
-    /// The exit status of the program.
+    /// Returns the exit status of the program.
     fn code(&self) -> u8
         ensures { result ≡ code self.now };
 
-    /// The status of words that are none that are taken.
+    /// Returns the status of words that are not accepted. Its exit status is 2.
     fn usage() -> Self
         ensures { code result ≡ 2 };
 
-    /// The status where memory ran out.
+    /// Returns the status of a run that ran out of memory. Its exit status is 7.
     fn no_memory() -> Self
         ensures { code result ≡ 7 };
 
-    /// What its line says after the program's name; none where it has no line.
+    /// Returns the text of its line after the program's name, or none where it has no line.
     fn words(&self) -> Option<Self::Words>
         ensures none { (result ≡ None) ↔ (line self.now ≡ None) }
         ensures said { IfSome result (λ words. Self.Words.output words ≡ line self.now) };

@@ -1,4 +1,4 @@
-// What words and files ask for.
+// The request for a market, and the market that was read for it.
 ghost use Rattle.std.specs.Prelude.{map, IfOk};
 ghost use Rattle.std.specs.List.{All};
 ghost use Rattle.std.specs.String.{string_bytes};
@@ -11,12 +11,12 @@ use crate::{MarketStatus, OpenMarket, Pair, open_market, pair_of};
 use desk_edge::Shelf;
 use std::alloc::Global;
 
-/// What words ask for of the market at a path.
+/// A request for the market at a path.
 pub trait MarketRequest<'a>: Copy {
     ghost use Rattle.std.specs.Prelude.{◌≡◌, ℕ, List, Option, map, option_map, IfSome};
     ghost use Rattle.std.specs.String.{string_bytes};
 
-    /// What is asked for, as the definitions see it.
+    /// The request, as the definitions see it.
     ghost Meaning: { Type 0 };
 
     ghost meaning: { Self → Self.Meaning };
@@ -24,18 +24,18 @@ pub trait MarketRequest<'a>: Copy {
     /// The path of the market.
     ghost path: { Self.Meaning → List ℕ };
 
-    /// What words ask for, if they are some that are taken.
+    /// The request of the words, or none where they are not accepted.
     ghost request_of: { List (List ℕ) → Option Self.Meaning };
 
-    /// What is true of each request that is taken.
+    /// The property of each accepted request.
     ghost IsTaken: { Self → Type 0 } = { λ _. Unit {0} };
 
-    /// What the words ask for, if they are some that are taken.
+    /// Returns the request of the words, or none where they are not accepted.
     fn from_words(words: &'a [String]) -> Option<Self>
         ensures request { option_map Self.meaning result ≡ Self.request_of (map string_bytes words.now) }
         ensures taken { IfSome result Self.IsTaken };
 
-    /// The path of the market.
+    /// Returns the path of the market.
     fn market(self) -> &'a str
         ensures { result.now ≡ Self.path (Self.meaning self) };
 }
@@ -47,8 +47,11 @@ pub struct Found<R> {
     pub request: R,
 }
 
-/// What the words and the files ask for of a market: the first failure is the answer, that of the words and then that of
-/// the files in reading order.
+/// Returns the market that the words name, with the request.
+///
+/// # Errors
+///
+/// The first failure: `MarketStatus::Usage` where the words are not accepted, then the status of `open_market`.
 pub fn find<'a, R: MarketRequest<'a>, H: Shelf>(
     alloc: Global,
     words: &'a [String],

@@ -1,11 +1,17 @@
-//! The frame of every program and of every tool. A program's process: the words of the command line, the system's files and the three
-//! standard streams are handed to its run; the line of a status that has one goes to standard error, and the exit status is the code of
-//! the status. A tool's run: words and files are read in order, the first failure is the status; a text is made whole and written once.
-//! What every run of a tool does is stated and proved here, over what the tool gives: `IsRun` of `specs/Tool.antt`.
+//! The frame of every program and of every tool.
 //!
-//! `Program`, `run_process`; `Ending`, how a run ends, and `Ended`, which a `main` returns. `run_tool`, `Tool`, `ToolStatus`;
-//! `MarketStatus`; `OpenMarket`, `open_market`; `Pair`, `pair_of`, `is_word`; `MarketRequest`, `Found`, `find`; `IdleBench`. `proofs/` has
-//! what a tool's own proof cites: what was found for words, from a reading of files (`Finds`).
+//! A program's process gives its run the arguments, the system's files and the three standard streams. The exit status is the
+//! code of the status, and the line of a status that has one goes to standard error. A tool's run reads words and files in
+//! order, and the first failure is its status. It makes its text whole and writes it once. `IsRun` of `specs/Tool.antt` states
+//! this for every tool, and it is proved here.
+//!
+//! Main types: `Program`, `Ending` (how a run ends), `Ended` (returned by a `main`), `Tool`, `ToolStatus`, `NamedTool`,
+//! `MarketStatus`, `OpenMarket`, `Pair`, `MarketRequest`, `Found`, `IdleBench`. The proof of a tool uses `Finds`: the result
+//! for words, from a reading of files.
+//!
+//! ```text
+//! let status = run_tool::<MyTool, _, _, _>(alloc, words, &mut shelf, &mut out, &mut bench);
+//! ```
 #![tactic(auto)]
 
 mod ending;

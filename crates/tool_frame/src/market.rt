@@ -24,7 +24,12 @@ pub struct OpenMarket {
     pub made: MadeList,
 }
 
-/// The market at a path, with the tables that it names, or the first failure in reading order.
+/// Returns the market at a path, with the tables that it names.
+///
+/// # Errors
+///
+/// The first failure in reading order: a file that is absent or could not be read, a market that is refused, or
+/// `MarketStatus::NoMemory` where memory runs out.
 pub fn open_market<H: Shelf>(
     alloc: Global,
     path: &str,
@@ -33,7 +38,7 @@ pub fn open_market<H: Shelf>(
     ensures reads { Reads status_end market_in (market_at path.now) (market_calls path.now)
         (seen (H.contents shelf.old) (H.faults shelf.old) (H.misses shelf.old) (H.calls shelf.old))
         (seen (H.contents shelf.new) (H.faults shelf.new) (H.misses shelf.new) (H.calls shelf.new)) result }
-    // Memory is wanted only where the market's file is there.
+    // It is out of memory only where the market's file is there.
     ensures there { IfSome (files_of (H.contents shelf.old))
         (λ files. IsErrOf result MarketStatus.NoMemory → IsSome (file_at files path.now)) }
     ensures ready { IfOk result (λ market. IsReady market.names market.made.items) }

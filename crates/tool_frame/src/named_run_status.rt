@@ -5,9 +5,9 @@ use std::fmt;
 /// How a run of a tool that takes names ended.
 #[derive(Clone, Copy, PartialEq, Eq)]
 pub enum NamedStatus<S> {
-    /// As a run ends whose names are right.
+    /// The status of a run whose names are right.
     Of(S),
-    /// A name is unknown, or its kind is none that is taken. The text was written.
+    /// A name is unknown, or its kind is not accepted. The text was written.
     Refused,
 }
 
@@ -46,7 +46,7 @@ impl<S: Ending> Ending for NamedStatus<S> {
     }
 }
 
-/// What the line of a status that has one says after the program's name.
+/// The text of the line of a status after the program's name.
 #[derive(Drop)]
 pub enum NamedWords<T> {
     Of(T),

@@ -7,14 +7,13 @@ use std::alloc::{AllocError, Global};
 /// The text of a tool that takes names.
 #[derive(Drop)]
 pub struct NamedText {
-    /// What is written.
+    /// The bytes to write.
     pub text: Vec<u8>,
-    /// Whether a name is unknown, or of a kind that is not taken.
+    /// True where a name is unknown, or of a kind that is not accepted.
     pub refuses: bool,
 }
 
-/// A tool that takes names: a run of it reads what its words ask for, and makes one text of that. It says whether one of
-/// the names is wrong.
+/// A tool that takes names. A run of it reads the files that its words name, makes one text of them, and reports a wrong name.
 pub trait NamedTool<'a> {
     ghost use Rattle.std.specs.Prelude.{◌≡◌, ◌⊎◌, Bool, List, map, IfOk};
     ghost use Rattle.std.specs.String.{string_bytes};
@@ -22,29 +21,33 @@ pub trait NamedTool<'a> {
     ghost use Rattle.tool_frame.specs.Calls.{Calls};
     ghost use Rattle.tool_frame.specs.Tool.{Tool, Finds, shelf_turn};
 
-    /// What was found in the files, with what is asked of it.
+    /// The data read from the files, with the request.
     type Wanted: Drop;
 
-    /// How a run of it ends whose names are right.
+    /// The status of a run whose names are right.
     type Status: ToolStatus;
 
-    /// What its words ask for, and what is wanted once the files are read, as the definitions see them.
+    /// The request of its words, and the request with the files read, as the definitions see them.
     ghost Request: { Type 0 };
 
     ghost Asked: { Type 0 };
 
     ghost asked_in: { Self.Wanted → Self.Asked };
 
-    /// What it asks of words and files, its text, and what it computes.
+    /// Its requests of words and files, its text, and its computations.
     ghost tool: { Tool Self.Request Self.Asked Self.Status };
 
-    /// Whether a name of what is wanted is wrong.
+    /// True where a name of the request is wrong.
     ghost refuses: { Calc → Self.Asked → Bool };
 
-    /// What is known of what was found.
+    /// The property of the data that was read.
     ghost CanRun: { Self.Wanted → Type 0 };
 
-    /// What the words and the files ask for.
+    /// Returns the data that the words name, read from the files.
+    ///
+    /// # Errors
+    ///
+    /// The status of the first failure: that of the words, and then that of the files in reading order.
     fn find<H: Shelf>(
         alloc: Global,
         words: &'a [String],
@@ -54,7 +57,11 @@ pub trait NamedTool<'a> {
             (shelf_turn H.contents H.faults H.misses H.calls shelf.old shelf.new) }
         ensures can { IfOk result CanRun };
 
-    /// Its text of what is wanted, and whether a name is wrong.
+    /// Returns its text, with true where a name is wrong.
+    ///
+    /// # Errors
+    ///
+    /// `AllocError` where memory runs out.
     fn text<B: Bench>(
         alloc: Global,
         wanted: Self::Wanted,

@@ -8,11 +8,11 @@ use desk_edge::{Shelf, Sink, write_whole};
 use desk_terms::Bench;
 use std::alloc::Global;
 
-/// Does what the words ask a tool for over the files of the shelf, writes its text to `out`, and answers how that went. The
-/// words are those behind the program's name. The prices are those of the bench.
+/// Runs a tool on these words over the files of the shelf, writes its text to `out`, and returns the status of the run. The
+/// words are those after the program's name. The prices are those of the bench.
 ///
-/// The first failure in this order is the answer: the words; the files in reading order. Then the text is made whole, and
-/// written. A fault outside, or want of memory, may come at any time.
+/// The first failure in this order is the result: the words, then the files in reading order. Then the text is made whole and
+/// written. A fault outside or an allocation failure may come at any time.
 pub fn run_tool<'a, T: Tool<'a>, H: Shelf, K: Sink, B: Bench>(
     alloc: Global,
     words: &'a [String],

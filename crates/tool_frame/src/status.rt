@@ -1,16 +1,16 @@
-// How a run of a tool ended that reads a market.
+// How a run of a tool that reads a market ended.
 use crate::{Ending, ToolStatus};
 use market_file::{MarketKind, Section};
 use market_loader::{LoadFault, MarketRole};
 use std::alloc::AllocError;
 use std::fmt;
 
-/// How a run of a tool ended that reads a market and nothing else.
+/// How a run of a tool that reads only a market ended.
 #[derive(Clone, Copy, PartialEq, Eq)]
 pub enum MarketStatus {
     /// The text was written.
     Done,
-    /// The words are none that are taken.
+    /// The words are not accepted.
     Usage,
     /// The market is refused: where, at which entry, and why.
     Market(Section, u32, MarketKind),
@@ -113,7 +113,7 @@ impl From<AllocError> for MarketStatus {
     }
 }
 
-// A status prints as the words of its line that stand behind the program's name: none for Done.
+// A status prints as the text of its line after the program's name: nothing for Done.
 impl fmt::Display for MarketStatus {
     ghost use Rattle.std.specs.Prelude.{Some};
     ghost use Rattle.tool_frame.specs.Status.{words_of};

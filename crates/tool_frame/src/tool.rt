@@ -9,52 +9,56 @@ pub trait ToolStatus: Ending {
     ghost use Rattle.std.specs.Prelude.{◌≡◌};
     ghost use Rattle.tool_frame.specs.Endings.{Endings, AreEndings};
 
-    /// How far each came, and those that every tool has.
+    /// The stage that a run with each status reached, and the statuses of every tool.
     ghost ends: { Endings Self };
 
-    /// The status of a text that was written.
+    /// Returns the status of a text that was written.
     fn done() -> Self
         ensures { result ≡ ends.done };
 
-    /// The status of a text that was not written to its end.
+    /// Returns the status of a text that was not written to its end.
     fn cut() -> Self
         ensures { result ≡ ends.cut };
 
-    /// The status where memory ran out.
+    /// Returns the status of a run that ran out of memory.
     fn halted() -> Self
         ensures { result ≡ ends.halted };
 
-    /// Each comes so far as it says.
+    /// Each status has the stage that its run reached.
     ghost sound: { AreEndings ends };
 }
 
-/// A tool: a run of it reads what its words ask for, and makes one text of that.
+/// A tool. A run of it reads the files that its words name, and makes one text of them.
 pub trait Tool<'a> {
     ghost use Rattle.std.specs.Prelude.{◌≡◌, ◌⊎◌, List, map, IfOk};
     ghost use Rattle.std.specs.String.{string_bytes};
     ghost use Rattle.tool_frame.specs.Calls.{Calls};
     ghost use Rattle.tool_frame.specs.Tool.{Tool, Finds, shelf_turn};
 
-    /// What was found in the files, with what is asked of it.
+    /// The data read from the files, with the request.
     type Wanted: Drop;
 
     /// How a run of it ends.
     type Status: ToolStatus;
 
-    /// What its words ask for, and what is wanted once the files are read, as the definitions see them.
+    /// The request of its words, and the request with the files read, as the definitions see them.
     ghost Request: { Type 0 };
 
     ghost Asked: { Type 0 };
 
     ghost asked_in: { Self.Wanted → Self.Asked };
 
-    /// What it asks of words and files, its text, and what it computes.
+    /// Its requests of words and files, its text, and its computations.
     ghost tool: { Tool Self.Request Self.Asked Self.Status };
 
-    /// What is known of what was found.
+    /// The property of the data that was read.
     ghost CanRun: { Self.Wanted → Type 0 };
 
-    /// What the words and the files ask for.
+    /// Returns the data that the words name, read from the files.
+    ///
+    /// # Errors
+    ///
+    /// The status of the first failure: that of the words, and then that of the files in reading order.
     fn find<H: Shelf>(
         alloc: Global,
         words: &'a [String],
@@ -64,7 +68,11 @@ pub trait Tool<'a> {
             (shelf_turn H.contents H.faults H.misses H.calls shelf.old shelf.new) }
         ensures can { IfOk result CanRun };
 
-    /// Its text of what is wanted.
+    /// Returns its text.
+    ///
+    /// # Errors
+    ///
+    /// `AllocError` where memory runs out.
     fn text<B: Bench>(
         alloc: Global,
         wanted: Self::Wanted,

@@ -3,14 +3,14 @@ ghost use Rattle.std.specs.Prelude.{◌≡◌, ◌∷◌, [], map, option_map};
 ghost use Rattle.std.specs.String.{string_bytes};
 ghost use Rattle.tool_frame.specs.Words.{is_word, pair_in, pair_of};
 
-/// The path of a market, and a word behind it.
+/// The path of a market, and a word after it.
 #[derive(Clone, Copy)]
 pub struct Pair<'a> {
     pub market: &'a str,
     pub other: &'a str,
 }
 
-/// The pair that words are, if they are two that are taken.
+/// Returns the pair of two accepted words, or none for any other words.
 pub fn pair_of(words: &[String]) -> Option<Pair<'_>>
     ensures { option_map pair_in result ≡ pair_of (map string_bytes words.now) }
 {
@@ -29,7 +29,7 @@ fn pair_with<'a>(market: &'a str, other: &'a str) -> Option<Pair<'a>>
     Some(Pair { market, other })
 }
 
-/// Whether a word is taken: it is not empty and does not begin with `-`.
+/// Returns true where a word is accepted: it is not empty and does not begin with `-`.
 pub fn is_word(word: &str) -> bool
     ensures { result ≡ is_word word.now }
 {

@@ -188,7 +188,7 @@ def debs(source, of_debian, shared, held, docs, mans, notices, libs):
 
 def metadata(clone):
     """What pip shows of the package, from the table [project] of pyproject.toml."""
-    project = (clone / "python/pyproject.toml").read_text().split("[project]")[1].split("\n[")[0]
+    project = (clone / "python/pyproject.toml").read_text().split("\n[project]\n")[1].split("\n[")[0]
     said = {key: ast.literal_eval(value) for key, value in re.findall(r'(?m)^([a-z-]+) = ("[^"]*"|\[[^]]*\])$', project)}
     lines = ["Metadata-Version: 2.1", f"Name: {said['name']}", f"Version: {said['version']}", f"Summary: {said['description']}",
              *(f"Classifier: {it}" for it in said["classifiers"]), f"Requires-Python: {said['requires-python']}",
